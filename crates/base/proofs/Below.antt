@@ -1,0 +1,84 @@
+-- Laws of `allBelow` and `anyBelow`: what a loop needs at its start, after a turn and at its ways out, and the plain facts the tests stand for.
+use Prim.Native.Nat.{ℕ, zero, suc, _+_, _≤_, _<_}
+use native.Mathlib.Numerals.{add-one}
+use native.Mathlib.Omega.{arith}
+use mathlib.Core.Path.{_≡_, refl, _∙_, sym, ap}
+use mathlib.Core.Bool.{Bool, true, false, _&&_, _||_, or-true, and-false}
+use mathlib.Core.Logic.{_⊎_, inl, inr, ⊎-elim}
+use Rattle.base.specs.Below.{allBelow, anyBelow}
+use Rattle.base.proofs.Numbers.{both, both-left, both-right, eq-or-ne, not-both}
+
+pub all-none : (p : ℕ → Bool) → allBelow p 0 ≡ true
+unfolding allBelow
+all-none p = refl
+
+pub all-suc : (p : ℕ → Bool) (i : ℕ) → allBelow p (suc i) ≡ (allBelow p i && p i)
+unfolding allBelow
+all-suc p i = refl
+
+pub all-more : (p : ℕ → Bool) (i : ℕ) → allBelow p i ≡ true → p i ≡ true → allBelow p (i + 1) ≡ true
+all-more p i h q = ap (allBelow p) (add-one i) ∙ all-suc p i ∙ both _ _ h q
+
+pub all-at : (p : ℕ → Bool) (n : ℕ) → allBelow p n ≡ true → (i : ℕ) → i < n → p i ≡ true
+all-at p zero h i l = absurd (omega arith)
+all-at p (suc n) h i l =
+    let g : (allBelow p n && p n) ≡ true = sym (all-suc p n) ∙ h in
+    ⊎-elim (λ (e : i ≡ n). ap p e ∙ both-right (allBelow p n) (p n) g)
+    (λ (e : i ≡ n → ⊥). all-at p n (both-left (allBelow p n) (p n) g) i (omega arith))
+    (eq-or-ne i n)
+
+pub all-intro : (p : ℕ → Bool) (n : ℕ) → ((i : ℕ) → i < n → p i ≡ true) → allBelow p n ≡ true
+all-intro p zero f = all-none p
+all-intro p (suc n) f = all-suc p n ∙ both _ _ (all-intro p n (λ i l. f i (omega arith))) (f n (omega arith))
+
+pub all-fail : (p : ℕ → Bool) (n i : ℕ) → i < n → p i ≡ false → allBelow p n ≡ false
+all-fail p n i l q = go (allBelow p n) refl
+  where
+    go : (b : Bool) → allBelow p n ≡ b → allBelow p n ≡ false
+    go true e = not-both (p i) (all-at p n e i l) q
+    go false e = e
+
+pub all-done : (p : ℕ → Bool) (n i : ℕ) → i ≤ n → n ≤ i → allBelow p i ≡ true → allBelow p n ≡ true
+all-done p n i h l q = let e : i ≡ n = omega arith in rw e at q
+
+pub any-none : (p : ℕ → Bool) → anyBelow p 0 ≡ false
+unfolding anyBelow
+any-none p = refl
+
+pub any-suc : (p : ℕ → Bool) (i : ℕ) → anyBelow p (suc i) ≡ (anyBelow p i || p i)
+unfolding anyBelow
+any-suc p i = refl
+
+pub any-more : (p : ℕ → Bool) (i : ℕ) → anyBelow p i ≡ false → p i ≡ false → anyBelow p (i + 1) ≡ false
+any-more p i h q = ap (anyBelow p) (add-one i) ∙ any-suc p i ∙ cc
+
+-- some number below n at which p holds
+pub record Witness (p : ℕ → Bool) (n : ℕ) : Type 0 where
+  pub at : ℕ
+  pub below : at < n
+  pub holds : p at ≡ true
+
+pub any-at : (p : ℕ → Bool) (n : ℕ) → anyBelow p n ≡ true → Witness p n
+any-at p zero h = not-both (anyBelow p 0) h (any-none p)
+any-at p (suc n) h = go (anyBelow p n) refl (any-at p n)
+  where
+    go : (b : Bool) → anyBelow p n ≡ b → (anyBelow p n ≡ true → Witness p n) → Witness p (suc n)
+    go true e f = let w : Witness p n = f e in record { at = w .at; below = omega arith; holds = w .holds }
+    go false e f = record { at = n; below = omega arith; holds = cc (any-suc p n) }
+
+pub any-found : (p : ℕ → Bool) (n i : ℕ) → i < n → p i ≡ true → anyBelow p n ≡ true
+any-found p zero i l q = absurd (omega arith)
+any-found p (suc n) i l q =
+    ⊎-elim (λ (e : i ≡ n). any-suc p n ∙ ap (_||_ (anyBelow p n)) (sym (ap p e) ∙ q) ∙ or-true (anyBelow p n))
+    (λ (e : i ≡ n → ⊥). let h : anyBelow p n ≡ true = any-found p n i (omega arith) q in any-suc p n ∙ cc)
+    (eq-or-ne i n)
+
+pub any-refuted : (p : ℕ → Bool) (n : ℕ) → ((i : ℕ) → i < n → p i ≡ false) → anyBelow p n ≡ false
+any-refuted p zero f = any-none p
+any-refuted p (suc n) f =
+    let h : anyBelow p n ≡ false = any-refuted p n (λ i l. f i (omega arith)) in
+    let g : p n ≡ false = f n (omega arith) in
+    any-suc p n ∙ cc
+
+pub any-done : (p : ℕ → Bool) (n i : ℕ) → i ≤ n → n ≤ i → anyBelow p i ≡ false → anyBelow p n ≡ false
+any-done p n i h l q = let e : i ≡ n = omega arith in rw e at q

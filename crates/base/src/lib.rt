@@ -1,0 +1,32 @@
+// What several crates need and no paper names.
+
+ghost use mathlib.Core.Path.{_≡_};
+ghost use Prim.Native.Nat.{_+_, _<_, _≤_};
+ghost use lib.ListN.{length};
+ghost use Rattle.base.specs.Bytes.{littleEndian};
+
+// A byte as a count or an index.
+pub fn wide(x: u8) -> usize
+    ensures { λ r. ⌜ (r ≡ x) × (r < 256) ⌝ }
+{
+    x as usize
+}
+
+// The two-byte number at `at`.
+pub fn read2(s: &[u8], at: usize) -> usize
+    requires { ⌜ at + 2 ≤ length (now s) ⌝ }
+    ensures { λ r. ⌜ (r ≡ littleEndian 2 (now (s .entry)) at) × (r < 65536) ⌝ }
+{
+    wide(s[at]) + 256 * wide(s[at + 1])
+}
+
+// The four-byte number at `at`.
+pub fn read4(s: &[u8], at: usize) -> usize
+    requires { ⌜ at + 4 ≤ length (now s) ⌝ }
+    ensures { λ r. ⌜ r ≡ littleEndian 4 (now (s .entry)) at ⌝ }
+{
+    let second = at + 1;
+    let third = second + 1;
+    let fourth = third + 1;
+    wide(s[at]) + 256 * (wide(s[second]) + 256 * (wide(s[third]) + 256 * wide(s[fourth])))
+}

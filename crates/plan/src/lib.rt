@@ -1,0 +1,4 @@
+// The plan format: header, contents, one reader a body, and the refusals 1 to 7.
+
+pub mod contents;
+pub mod header;
