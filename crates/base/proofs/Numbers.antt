@@ -1,7 +1,7 @@
 -- Case distinctions on numbers and tests that the kit does not have.
-use Prim.Native.Nat.{ℕ, zero, suc, _*_, _≤_, _<_}
+use Prim.Native.Nat.{ℕ, zero, suc, _+_, _*_, _≤_, _<_}
 use native.Mathlib.Omega.{arith}
-use native.Mathlib.Nat.{mul-le-mul}
+use native.Mathlib.Nat.{mul-le-mul, mul-le-mul-right, suc-mul}
 use native.Mathlib.Decide.{decLt, ℕ-discrete}
 use mathlib.Core.Path.{_≡_, refl, _∙_, sym, ap}
 use mathlib.Core.Bool.{Bool, true, false, not, _&&_, _||_}
@@ -69,3 +69,9 @@ pub eqb-iff : (a b : ℕ) → (eqb a b ≡ true) ↔ (a ≡ b)
 eqb-iff a b = (eqb-true a b, eq-eqb a b)
 
 pub ruleset facts = (and-iff, leb-iff, ltb-iff, eqb-iff)
+
+-- row u, column e lies within n rows of n
+pub cell-lt : (n u e : ℕ) → u < n → e < n → u * n + e < n * n
+cell-lt n u e h l =
+    let rows : suc u * n ≤ n * n = mul-le-mul-right n h in
+    omega (arith, suc-mul u n)

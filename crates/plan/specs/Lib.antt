@@ -6,3 +6,4 @@ pub mod Sessions
 pub mod Distances
 pub mod Lists
 pub mod Refusal
+pub mod Passed

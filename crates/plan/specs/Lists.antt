@@ -41,11 +41,11 @@ listAtOk s n place =
 unfoldable pub listOk : List ℕ → ℕ → ℕ → Bool
 listOk s n k = listAtOk s n (listPlace s k)
 
--- Row 7 refuses "kind 4 is broken, its body being empty included": m from 1 to 64, each list as above, "Nothing follows."
+-- "m lists .. Nothing follows."
+unfoldable pub eachListOk : List ℕ → ℕ → ℕ → Bool
+eachListOk s n m = allBelow (listOk s n) m && eqb (listPlace s m) (length s)
+
+-- "one byte m, 1 to 64"; row 7 refuses "kind 4 is broken, its body being empty included".
 unfoldable pub listsOk : List ℕ → ℕ → Bool
 listsOk s n =
-    leb 1 (length s)
-    && leb 1 (listCountIn s)
-    && leb (listCountIn s) 64
-    && allBelow (listOk s n) (listCountIn s)
-    && eqb (listPlace s (listCountIn s)) (length s)
+    leb 1 (length s) && leb 1 (listCountIn s) && leb (listCountIn s) 64 && eachListOk s n (listCountIn s)

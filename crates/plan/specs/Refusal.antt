@@ -3,8 +3,9 @@ use Prim.Native.Nat.{ℕ}
 use mathlib.Core.List.{List}
 use mathlib.Core.Bool.{Bool, true, false}
 use lib.ListN.{length}
+use Rattle.plan.specs.declared.contents.Entry.{Entry}
 use Rattle.plan.specs.Header.{headerOk, routerCount, routerCountOk}
-use Rattle.plan.specs.Contents.{contentsOf, contentsOk, routersBody, sessionsBody, distancesBody, listsBody}
+use Rattle.plan.specs.Contents.{contentsOf, contentsOk, body, routersEntry, sessionsEntry, distancesEntry, listsEntry}
 use Rattle.plan.specs.Routers.{routersOk}
 use Rattle.plan.specs.Sessions.{sessionsOk}
 use Rattle.plan.specs.Distances.{distancesOk}
@@ -15,17 +16,21 @@ unfoldable pub refuse : Bool → ℕ → ℕ → ℕ
 refuse true number rest = rest
 refuse false number rest = number
 
--- the plan's own checks, in order, before those of a call
+-- rows 4 to 7: the four bodies, each read as its part of the plan
+unfoldable pub bodyChecks : List ℕ → List Entry → ℕ → ℕ → ℕ
+bodyChecks plan table n rest =
+    refuse (routersOk (body plan (routersEntry table)) n) 4
+    (refuse (sessionsOk (body plan (sessionsEntry table)) n) 5
+    (refuse (distancesOk (body plan (distancesEntry table)) n) 6
+    (refuse (listsOk (body plan (listsEntry table)) n) 7 rest)))
+
+-- rows 1 to 7: a plan's own checks in order, before those of a call, which are `rest`
 unfoldable pub planChecks : List ℕ → ℕ → ℕ
 planChecks plan rest =
-    let n = routerCount plan in
     refuse (headerOk plan) 1
-    (refuse (routerCountOk n) 2
-    (refuse (contentsOk (contentsOf plan) n (length plan)) 3
-    (refuse (routersOk (routersBody plan) n) 4
-    (refuse (sessionsOk (sessionsBody plan) n) 5
-    (refuse (distancesOk (distancesBody plan) n) 6
-    (refuse (listsOk (listsBody plan) n) 7 rest))))))
+    (refuse (routerCountOk (routerCount plan)) 2
+    (refuse (contentsOk (contentsOf plan) (routerCount plan) (length plan)) 3
+    (bodyChecks plan (contentsOf plan) (routerCount plan) rest)))
 
 -- the number that a plan is refused with, 0 for none
 unfoldable pub planRefusal : List ℕ → ℕ

@@ -1,0 +1,39 @@
+-- The laws of a cascade of checks, and of the plan's own.
+use Prim.Native.Nat.{ℕ, suc}
+use native.Mathlib.Omega.{arith}
+use mathlib.Core.Path.{_≡_, refl}
+use mathlib.Core.Bool.{Bool, true, false}
+use mathlib.Core.List.{List}
+use Rattle.plan.specs.Refusal.{refuse, bodyChecks, planChecks, planRefusal}
+
+-- checks before a rest that decides where they pass
+pub record Cascade (checks : ℕ → ℕ) : Type 0 where
+  pub passed : checks 0 ≡ 0 → (rest : ℕ) → checks rest ≡ rest
+  pub refused : (checks 0 ≡ 0 → ⊥) → (rest : ℕ) → checks rest ≡ checks 0
+
+no-checks : Cascade (λ rest. rest)
+no-checks = record { passed = λ e rest. refl; refused = λ ne rest. absurd (ne refl) }
+
+one-more : {checks : ℕ → ℕ} (ok : Bool) (number : ℕ) → Cascade checks → Cascade (λ rest. refuse ok (suc number) (checks rest))
+unfolding refuse
+one-more true number c = c
+one-more false number c =
+    record { passed = λ e rest. absurd (omega arith); refused = λ ne rest. refl }
+
+pub plan-cascade : (plan : List ℕ) → Cascade (planChecks plan)
+unfolding planChecks bodyChecks
+plan-cascade plan =
+    one-more _ 0 (one-more _ 1 (one-more _ 2 (one-more _ 3 (one-more _ 4 (one-more _ 5 (one-more _ 6 no-checks))))))
+
+pub refuse-passed : (ok : Bool) (number rest : ℕ) → refuse ok (suc number) rest ≡ 0 → (ok ≡ true) × (rest ≡ 0)
+unfolding refuse
+refuse-passed true number rest h = (refl, h)
+refuse-passed false number rest h = absurd (omega arith)
+
+pub refuse-true : (ok : Bool) (number rest : ℕ) → ok ≡ true → refuse ok number rest ≡ rest
+unfolding refuse
+refuse-true ok number rest h = rw h
+
+pub refuse-false : (ok : Bool) (number rest : ℕ) → ok ≡ false → refuse ok number rest ≡ number
+unfolding refuse
+refuse-false ok number rest h = rw h
