@@ -1,5 +1,5 @@
 pub mod Rising
 pub mod Facts
 pub mod ListWalk
-pub mod Refusal
+pub mod Cascade
 pub mod Passed

@@ -1,13 +1,16 @@
 -- A plan is not refused exactly if the plain facts of `Passed` hold.
-use Prim.Native.Nat.{ℕ}
+use Prim.Native.Nat.{ℕ, _≤_}
+use native.Mathlib.Omega.{arith}
 use mathlib.Core.Path.{_≡_, _∙_}
 use mathlib.Core.Bool.{true}
 use mathlib.Core.List.{List}
-use lib.ListN.{length}
+use lib.ListN.{length, length-take, length-drop}
+use Rattle.plan.specs.declared.contents.Entry.{Entry}
+use Rattle.plan.specs.Contents.{end, body, routersEntry, sessionsEntry, distancesEntry, listsEntry}
 use Rattle.plan.specs.Refusal.{bodyChecks, planChecks, planRefusal}
-use Rattle.plan.specs.Passed.{Passed}
+use Rattle.plan.specs.Passed.{Contents, Passed}
 use Rattle.plan.proofs.Facts.{header-facts, header-holds, count-facts, count-holds, contents-facts, contents-holds, routers-facts, routers-holds, sessions-facts, sessions-holds, distances-facts, distances-holds, lists-facts, lists-holds}
-use Rattle.plan.proofs.Refusal.{refuse-passed, refuse-true}
+use Rattle.plan.proofs.Cascade.{refuse-passed, refuse-true}
 
 pub passed : (plan : List ℕ) → planRefusal plan ≡ 0 → Passed plan
 unfolding planRefusal planChecks bodyChecks
@@ -39,3 +42,16 @@ accepted plan f =
     ∙ refuse-true _ 5 _ (sessions-holds _ _ (f .sessions))
     ∙ refuse-true _ 6 _ (distances-holds _ _ (f .distances))
     ∙ refuse-true _ 7 _ (lists-holds _ _ (f .lists))
+
+-- the bodies lie within the plan
+pub record Within (table : List Entry) (planLength : ℕ) : Type 0 where
+  pub routers : end (routersEntry table) ≤ planLength
+  pub sessions : end (sessionsEntry table) ≤ planLength
+  pub distances : end (distancesEntry table) ≤ planLength
+  pub lists : end (listsEntry table) ≤ planLength
+
+pub bodies-within : (table : List Entry) (n planLength : ℕ) → Contents table n planLength → Within table planLength
+bodies-within table n planLength f = omega arith
+
+pub body-length : (plan : List ℕ) (e : Entry) → end e ≤ length plan → length (body plan e) ≡ e .size
+body-length plan e h = simp (length-take, length-drop) (omega arith)

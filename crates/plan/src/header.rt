@@ -27,7 +27,7 @@ pub fn header_ok(plan: &[u8]) -> bool
     plan[5] == 4
 }
 
-pub fn router_count_ok(n: usize) -> bool
+pub fn router_count_ok(n: u8) -> bool
     ensures { λ r. ⌜ r ≡ routerCountOk n ⌝ }
 {
     if n < 1 {

@@ -4,5 +4,6 @@ pub mod contents;
 pub mod distances;
 pub mod header;
 pub mod lists;
+pub mod refusal;
 pub mod routers;
 pub mod sessions;

@@ -1,0 +1,147 @@
+-- Each check speaks of its body, a part of the plan within it by row 3.
+use Prim.Native.Nat.{ℕ, _≤_}
+use native.Mathlib.Omega.{arith}
+use mathlib.Core.Path.{_≡_, _∙_, sym, ap}
+use mathlib.Core.Bool.{Bool, true, false, not}
+use mathlib.Core.List.{List}
+use borrow.Author.Needs.{needs}
+use lib.ListN.{length}
+use Rattle.base.proofs.Numbers.{yes, no}
+use Rattle.plan.specs.declared.contents.Entry.{Entry}
+use Rattle.plan.specs.Contents.{body, routersEntry, sessionsEntry, distancesEntry, listsEntry}
+use Rattle.plan.specs.Routers.{routersOk}
+use Rattle.plan.specs.Sessions.{sessionsOk}
+use Rattle.plan.specs.Distances.{distancesOk}
+use Rattle.plan.specs.Lists.{listsOk}
+use Rattle.plan.specs.Passed.{Contents}
+use Rattle.plan.specs.Refusal.{refuse, bodyChecks}
+use Rattle.plan.proofs.Facts.{contents-facts}
+use Rattle.plan.proofs.Passed.{Within, bodies-within, body-length}
+use Rattle.plan.proofs.refusal.bodies_refusal.Statement.{statement}
+use Rattle.plan.proofs.refusal.bodies_refusal.Tie as tie
+
+-- where the function's entry is, from after each check
+abbrev entry₁ : tie.Else1 → tie.Start
+entry₁ c = c .before .before .before .before .before
+
+abbrev entry₂ : tie.Else2 → tie.Start
+entry₂ c = entry₁ (c .before .before .before .before)
+
+abbrev entry₃ : tie.Else3 → tie.Start
+entry₃ c = entry₂ (c .before .before .before .before)
+
+-- row 3's facts, and that the bodies lie within the plan
+row3 : (c : tie.Start) → Contents (c .args .t2) (c .args .n) (length (c .args .plan .now))
+row3 c = contents-facts _ _ _ (c .pre .1)
+
+within : (c : tie.Start) → Within (c .args .t2) (length (c .args .plan .now))
+within c = bodies-within _ _ _ (row3 c)
+
+-- what a check of a part tells of the body that the part is
+module _ (ok : List ℕ → ℕ → Bool) (n : ℕ) {r : Bool} {part given : List ℕ} (answer : r ≡ ok part n) (is : part ≡ given) where
+  fails : not r ≡ true → ok given n ≡ false
+  fails h = no r (answer ∙ ap (λ s. ok s n) is) h
+
+  passes : not r ≡ false → ok given n ≡ true
+  passes h = yes r (answer ∙ ap (λ s. ok s n) is) h
+
+Passes : (List ℕ → ℕ → Bool) → (List Entry → Entry) → tie.Start → Type 0
+Passes ok which c = ok (body (c .args .plan .now) (which (c .args .t2))) (c .args .n) ≡ true
+
+routers-pass : (c : tie.Else1) → Passes routersOk routersEntry (entry₁ c)
+unfolding Passes
+routers-pass c =
+    passes routersOk (entry₁ c .args .n) (c .before .routers-ok .ensures) (c .before .before .body-of .ensures) (c .if1 .left)
+
+sessions-pass : (c : tie.Else2) → Passes sessionsOk sessionsEntry (entry₂ c)
+unfolding Passes
+sessions-pass c =
+    passes sessionsOk (entry₂ c .args .n) (c .before .sessions-ok .ensures) (c .before .before .body-of2 .ensures) (c .if2 .left)
+
+distances-pass : (c : tie.Else3) → Passes distancesOk distancesEntry (entry₃ c)
+unfolding Passes
+distances-pass c =
+    passes distancesOk (entry₃ c .args .n) (c .before .distances-ok .ensures) (c .before .before .body-of3 .ensures) (c .if3 .left)
+
+routers-ok-requires : tie.Need-routers-ok-requires
+routers-ok-requires c κs =
+    let d = c .before .before .before in
+    let size = body-length (d .args .plan .now) (routersEntry (d .args .t2)) (within d .routers) in
+    omega (arith, row3 d, size, ap length (c .body-of .ensures))
+
+distances-ok-requires : tie.Need-distances-ok-requires
+distances-ok-requires c κs =
+    let d = entry₂ (c .before .before) in
+    let size = body-length (d .args .plan .now) (distancesEntry (d .args .t2)) (within d .distances) in
+    (d .pre .0, omega (arith, row3 d, size, ap length (c .body-of3 .ensures)))
+
+returns : tie.Need-returns
+unfolding bodyChecks refuse
+returns c =
+    let n = c .before .before .before .before .before .args .n in
+    rw (fails routersOk n (c .before .routers-ok .ensures) (c .before .before .body-of .ensures) (c .if1 .taken))
+
+returns-2 : tie.Need-returns-2
+unfolding bodyChecks refuse Passes
+returns-2 c =
+    let d₁ = c .before .before .before .before in
+    rw (
+      routers-pass d₁,
+      fails sessionsOk (entry₁ d₁ .args .n) (c .before .sessions-ok .ensures) (c .before .before .body-of2 .ensures) (c .if2 .taken),
+    )
+
+returns-3 : tie.Need-returns-3
+unfolding bodyChecks refuse Passes
+returns-3 c =
+    let d₂ = c .before .before .before .before in
+    rw (
+      routers-pass (d₂ .before .before .before .before),
+      sessions-pass d₂,
+      fails distancesOk (entry₂ d₂ .args .n) (c .before .distances-ok .ensures) (c .before .before .body-of3 .ensures) (c .if3 .taken),
+    )
+
+returns-4 : tie.Need-returns-4
+unfolding bodyChecks refuse Passes
+returns-4 c =
+    let d₃ = c .before .before .before .before in
+    let d₂ = d₃ .before .before .before .before in
+    rw (
+      routers-pass (d₂ .before .before .before .before),
+      sessions-pass d₂,
+      distances-pass d₃,
+      fails listsOk (entry₃ d₃ .args .n) (c .before .lists-ok .ensures) (c .before .before .body-of4 .ensures) (c .if4 .taken),
+    )
+
+returns-5 : tie.Need-returns-5
+unfolding bodyChecks refuse Passes
+returns-5 c =
+    let d₃ = c .before .before .before .before in
+    let d₂ = d₃ .before .before .before .before in
+    rw (
+      routers-pass (d₂ .before .before .before .before),
+      sessions-pass d₂,
+      distances-pass d₃,
+      passes listsOk (entry₃ d₃ .args .n) (c .before .lists-ok .ensures) (c .before .before .body-of4 .ensures) (c .if4 .left),
+    )
+
+pub bodies-refusal-spec : {M : Type 1} → statement M
+bodies-refusal-spec =
+    tie.close
+    (tie.spec
+    (λ c. search needs)
+    (λ c κs. within (c .before .before) .routers)
+    routers-ok-requires
+    returns
+    (λ c. search needs)
+    (λ c κs. within (entry₁ (c .before)) .sessions)
+    (λ c κs. search needs)
+    returns-2
+    (λ c. search needs)
+    (λ c κs. within (entry₂ (c .before)) .distances)
+    distances-ok-requires
+    returns-3
+    (λ c. search needs)
+    (λ c κs. within (entry₃ (c .before)) .lists)
+    (λ c κs. search needs)
+    returns-4
+    returns-5)
