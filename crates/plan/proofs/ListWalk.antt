@@ -5,13 +5,15 @@ use native.Mathlib.Omega.{arith}
 use mathlib.Core.Path.{_≡_, refl, _∙_, sym, ap}
 use mathlib.Core.Bool.{Bool, true, false, _&&_}
 use mathlib.Core.List.{List}
-use lib.Dec.{eqb}
+use lib.Dec.{eqb, lit<}
 use lib.ListN.{length, getD}
 use Rattle.base.specs.Below.{allBelow}
 use Rattle.base.proofs.Below.{all-none, all-more, all-fail}
-use Rattle.plan.specs.Lists.{listPlace, listAtOk, listOk, eachListOk}
-use Rattle.plan.specs.Passed.{ListAt}
+use Rattle.plan.specs.Contents.{listsBody}
+use Rattle.plan.specs.Lists.{listPlace, listAtOk, listOk, eachListOk, listCount, listStart, listSize}
+use Rattle.plan.specs.Passed.{ListAt, Passed}
 use Rattle.plan.proofs.Facts.{list-facts}
+use Rattle.plan.proofs.Passed.{part-length}
 
 -- k lists are read and in order, and the next one's count byte is at `place`
 pub record Walked (s : List ℕ) (n k place : ℕ) : Type 0 where
@@ -51,3 +53,12 @@ module _ (s : List ℕ) (n : ℕ) where
   each-done m k place l h w =
       let e : k ≡ m = omega arith in
       rw (← e, w .held, w .at)
+
+-- of a plan that passed: each list's count byte lies within the body, and its numbers within the plan
+module _ (plan : List ℕ) (p : Passed plan) where
+  pub places-within : (list : ℕ) → list < listCount plan → (k : ℕ) → k ≤ list → listPlace (listsBody plan) k < length (listsBody plan)
+  places-within list h k l = p .lists .lists k (omega arith) .starts
+
+  pub span-within : (list : ℕ) → list < listCount plan → listStart plan list + listSize plan list ≤ length plan
+  span-within list h =
+      omega (arith, p .lists .lists list h .within, p .contents .listsEnd, part-length plan p 3 (lit< tt))

@@ -1,12 +1,12 @@
 -- A plan is not refused exactly if the plain facts of `Passed` hold.
-use Prim.Native.Nat.{ℕ, _≤_}
+use Prim.Native.Nat.{ℕ, zero, suc, _≤_, _<_}
 use native.Mathlib.Omega.{arith}
 use mathlib.Core.Path.{_≡_, _∙_}
 use mathlib.Core.Bool.{true}
 use mathlib.Core.List.{List}
-use lib.ListN.{length, length-take, length-drop}
+use lib.ListN.{length, getD, length-take, length-drop}
 use Rattle.plan.specs.declared.contents.Entry.{Entry}
-use Rattle.plan.specs.Contents.{end, body, routersEntry, sessionsEntry, distancesEntry, listsEntry}
+use Rattle.plan.specs.Contents.{contentsOf, noEntry, end, body, routersEntry, sessionsEntry, distancesEntry, listsEntry}
 use Rattle.plan.specs.Refusal.{bodyChecks, planChecks, planRefusal}
 use Rattle.plan.specs.Passed.{Contents, Passed}
 use Rattle.plan.proofs.Facts.{header-facts, header-holds, count-facts, count-holds, contents-facts, contents-holds, routers-facts, routers-holds, sessions-facts, sessions-holds, distances-facts, distances-holds, lists-facts, lists-holds}
@@ -55,3 +55,17 @@ bodies-within table n planLength f = omega arith
 
 pub body-length : (plan : List ℕ) (e : Entry) → end e ≤ length plan → length (body plan e) ≡ e .size
 body-length plan e h = simp (length-take, length-drop) (omega arith)
+
+-- the same by the entry's place in the table
+pub entry-within : (table : List Entry) (planLength : ℕ) → Within table planLength → (which : ℕ) → which < 4 → end (getD table which noEntry) ≤ planLength
+entry-within table planLength w zero h = w .routers
+entry-within table planLength w (suc zero) h = w .sessions
+entry-within table planLength w (suc (suc zero)) h = w .distances
+entry-within table planLength w (suc (suc (suc zero))) h = w .lists
+entry-within table planLength w (suc (suc (suc (suc which)))) h = absurd (omega arith)
+
+pub part-within : (plan : List ℕ) → Passed plan → (which : ℕ) → which < 4 → end (getD (contentsOf plan) which noEntry) ≤ length plan
+part-within plan p which h = entry-within _ _ (bodies-within _ _ _ (p .contents)) which h
+
+pub part-length : (plan : List ℕ) → Passed plan → (which : ℕ) → which < 4 → length (body plan (getD (contentsOf plan) which noEntry)) ≡ getD (contentsOf plan) which noEntry .size
+part-length plan p which h = body-length plan (getD (contentsOf plan) which noEntry) (part-within plan p which h)

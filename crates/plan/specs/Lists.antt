@@ -1,10 +1,12 @@
 -- Document 01, "Kind 4": one byte m, then m lists, each a count byte c and c router numbers. `s` is the body of kind 4.
-use Prim.Native.Nat.{ℕ, zero, suc, _+_}
+use Prim.Native.Nat.{ℕ, zero, suc, _+_, _≤_}
 use mathlib.Core.List.{List}
+use mathlib.Core.Path.{_≡_}
 use mathlib.Core.Bool.{Bool, _&&_}
 use lib.Dec.{leb, ltb, eqb}
-use lib.ListN.{length, getD}
+use lib.ListN.{length, getD, take, drop}
 use Rattle.base.specs.Below.{allBelow}
+use Rattle.plan.specs.Contents.{contentsOf, listsEntry, listsBody}
 use Rattle.plan.specs.Rising.{risesAt}
 
 abbrev pub listCountIn : List ℕ → ℕ
@@ -49,3 +51,22 @@ eachListOk s n m = allBelow (listOk s n) m && eqb (listPlace s m) (length s)
 unfoldable pub listsOk : List ℕ → ℕ → Bool
 listsOk s n =
     leb 1 (length s) && leb 1 (listCountIn s) && leb (listCountIn s) 64 && eachListOk s n (listCountIn s)
+
+-- of a plan: m, where the numbers of list k stand, how many they are, and they themselves, "that stretch of the plan itself"
+abbrev pub listCount : List ℕ → ℕ
+listCount plan = listCountIn (listsBody plan)
+
+abbrev pub listStart : List ℕ → ℕ → ℕ
+listStart plan k = listsEntry (contentsOf plan) .offset + listPlace (listsBody plan) k + 1
+
+abbrev pub listSize : List ℕ → ℕ → ℕ
+listSize plan k = memberCount (listsBody plan) (listPlace (listsBody plan) k)
+
+abbrev pub listNumbers : List ℕ → ℕ → List ℕ
+listNumbers plan k = take (listSize plan k) (drop (listStart plan k) plan)
+
+-- where list k's numbers stand in the plan and how many they are, and that they lie within it
+pub record SpanOf (plan : List ℕ) (k start count : ℕ) : Type 0 where
+  pub starts : start ≡ listStart plan k
+  pub counts : count ≡ listSize plan k
+  pub within : start + count ≤ length plan
