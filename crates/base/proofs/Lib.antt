@@ -1,2 +1,6 @@
 pub mod Numbers
 pub mod Below
+pub mod Best
+pub mod Seek
+pub mod Tab
+pub mod BitLaws

@@ -1,5 +1,7 @@
 // What several crates need and no paper names.
 
+pub mod bits;
+
 ghost use mathlib.Core.Path.{_≡_};
 ghost use Prim.Native.Nat.{_+_, _<_, _≤_};
 ghost use lib.ListN.{length};

@@ -1,0 +1,47 @@
+-- Laws of single bits.
+use Prim.Native.Nat.{ℕ, suc, _+_, _-_, _/_, _%_, _^_, _≤_, _<_, max}
+use native.Mathlib.Omega.{arith}
+use mathlib.Core.Path.{_≡_, _∙_, ap}
+use mathlib.Core.List.{List}
+use mathlib.Core.Logic.{_⊎_, inl, inr, ⊎-elim}
+use native.Mathlib.Nat.{zero-div, div-self, div-eq-of-lt}
+use lib.ListN.{length, List·getD-eq-default}
+use lib.Bits.{bitOr, or-step, or-shr}
+use lib.Pow.{pow-pos, pow-lt, pow-add, shl-shr}
+use Rattle.base.specs.Bits.{bitN, bits}
+use Rattle.base.proofs.Numbers.{lt-or-le}
+
+odd-or : (a b : ℕ) → bitOr a b % 2 ≡ max (a % 2) (b % 2)
+odd-or a b = omega (arith, or-step a b)
+
+pub bit-or : (a b j : ℕ) → bitN (bitOr a b) j ≡ max (bitN a j) (bitN b j)
+bit-or a b j = ap (λ x. x % 2) (or-shr a b j) ∙ odd-or (a / 2 ^ j) (b / 2 ^ j)
+
+-- a word with one bit set
+pub bit-pow-same : (a : ℕ) → bitN (2 ^ a) a ≡ 1
+bit-pow-same a = ap (λ x. x % 2) (div-self (pow-pos a))
+
+pub bit-pow-other : (a v : ℕ) → (a ≡ v → ⊥) → bitN (2 ^ a) v ≡ 0
+bit-pow-other a v d = go (lt-or-le a v)
+  where
+    even : (k : ℕ) → 2 ^ suc k % 2 ≡ 0
+    even k = omega arith
+
+    shifted : (k : ℕ) → 2 ^ (suc k + v) / 2 ^ v ≡ 2 ^ suc k
+    shifted k = ap (λ x. x / 2 ^ v) (pow-add 2 (suc k) v) ∙ shl-shr (2 ^ suc k) v
+
+    go : (a < v) ⊎ (v ≤ a) → bitN (2 ^ a) v ≡ 0
+    go (inl l) = ap (λ x. x % 2) (div-eq-of-lt (pow-lt l))
+    go (inr l) =
+        let k : ℕ = a - suc v in
+        let e : a ≡ suc k + v = omega arith in
+        ap (λ x. 2 ^ x / 2 ^ v % 2) e ∙ ap (λ x. x % 2) (shifted k) ∙ even k
+
+-- past the last row there is no bit
+pub bit-in : (rows : List ℕ) (i j : ℕ) → 1 ≤ bits rows i j → i < length rows
+bit-in rows i j h =
+    ⊎-elim (λ (l : i < length rows). l)
+    (λ (l : length rows ≤ i).
+    let e : bits rows i j ≡ 0 = ap (λ x. bitN x j) (List·getD-eq-default rows 0 l) ∙ ap (λ x. x % 2) (zero-div (2 ^ j)) in
+    absurd (omega arith))
+    (lt-or-le i (length rows))

@@ -1,0 +1,12 @@
+-- Rows of bits: a word a row, bit j of row i for the pair i, j.
+use Prim.Native.Nat.{ℕ, _/_, _%_, _^_}
+use mathlib.Core.List.{List}
+use lib.ListN.{getD}
+
+-- bit j of x
+abbrev pub bitN : ℕ → ℕ → ℕ
+bitN x j = x / 2 ^ j % 2
+
+-- the relation that rows of bits state
+abbrev pub bits : List ℕ → ℕ → ℕ → ℕ
+bits rows i j = bitN (getD rows i 0) j

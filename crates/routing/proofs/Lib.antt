@@ -1,0 +1,5 @@
+pub mod Preference
+pub mod Activation
+pub mod Counting
+pub mod Rounds
+pub mod Reliance

@@ -1,0 +1,175 @@
+-- The tally counts the rounds as they are defined, over one sequence or over several.
+use Prim.Native.Nat.{ℕ, zero, suc, _+_, _%_, _^_, _<_}
+use native.Mathlib.Omega.{arith}
+use native.Mathlib.Nat.{div-eq-of-lt}
+use mathlib.Core.Path.{_≡_, refl, _∙_, sym, ap}
+use mathlib.Core.Bool.{Bool, true, false}
+use mathlib.Core.Logic.{_⊎_, inl, inr, ⊎-elim}
+use mathlib.Core.List.{List, [], _∷_, _++_, foldl, foldl-append}
+use lib.Bits.{bitOr}
+use lib.Dec.{eqb}
+use lib.ListN.{length, getD}
+use lib.Pow.{pow-pos}
+use borrow.Author.Tests.{eq-eqb, ne-eqb}
+use Rattle.base.specs.Below.{allBelow}
+use Rattle.base.proofs.Below.{all-at, all-intro}
+use Rattle.base.proofs.Numbers.{eq-or-ne, not-both}
+use Rattle.routing.specs.Rounds.{acted, roundsFrom, rounds, Tally, freshTally, tallyAct, tallyActs}
+use Rattle.base.specs.Bits.{bitN}
+use Rattle.base.proofs.BitLaws.{bit-or, bit-pow-same, bit-pow-other}
+use Rattle.routing.proofs.Counting.{count, count-all, all-count, count-same, count-one-more}
+
+pub acted-none : (v : ℕ) → acted [] v ≡ false
+unfolding acted
+acted-none v = refl
+
+acted-now : (a : ℕ) (since : List ℕ) → acted (a ∷ since) a ≡ true
+unfolding acted
+acted-now a since = cc (eq-eqb a a refl)
+
+pub acted-before : (a : ℕ) (since : List ℕ) (v : ℕ) → (a ≡ v → ⊥) → acted (a ∷ since) v ≡ acted since v
+unfolding acted
+acted-before a since v d = cc (ne-eqb a v d)
+
+acted-again : (a : ℕ) (since : List ℕ) → acted since a ≡ true → (v : ℕ) → acted (a ∷ since) v ≡ acted since v
+acted-again a since h v =
+    ⊎-elim (λ (e : a ≡ v). ap (acted (a ∷ since)) (sym e) ∙ acted-now a since ∙ sym h ∙ ap (acted since) e) (acted-before a since v) (eq-or-ne a v)
+
+count-none : (n : ℕ) → count (acted []) n ≡ 0
+unfolding count acted
+count-none zero = refl
+count-none (suc n) = omega (arith, count-none n)
+
+-- the two ways of an act: the round ends with it, or not
+pub rounds-end : (n a : ℕ) (since acts : List ℕ) → allBelow (acted (a ∷ since)) n ≡ true → roundsFrom n since (a ∷ acts) ≡ suc (roundsFrom n [] acts)
+unfolding roundsFrom
+rounds-end n a since acts h = rw (h, roundsFrom)
+
+pub rounds-on : (n a : ℕ) (since acts : List ℕ) → allBelow (acted (a ∷ since)) n ≡ false → roundsFrom n since (a ∷ acts) ≡ roundsFrom n (a ∷ since) acts
+unfolding roundsFrom
+rounds-on n a since acts h = rw (h, roundsFrom)
+
+pub rounds-done : (n : ℕ) (since : List ℕ) → roundsFrom n since [] ≡ 0
+unfolding roundsFrom
+rounds-done n since = refl
+
+-- the tally after k rounds and the acts `since`
+record TallyOf (n : ℕ) (since : List ℕ) (k : ℕ) (t : Tally) : Type 0 where
+  bits : (v : ℕ) → v < n → eqb (bitN (t .seen) v) 1 ≡ acted since v
+  missing : t .missing + count (acted since) n ≡ n
+  waiting : 0 < n → 0 < t .missing
+  ended : t .ended ≡ k
+
+-- where a round starts
+round-starts : (n k : ℕ) (t : Tally) → t .seen ≡ 0 → t .missing ≡ n → t .ended ≡ k → TallyOf n [] k t
+round-starts n k t s m e =
+    record {
+      bits = λ v l. ap (λ x. eqb (bitN x v) 1) s ∙ ap (λ x. eqb (x % 2) 1) (div-eq-of-lt (pow-pos v)) ∙ sym (acted-none v);
+      missing = omega (arith, count-none n);
+      waiting = omega arith;
+      ended = e;
+    }
+
+module _ (n a : ℕ) (t : Tally) (since : List ℕ) (k : ℕ) (w : TallyOf n since k t) (l : a < n) where
+  -- a router that has acted in this round acts again
+  again : acted since a ≡ true → TallyOf n (a ∷ since) k (tallyAct n t a)
+  unfolding tallyAct
+  again h =
+      rw (w .bits a l ∙ h)
+      (record {
+        bits = λ v m. w .bits v m ∙ sym (acted-again a since h v);
+        missing = omega (arith, w .missing, count-same (acted (a ∷ since)) (acted since) n (λ v m. acted-again a since h v));
+        waiting = w .waiting;
+        ended = w .ended;
+      })
+
+  again-open : acted since a ≡ true → allBelow (acted (a ∷ since)) n ≡ true → ⊥
+  again-open h q =
+      omega (
+        arith,
+        w .missing,
+        w .waiting (omega arith),
+        count-same (acted (a ∷ since)) (acted since) n (λ v m. acted-again a since h v),
+        all-count (acted (a ∷ since)) n (all-at (acted (a ∷ since)) n q),
+      )
+
+  module _ (h : acted since a ≡ false) where
+    one-more : count (acted (a ∷ since)) n ≡ count (acted since) n + 1
+    one-more = count-one-more (acted since) (acted (a ∷ since)) a n l h (acted-now a since) (acted-before a since)
+
+    -- the last one that was missing acts
+    last : t .missing ≡ 1 → TallyOf n [] (k + 1) (tallyAct n t a)
+    unfolding tallyAct
+    last q = rw (w .bits a l ∙ h, eq-eqb (t .missing) 1 q) (round-starts n (k + 1) _ refl refl (ap (λ x. x + 1) (w .ended)))
+
+    last-closed : t .missing ≡ 1 → allBelow (acted (a ∷ since)) n ≡ true
+    last-closed q = all-intro (acted (a ∷ since)) n (count-all (acted (a ∷ since)) n (omega (arith, w .missing, one-more)))
+
+    seen-bits : (v : ℕ) → v < n → eqb (bitN (bitOr (t .seen) (2 ^ a)) v) 1 ≡ acted (a ∷ since) v
+    seen-bits v m = go (eq-or-ne a v)
+      where
+        go : (a ≡ v) ⊎ (a ≡ v → ⊥) → eqb (bitN (bitOr (t .seen) (2 ^ a)) v) 1 ≡ acted (a ∷ since) v
+        go (inl e) =
+            let p : bitN (2 ^ a) v ≡ 1 = sym (ap (bitN (2 ^ a)) e) ∙ bit-pow-same a in
+            eq-eqb (bitN (bitOr (t .seen) (2 ^ a)) v) 1 (omega (arith, bit-or (t .seen) (2 ^ a) v))
+            ∙ sym (acted-now a since)
+            ∙ ap (acted (a ∷ since)) e
+        go (inr e) =
+            let p : bitN (bitOr (t .seen) (2 ^ a)) v ≡ bitN (t .seen) v = omega (arith, bit-or (t .seen) (2 ^ a) v, bit-pow-other a v e) in
+            ap (λ x. eqb x 1) p ∙ w .bits v m ∙ sym (acted-before a since v e)
+
+    -- another acts for the first time
+    more : (t .missing ≡ 1 → ⊥) → TallyOf n (a ∷ since) k (tallyAct n t a)
+    unfolding tallyAct
+    more q =
+        let p : 0 < t .missing = w .waiting (omega arith) in
+        rw (w .bits a l ∙ h, ne-eqb (t .missing) 1 q)
+        (record {
+          bits = seen-bits;
+          missing = omega (arith, w .missing, one-more);
+          waiting = omega arith;
+          ended = w .ended;
+        })
+
+    more-open : (t .missing ≡ 1 → ⊥) → allBelow (acted (a ∷ since)) n ≡ true → ⊥
+    more-open q p =
+        omega (arith, w .missing, w .waiting (omega arith), one-more, all-count (acted (a ∷ since)) n (all-at (acted (a ∷ since)) n p))
+
+-- every act is of a router below n
+abbrev pub ActsBelow : ℕ → List ℕ → Type 0
+ActsBelow n acts = (i : ℕ) → i < length acts → getD acts i 0 < n
+
+tally-from : (n : ℕ) (t : Tally) (since : List ℕ) (k : ℕ) (acts : List ℕ) → TallyOf n since k t → ActsBelow n acts
+    → tallyActs n t acts .ended ≡ k + roundsFrom n since acts
+unfolding tallyActs
+tally-from n t since k [] w b = omega (arith, w .ended, rounds-done n since)
+tally-from n t since k (a ∷ acts) w b =
+    go (acted since a) refl (eq-or-ne (t .missing) 1) (allBelow (acted (a ∷ since)) n) refl
+    (λ s j h. tally-from n (tallyAct n t a) s j acts h (λ i l. b (suc i) (omega arith)))
+  where
+    l : a < n
+    l = b 0 (omega arith)
+
+    Rest : Type 0
+    Rest = (s : List ℕ) (j : ℕ) → TallyOf n s j (tallyAct n t a) → foldl (tallyAct n) (tallyAct n t a) acts .ended ≡ j + roundsFrom n s acts
+
+    Goal : Type 0
+    Goal = foldl (tallyAct n) (tallyAct n t a) acts .ended ≡ k + roundsFrom n since (a ∷ acts)
+
+    go : (x : Bool) → acted since a ≡ x → (t .missing ≡ 1) ⊎ (t .missing ≡ 1 → ⊥) → (y : Bool) → allBelow (acted (a ∷ since)) n ≡ y → Rest → Goal
+    go true h m true q rest = absurd (again-open n a t since k w l h q)
+    go true h m false q rest = rest (a ∷ since) k (again n a t since k w l h) ∙ ap (λ r. k + r) (sym (rounds-on n a since acts q))
+    go false h (inl m) true q rest = omega (arith, rest [] (k + 1) (last n a t since k w l h m), rounds-end n a since acts q)
+    go false h (inl m) false q rest = not-both (allBelow (acted (a ∷ since)) n) (last-closed n a t since k w l h m) q
+    go false h (inr m) true q rest = absurd (more-open n a t since k w l h m q)
+    go false h (inr m) false q rest = rest (a ∷ since) k (more n a t since k w l h m) ∙ ap (λ r. k + r) (sym (rounds-on n a since acts q))
+
+-- the tally counts the rounds
+pub tally-counts : (n : ℕ) (acts : List ℕ) → ActsBelow n acts → tallyActs n (freshTally n) acts .ended ≡ rounds n acts
+unfolding rounds
+tally-counts n acts b = omega (arith, tally-from n (freshTally n) [] 0 acts (round-starts n 0 (freshTally n) refl refl refl) b)
+
+-- .. and goes on over a second sequence where it stood after the first
+pub tally-append : (n : ℕ) (t : Tally) (acts more : List ℕ) → tallyActs n t (acts ++ more) ≡ tallyActs n (tallyActs n t acts) more
+unfolding tallyActs
+tally-append n t acts more = foldl-append (tallyAct n) t acts more

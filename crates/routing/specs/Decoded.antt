@@ -1,0 +1,19 @@
+-- An instance as the code holds it: a word of bits for the reflectors, one for the listed routers, a row of bits for each router's
+-- neighbours, and the plan's distances as they stand.
+use Prim.Native.Nat.{ℕ}
+use mathlib.Core.List.{List}
+use lib.Dec.{eqb}
+use Rattle.base.specs.Bits.{bitN, bits}
+use Rattle.plan.specs.Distances.{distanceIn}
+use Rattle.routing.specs.declared.Network.{Network}
+use Rattle.routing.specs.Instance.{Instance}
+
+abbrev pub decoded : Network → List ℕ → List ℕ → Instance
+decoded net rows distances =
+    record {
+      n = net .n;
+      reflector = λ v. eqb (bitN (net .reflectors) v) 1;
+      neighbour = λ w v. eqb (bits rows w v) 1;
+      dist = distanceIn distances (net .n);
+      listed = λ v. eqb (bitN (net .listed) v) 1;
+    }

@@ -1,0 +1,30 @@
+-- The network and its egress list, as functions: the rules and theorems never see bytes.
+use Prim.Native.Nat.{ℕ}
+use mathlib.Core.Bool.{Bool, false}
+use mathlib.Core.Option.{Option, none, some}
+use lib.Dec.{eqb}
+
+-- "An egress list names the routers whose outside routes are equal": a plan with one of its lists. Routers are numbered from 0.
+pub record Instance : Type 0 where
+  -- the number of routers
+  pub n : ℕ
+  -- its role is reflector; every other router is a client
+  pub reflector : ℕ → Bool
+  -- "Two routers of a pair are neighbours."
+  pub neighbour : ℕ → ℕ → Bool
+  -- the distance from the first to the second; "it need not equal the distance back"
+  pub dist : ℕ → ℕ → ℕ
+  -- it is an egress router of the list
+  pub listed : ℕ → Bool
+
+-- What a router holds. "A held-route table has two bytes a router, egress and sender; 255 255 is nothing."
+-- "A route is known by its egress router."
+pub data Route : Type 0 where
+  nothing : Route
+  via : (egress sender : ℕ) → Route
+  deriving Discrete as Route-discrete
+
+-- there is a router, and it is v
+abbrev pub isRouter : ℕ → Option ℕ → Bool
+isRouter v none = false
+isRouter v (some e) = eqb e v

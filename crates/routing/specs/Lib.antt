@@ -1,0 +1,6 @@
+pub mod Instance
+pub mod Preference
+pub mod Activation
+pub mod Rounds
+pub mod Reliance
+pub mod Decoded

@@ -1,0 +1,6 @@
+pub mod Clean
+pub mod Determinacy
+pub mod Existence
+pub mod Settling
+pub mod Uniqueness
+pub mod Sharpness

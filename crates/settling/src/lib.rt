@@ -1,0 +1,1 @@
+// The theory of settling: claims in specs/, their proofs in proofs/.
