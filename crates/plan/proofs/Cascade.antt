@@ -1,9 +1,11 @@
 -- The laws of a cascade of checks, and of the plan's own.
 use Prim.Native.Nat.{ℕ, suc}
 use native.Mathlib.Omega.{arith}
-use mathlib.Core.Path.{_≡_, refl}
+use mathlib.Core.Path.{_≡_, refl, _∙_, sym}
 use mathlib.Core.Bool.{Bool, true, false}
 use mathlib.Core.List.{List}
+use mathlib.Core.Logic.{⊎-elim}
+use Rattle.base.proofs.Numbers.{eq-or-ne}
 use Rattle.plan.specs.Refusal.{refuse, bodyChecks, planChecks, planRefusal}
 
 -- checks before a rest that decides where they pass
@@ -37,3 +39,17 @@ refuse-true ok number rest h = rw h
 pub refuse-false : (ok : Bool) (number rest : ℕ) → ok ≡ false → refuse ok number rest ≡ number
 unfolding refuse
 refuse-false ok number rest h = rw h
+
+-- a call's own checks decide exactly where the plan's pass
+pub plan-passes : (plan : List ℕ) (rest : ℕ) → planRefusal plan ≡ 0 → planChecks plan rest ≡ rest
+unfolding planRefusal
+plan-passes plan rest h = plan-cascade plan .passed h rest
+
+pub plan-refused : (plan : List ℕ) (rest : ℕ) → (planRefusal plan ≡ 0 → ⊥) → planChecks plan rest ≡ planRefusal plan
+unfolding planRefusal
+plan-refused plan rest h = plan-cascade plan .refused h rest
+
+-- a call that is not refused has a plan that is not
+pub plan-of-passed : (plan : List ℕ) (rest : ℕ) → planChecks plan rest ≡ 0 → planRefusal plan ≡ 0
+plan-of-passed plan rest h =
+    ⊎-elim (λ e. e) (λ ne. sym (plan-refused plan rest ne) ∙ h) (eq-or-ne (planRefusal plan) 0)
