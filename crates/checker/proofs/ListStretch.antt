@@ -5,7 +5,7 @@ use mathlib.Core.Path.{_≡_, refl, _∙_, sym, ap}
 use mathlib.Core.List.{List}
 use borrow.Author.Tests.{ltb-true}
 use lib.Dec.{ltb}
-use Rattle.plan.specs.Lists.{listCount, listStart, listSize}
+use Rattle.plan.specs.EgressLists.{listCount, listStart, listSize}
 use Rattle.plan.specs.Refusal.{refuse, planChecks, planRefusal}
 use Rattle.plan.proofs.Cascade.{plan-passes, plan-of-passed, refuse-passed}
 use Rattle.checker.specs.Refused.{unlessRefused}

@@ -6,7 +6,7 @@ use mathlib.Core.Path.{_≡_}
 use lib.Dec.{ltb}
 use lib.ListN.{take, drop}
 use denote.Ref.{RefT, ptr, now}
-use Rattle.plan.specs.Lists.{listCount, listStart, listSize}
+use Rattle.plan.specs.EgressLists.{listCount, listStart, listSize}
 use Rattle.plan.specs.Refusal.{refuse, planChecks}
 use Rattle.checker.specs.Refused.{unlessRefused}
 

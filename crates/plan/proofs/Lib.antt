@@ -1,5 +1,3 @@
-pub mod Rising
-pub mod Facts
-pub mod ListWalk
 pub mod Cascade
 pub mod Passed
+pub mod ListWithin

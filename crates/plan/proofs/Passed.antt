@@ -1,15 +1,15 @@
 -- A plan is not refused exactly if the plain facts of `Passed` hold.
-use Prim.Native.Nat.{ℕ, zero, suc, _≤_, _<_}
-use native.Mathlib.Omega.{arith}
+use Prim.Native.Nat.{ℕ, _≤_, _<_}
 use mathlib.Core.Path.{_≡_, _∙_}
 use mathlib.Core.Bool.{true}
 use mathlib.Core.List.{List}
-use lib.ListN.{length, getD, length-take, length-drop}
-use Rattle.plan.specs.declared.contents.Entry.{Entry}
-use Rattle.plan.specs.Contents.{contentsOf, noEntry, end, body, routersEntry, sessionsEntry, distancesEntry, listsEntry}
+use lib.ListN.{length, getD}
+use Rattle.contents.specs.Contents.{contentsOf, noEntry, end, body}
 use Rattle.plan.specs.Refusal.{bodyChecks, planChecks, planRefusal}
-use Rattle.plan.specs.Passed.{Contents, Passed}
-use Rattle.plan.proofs.Facts.{header-facts, header-holds, count-facts, count-holds, contents-facts, contents-holds, routers-facts, routers-holds, sessions-facts, sessions-holds, distances-facts, distances-holds, lists-facts, lists-holds}
+use Rattle.plan.specs.Passed.{Passed}
+use Rattle.contents.proofs.Facts.{header-facts, header-holds, count-facts, count-holds, contents-facts, contents-holds}
+use Rattle.contents.proofs.Places.{bodies-within, entry-within, body-length}
+use Rattle.bodies.proofs.Facts.{routers-facts, routers-holds, sessions-facts, sessions-holds, distances-facts, distances-holds, lists-facts, lists-holds}
 use Rattle.plan.proofs.Cascade.{refuse-passed, refuse-true}
 
 pub passed : (plan : List ℕ) → planRefusal plan ≡ 0 → Passed plan
@@ -43,27 +43,7 @@ accepted plan f =
     ∙ refuse-true _ 6 _ (distances-holds _ _ (f .distances))
     ∙ refuse-true _ 7 _ (lists-holds _ _ (f .lists))
 
--- the bodies lie within the plan
-pub record Within (table : List Entry) (planLength : ℕ) : Type 0 where
-  pub routers : end (routersEntry table) ≤ planLength
-  pub sessions : end (sessionsEntry table) ≤ planLength
-  pub distances : end (distancesEntry table) ≤ planLength
-  pub lists : end (listsEntry table) ≤ planLength
-
-pub bodies-within : (table : List Entry) (n planLength : ℕ) → Contents table n planLength → Within table planLength
-bodies-within table n planLength f = omega arith
-
-pub body-length : (plan : List ℕ) (e : Entry) → end e ≤ length plan → length (body plan e) ≡ e .size
-body-length plan e h = simp (length-take, length-drop) (omega arith)
-
--- the same by the entry's place in the table
-pub entry-within : (table : List Entry) (planLength : ℕ) → Within table planLength → (which : ℕ) → which < 4 → end (getD table which noEntry) ≤ planLength
-entry-within table planLength w zero h = w .routers
-entry-within table planLength w (suc zero) h = w .sessions
-entry-within table planLength w (suc (suc zero)) h = w .distances
-entry-within table planLength w (suc (suc (suc zero))) h = w .lists
-entry-within table planLength w (suc (suc (suc (suc which)))) h = absurd (omega arith)
-
+-- the bodies lie within the plan, by their place in the table of contents
 pub part-within : (plan : List ℕ) → Passed plan → (which : ℕ) → which < 4 → end (getD (contentsOf plan) which noEntry) ≤ length plan
 part-within plan p which h = entry-within _ _ (bodies-within _ _ _ (p .contents)) which h
 

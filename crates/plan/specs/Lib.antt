@@ -1,9 +1,3 @@
-pub mod Header
-pub mod Contents
-pub mod Rising
-pub mod Routers
-pub mod Sessions
-pub mod Distances
-pub mod Lists
 pub mod Refusal
 pub mod Passed
+pub mod EgressLists

@@ -3,13 +3,13 @@ use Prim.Native.Nat.{ℕ}
 use mathlib.Core.List.{List}
 use mathlib.Core.Bool.{Bool, true, false}
 use lib.ListN.{length}
-use Rattle.plan.specs.declared.contents.Entry.{Entry}
-use Rattle.plan.specs.Header.{headerOk, routerCount, routerCountOk}
-use Rattle.plan.specs.Contents.{contentsOf, contentsOk, body, routersEntry, sessionsEntry, distancesEntry, listsEntry}
-use Rattle.plan.specs.Routers.{routersOk}
-use Rattle.plan.specs.Sessions.{sessionsOk}
-use Rattle.plan.specs.Distances.{distancesOk}
-use Rattle.plan.specs.Lists.{listsOk}
+use Rattle.contents.specs.declared.entries.Entry.{Entry}
+use Rattle.contents.specs.Header.{headerOk, routerCount, routerCountOk}
+use Rattle.contents.specs.Contents.{contentsOf, contentsOk, body, routersEntry, sessionsEntry, distancesEntry, listsEntry}
+use Rattle.bodies.specs.Routers.{routersOk}
+use Rattle.bodies.specs.Sessions.{sessionsOk}
+use Rattle.bodies.specs.Distances.{distancesOk}
+use Rattle.bodies.specs.Lists.{listsOk}
 
 -- a check that fails decides; one that passes leaves the decision to the rest
 unfoldable pub refuse : Bool → ℕ → ℕ → ℕ

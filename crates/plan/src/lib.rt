@@ -1,10 +1,5 @@
-// The plan format: header, contents, one reader a body, and the refusals 1 to 7.
+// A whole plan: its refusals 1 to 7 in order, and the parts of one that is not refused.
 
-pub mod contents;
-pub mod distances;
-pub mod header;
 pub mod lists;
 pub mod parts;
 pub mod refusal;
-pub mod routers;
-pub mod sessions;

@@ -1,11 +1,11 @@
 // The refusal table, rows 1 to 7, in order.
 
-use crate::contents::Entry;
+use contents::entries::Entry;
 ghost use mathlib.Core.Path.{_≡_};
 ghost use mathlib.Core.Bool.{true};
 ghost use Prim.Native.Nat.{_≤_};
 ghost use lib.ListN.{length};
-ghost use Rattle.plan.specs.Contents.{contentsOk};
+ghost use Rattle.contents.specs.Contents.{contentsOk};
 ghost use Rattle.plan.specs.Refusal.{bodyChecks, planRefusal};
 
 // Rows 4 to 7: each body is passed to its reader as a part of the plan.
@@ -13,20 +13,20 @@ fn bodies_refusal(plan: &[u8], table: [Entry; 4], n: u8) -> u8
     requires { ⌜ (n ≤ 64) × (contentsOk table n (length (now plan)) ≡ true) ⌝ }
     ensures { λ r. ⌜ r ≡ bodyChecks (now (plan .entry)) table n 0 ⌝ }
 {
-    let routers = crate::contents::body_of(plan, table[0]);
-    if !crate::routers::routers_ok(routers, n as usize) {
+    let routers = contents::entries::body_of(plan, table[0]);
+    if !bodies::routers::routers_ok(routers, n as usize) {
         return 4;
     }
-    let sessions = crate::contents::body_of(plan, table[1]);
-    if !crate::sessions::sessions_ok(sessions, n) {
+    let sessions = contents::entries::body_of(plan, table[1]);
+    if !bodies::sessions::sessions_ok(sessions, n) {
         return 5;
     }
-    let distances = crate::contents::body_of(plan, table[2]);
-    if !crate::distances::distances_ok(distances, n as usize) {
+    let distances = contents::entries::body_of(plan, table[2]);
+    if !bodies::distances::distances_ok(distances, n as usize) {
         return 6;
     }
-    let lists = crate::contents::body_of(plan, table[3]);
-    if !crate::lists::lists_ok(lists, n) {
+    let lists = contents::entries::body_of(plan, table[3]);
+    if !bodies::lists::lists_ok(lists, n) {
         return 7;
     }
     0
@@ -35,15 +35,15 @@ fn bodies_refusal(plan: &[u8], table: [Entry; 4], n: u8) -> u8
 pub fn refusal(plan: &[u8]) -> u8
     ensures { λ r. ⌜ r ≡ planRefusal (now (plan .entry)) ⌝ }
 {
-    if !crate::header::header_ok(plan) {
+    if !contents::header::header_ok(plan) {
         return 1;
     }
     let n = plan[4];
-    if !crate::header::router_count_ok(n) {
+    if !contents::header::router_count_ok(n) {
         return 2;
     }
-    let table = crate::contents::read_contents(plan);
-    if !crate::contents::contents_ok(table, n as usize, plan.len()) {
+    let table = contents::entries::read_contents(plan);
+    if !contents::entries::contents_ok(table, n as usize, plan.len()) {
         return 3;
     }
     bodies_refusal(plan, table, n)

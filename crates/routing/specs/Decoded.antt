@@ -4,7 +4,7 @@ use Prim.Native.Nat.{ℕ}
 use mathlib.Core.List.{List}
 use lib.Dec.{eqb}
 use Rattle.base.specs.Bits.{bitN, bits}
-use Rattle.plan.specs.Distances.{distanceIn}
+use Rattle.bodies.specs.Distances.{distanceIn}
 use Rattle.routing.specs.declared.Network.{Network}
 use Rattle.routing.specs.Instance.{Instance}
 

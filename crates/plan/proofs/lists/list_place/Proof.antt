@@ -5,8 +5,8 @@ use native.Mathlib.Omega.{arith}
 use mathlib.Core.Path.{_≡_, _∙_, sym, ap}
 use borrow.Author.Needs.{needs}
 use lib.ListN.{length, getD}
-use Rattle.plan.specs.Lists.{listPlace}
-use Rattle.plan.proofs.ListWalk.{place-start, place-next}
+use Rattle.bodies.specs.Lists.{listPlace}
+use Rattle.bodies.proofs.ListWalk.{place-start, place-next}
 use Rattle.plan.proofs.lists.list_place.Statement.{statement}
 use Rattle.plan.proofs.lists.list_place.Tie as tie
 

@@ -4,10 +4,11 @@ use mathlib.Core.Path.{_≡_, _∙_, sym, ap}
 use borrow.Author.Needs.{needs}
 use lib.Dec.{lit<}
 use lib.ListN.{length, getD}
-use Rattle.plan.specs.Contents.{listsBody}
-use Rattle.plan.specs.Lists.{listPlace, listStart, listSize}
+use Rattle.contents.specs.Contents.{listsBody}
+use Rattle.bodies.specs.Lists.{listPlace}
+use Rattle.plan.specs.EgressLists.{listStart, listSize}
 use Rattle.plan.proofs.Passed.{passed}
-use Rattle.plan.proofs.ListWalk.{places-within, span-within}
+use Rattle.plan.proofs.ListWithin.{places-within, span-within}
 use Rattle.plan.proofs.lists.list_span.Statement.{statement}
 use Rattle.plan.proofs.lists.list_span.Tie as tie
 

@@ -1,7 +1,7 @@
 use mathlib.Core.Path.{_≡_, _∙_, ap}
 use borrow.Author.Needs.{needs}
 use lib.ListN.{getD}
-use Rattle.plan.specs.Contents.{noEntry, body}
+use Rattle.contents.specs.Contents.{noEntry, body}
 use Rattle.plan.proofs.Passed.{passed, part-within}
 use Rattle.plan.proofs.parts.part.Statement.{statement}
 use Rattle.plan.proofs.parts.part.Tie as tie

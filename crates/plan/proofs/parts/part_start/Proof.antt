@@ -1,7 +1,7 @@
 use mathlib.Core.Path.{_≡_, ap}
 use borrow.Author.Needs.{needs}
 use lib.ListN.{getD}
-use Rattle.plan.specs.Contents.{noEntry}
+use Rattle.contents.specs.Contents.{noEntry}
 use Rattle.plan.proofs.Passed.{passed}
 use Rattle.plan.proofs.parts.part_start.Statement.{statement}
 use Rattle.plan.proofs.parts.part_start.Tie as tie

@@ -7,16 +7,16 @@ use mathlib.Core.List.{List}
 use borrow.Author.Needs.{needs}
 use lib.ListN.{length}
 use Rattle.base.proofs.Numbers.{yes, no}
-use Rattle.plan.specs.declared.contents.Entry.{Entry}
-use Rattle.plan.specs.Contents.{body, routersEntry, sessionsEntry, distancesEntry, listsEntry}
-use Rattle.plan.specs.Routers.{routersOk}
-use Rattle.plan.specs.Sessions.{sessionsOk}
-use Rattle.plan.specs.Distances.{distancesOk}
-use Rattle.plan.specs.Lists.{listsOk}
-use Rattle.plan.specs.Passed.{Contents}
+use Rattle.contents.specs.declared.entries.Entry.{Entry}
+use Rattle.contents.specs.Contents.{body, routersEntry, sessionsEntry, distancesEntry, listsEntry}
+use Rattle.bodies.specs.Routers.{routersOk}
+use Rattle.bodies.specs.Sessions.{sessionsOk}
+use Rattle.bodies.specs.Distances.{distancesOk}
+use Rattle.bodies.specs.Lists.{listsOk}
+use Rattle.contents.specs.Passed.{Contents}
 use Rattle.plan.specs.Refusal.{refuse, bodyChecks}
-use Rattle.plan.proofs.Facts.{contents-facts}
-use Rattle.plan.proofs.Passed.{Within, bodies-within, body-length}
+use Rattle.contents.proofs.Facts.{contents-facts}
+use Rattle.contents.proofs.Places.{Within, bodies-within, body-length}
 use Rattle.plan.proofs.refusal.bodies_refusal.Statement.{statement}
 use Rattle.plan.proofs.refusal.bodies_refusal.Tie as tie
 

@@ -7,11 +7,11 @@ use mathlib.Core.List.{List}
 use borrow.Author.Needs.{needs}
 use lib.ListN.{length}
 use Rattle.base.proofs.Numbers.{yes, no}
-use Rattle.plan.specs.declared.contents.Entry.{Entry}
-use Rattle.plan.specs.Header.{headerOk, routerCount, routerCountOk}
-use Rattle.plan.specs.Contents.{contentsOf, contentsOk}
+use Rattle.contents.specs.declared.entries.Entry.{Entry}
+use Rattle.contents.specs.Header.{headerOk, routerCount, routerCountOk}
+use Rattle.contents.specs.Contents.{contentsOf, contentsOk}
 use Rattle.plan.specs.Refusal.{refuse, bodyChecks, planChecks, planRefusal}
-use Rattle.plan.proofs.Facts.{header-facts, count-facts}
+use Rattle.contents.proofs.Facts.{header-facts, count-facts}
 use Rattle.plan.proofs.refusal.refusal.Statement.{statement}
 use Rattle.plan.proofs.refusal.refusal.Tie as tie
 

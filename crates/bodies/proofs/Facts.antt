@@ -1,0 +1,205 @@
+-- Each check of rows 4 to 7 passes exactly if its plain facts hold: `..-facts` one way, `..-holds` the other.
+use Prim.Native.Nat.{ℕ, _+_, _*_, _≤_, _<_}
+use native.Mathlib.Omega.{arith}
+use mathlib.Core.Path.{_≡_, refl, _∙_, sym, ap}
+use mathlib.Core.Bool.{Bool, true, false, _&&_, _||_, not, or-true}
+use mathlib.Core.List.{List}
+use mathlib.Core.Logic.{_⊎_, inl, inr, ⊎-elim, _↔_}
+use borrow.Author.Tests.{lt-ltb, le-ltb, eq-eqb, ne-eqb, ltb-true, eqb-true}
+use lib.Dec.{leb, ltb, eqb}
+use lib.ListN.{length, getD}
+use Rattle.base.specs.Below.{allBelow}
+use Rattle.base.proofs.Below.{all-at, all-intro}
+use Rattle.base.proofs.Numbers.{facts, both, both-left, both-right, eq-or-ne, and-iff, leb-iff, ltb-iff, eqb-iff}
+use Rattle.bodies.specs.Rising.{risesAt}
+use Rattle.bodies.specs.Routers.{role, identifier, identifierBefore, routerOk, routersOk}
+use Rattle.bodies.specs.Sessions.{sessionCount, sessionFirst, sessionSecond, sessionBefore, sessionOk, sessionsOk}
+use Rattle.bodies.specs.Distances.{distanceIn, distanceOk, distanceRowOk, distancesOk}
+use Rattle.bodies.specs.Lists.{listCountIn, listPlace, memberCount, member, memberBefore, memberOk, listAtOk, listOk, eachListOk, listsOk}
+use Rattle.bodies.specs.Passed.{Routers, Sessions, Distances, ListAt, Lists}
+use Rattle.bodies.proofs.Rising.{rising-pairs, rising-steps}
+
+-- items in order by a number each
+module _ (f : ℕ → ℕ) where
+  numbers-rise :
+      (n : ℕ) → ((i : ℕ) → i < n → risesAt (λ i j. ltb (f i) (f j)) i ≡ true) → (i j : ℕ) → i < j → j < n → f i < f j
+  numbers-rise n steps i j l h =
+      ltb-true _ _
+      (rising-pairs (λ i j. ltb (f i) (f j))
+      (λ i j k p q. let p′ = ltb-true (f i) (f j) p in let q′ = ltb-true (f j) (f k) q in lt-ltb (f i) (f k) (omega arith)) n steps i j l h)
+
+  numbers-step :
+      (n : ℕ) → ((i j : ℕ) → i < j → j < n → f i < f j) → (i : ℕ) → i < n → risesAt (λ i j. ltb (f i) (f j)) i ≡ true
+  numbers-step n pairs = rising-steps (λ i j. ltb (f i) (f j)) n (λ i j l h. lt-ltb _ _ (pairs i j l h))
+
+-- row 4
+module _ (s : List ℕ) where
+  abbrev RouterAt : ℕ → Type 0
+  RouterAt v = ((1 ≤ role s v) × (role s v ≤ 2)) × (risesAt (identifierBefore s) v ≡ true)
+
+  router-iff : (v : ℕ) → (routerOk s v ≡ true) ↔ RouterAt v
+  unfolding routerOk
+  router-iff v = (λ h. simp facts at h, λ h. simp facts h)
+
+  pub routers-facts : (n : ℕ) → routersOk s n ≡ true → Routers s n
+  unfolding routersOk
+  routers-facts n h =
+      let each : (v : ℕ) → v < n → RouterAt v = λ v l. router-iff v .0 (all-at _ n h v l) in
+      record {
+        roleLeast = λ v l. each v l .0 .0;
+        roleMost = λ v l. each v l .0 .1;
+        rising = numbers-rise (identifier s) n (λ v l. each v l .1);
+      }
+
+  pub routers-holds : (n : ℕ) → Routers s n → routersOk s n ≡ true
+  unfolding routersOk
+  routers-holds n f =
+      all-intro _ n
+      (λ v l. router-iff v .1 ((f .roleLeast v l, f .roleMost v l), numbers-step (identifier s) n (f .rising) v l))
+
+-- row 5
+module _ (s : List ℕ) where
+  Before : ℕ → ℕ → Type 0
+  Before i j =
+      (sessionFirst s i < sessionFirst s j)
+      ⊎ ((sessionFirst s i ≡ sessionFirst s j) × (sessionSecond s i < sessionSecond s j))
+
+  before-fact : (i j : ℕ) → sessionBefore s i j ≡ true → Before i j
+  unfolding Before
+  before-fact i j h = go (ltb (sessionFirst s i) (sessionFirst s j)) refl
+    where
+      go : (b : Bool) → ltb (sessionFirst s i) (sessionFirst s j) ≡ b → Before i j
+      go true e = inl (ltb-true _ _ e)
+      go false e =
+          let rest : (eqb (sessionFirst s i) (sessionFirst s j) && ltb (sessionSecond s i) (sessionSecond s j)) ≡ true = cc in
+          inr (simp facts at rest)
+
+  before-test : (i j : ℕ) → Before i j → sessionBefore s i j ≡ true
+  unfolding Before
+  before-test i j (inl l) = rw (lt-ltb _ _ l)
+  before-test i j (inr (e, l)) = rw (eq-eqb _ _ e, lt-ltb _ _ l) (or-true (ltb (sessionFirst s i) (sessionFirst s j)))
+
+  before-trans : (i j k : ℕ) → Before i j → Before j k → Before i k
+  unfolding Before
+  before-trans i j k (inl p) (inl q) = inl (omega arith)
+  before-trans i j k (inl p) (inr q) = inl (omega arith)
+  before-trans i j k (inr p) (inl q) = inl (omega arith)
+  before-trans i j k (inr p) (inr q) = inr (omega arith)
+
+  abbrev SessionAt : ℕ → ℕ → Type 0
+  SessionAt n j = ((sessionSecond s j < n) × (sessionFirst s j < sessionSecond s j)) × (risesAt (sessionBefore s) j ≡ true)
+
+  session-iff : (n j : ℕ) → (sessionOk s n j ≡ true) ↔ SessionAt n j
+  unfolding sessionOk
+  session-iff n j = (λ h. simp facts at h, λ h. simp facts h)
+
+  pub sessions-facts : (n : ℕ) → sessionsOk s n ≡ true → Sessions s n
+  unfolding sessionsOk Before
+  sessions-facts n h =
+      let each : (j : ℕ) → j < sessionCount s → SessionAt n j = λ j l. session-iff n j .0 (all-at _ _ h j l) in
+      record {
+        below = λ j l. each j l .0 .0;
+        ordered = λ j l. each j l .0 .1;
+        rising = λ i j l m.
+            before-fact i j
+            (rising-pairs (sessionBefore s)
+            (λ i j k p q. before-test i k (before-trans i j k (before-fact i j p) (before-fact j k q)))
+            (sessionCount s) (λ j l. each j l .1) i j l m);
+      }
+
+  pub sessions-holds : (n : ℕ) → Sessions s n → sessionsOk s n ≡ true
+  unfolding sessionsOk Before
+  sessions-holds n f =
+      all-intro _ _
+      (λ j l.
+      session-iff n j .1 (
+        (f .below j l, f .ordered j l),
+        rising-steps (sessionBefore s) (sessionCount s) (λ i j l m. before-test i j (f .rising i j l m)) j l,
+      ))
+
+-- row 6
+module _ (s : List ℕ) (n : ℕ) where
+  abbrev DistanceAt : ℕ → ℕ → Type 0
+  DistanceAt u e = (distanceIn s n u e ≤ 65534) × (u ≡ e → distanceIn s n u e ≡ 0)
+
+  distance-fact : (u e : ℕ) → distanceOk s n u e ≡ true → DistanceAt u e
+  unfolding distanceOk
+  distance-fact u e h =
+      let parts : (distanceIn s n u e ≤ 65534) × ((not (eqb u e) || eqb (distanceIn s n u e) 0) ≡ true) = simp facts at h in
+      (parts .0, λ same. eqb-true _ _ (rw (eq-eqb u e same) at (parts .1)))
+
+  distance-test : (u e : ℕ) → DistanceAt u e → distanceOk s n u e ≡ true
+  unfolding distanceOk
+  distance-test u e d =
+      both _ _ (leb-iff _ _ .1 (d .0))
+      (⊎-elim (λ same. rw (eq-eqb _ 0 (d .1 same)) (or-true (not (eqb u e)))) (λ (other : u ≡ e → ⊥). rw (ne-eqb u e other)) (eq-or-ne u e))
+
+  pub distances-facts : distancesOk s n ≡ true → Distances s n
+  unfolding distancesOk distanceRowOk
+  distances-facts h =
+      let each : (u e : ℕ) → u < n → e < n → DistanceAt u e = λ u e l m. distance-fact u e (all-at _ n (all-at _ n h u l) e m) in
+      record { most = λ u e l m. each u e l m .0; diagonal = λ u l. each u u l l .1 refl }
+
+  pub distances-holds : Distances s n → distancesOk s n ≡ true
+  unfolding distancesOk distanceRowOk
+  distances-holds f =
+      all-intro _ n
+      (λ u l. all-intro _ n (λ e m. distance-test u e (f .most u e l m, λ same. rw (← same) (f .diagonal u l))))
+
+-- row 7
+module _ (s : List ℕ) (n : ℕ) where
+  abbrev MemberAt : ℕ → ℕ → Type 0
+  MemberAt place j = (member s place j < n) × (risesAt (memberBefore s place) j ≡ true)
+
+  member-iff : (place j : ℕ) → (memberOk s n place j ≡ true) ↔ MemberAt place j
+  unfolding memberOk
+  member-iff place j = (λ h. simp facts at h, λ h. simp facts h)
+
+  pub list-facts : (place : ℕ) → listAtOk s n place ≡ true → ListAt s n place
+  unfolding listAtOk
+  list-facts place h =
+      let c = memberCount s place in
+      let f :
+      ((((place < length s) × (1 ≤ c)) × (c ≤ n)) × (place + 1 + c ≤ length s))
+      × (allBelow (memberOk s n place) c ≡ true) = simp facts at h
+      in
+      let each : (j : ℕ) → j < c → MemberAt place j = λ j l. member-iff place j .0 (all-at _ c (f .1) j l) in
+      record {
+        starts = f .0 .0 .0 .0;
+        some = f .0 .0 .0 .1;
+        most = f .0 .0 .1;
+        within = f .0 .1;
+        below = λ j l. each j l .0;
+        rising = numbers-rise (member s place) c (λ j l. each j l .1);
+      }
+
+  pub list-holds : (place : ℕ) → ListAt s n place → listAtOk s n place ≡ true
+  unfolding listAtOk
+  list-holds place f =
+      simp facts (
+        (((f .starts, f .some), f .most), f .within),
+        all-intro _ _
+            (λ j l. member-iff place j .1 (f .below j l, numbers-step (member s place) (memberCount s place) (f .rising) j l)),
+      )
+
+  pub lists-facts : listsOk s n ≡ true → Lists s n
+  unfolding listsOk eachListOk listOk
+  lists-facts h =
+      let m = listCountIn s in
+      let f :
+      (((1 ≤ length s) × (1 ≤ m)) × (m ≤ 64))
+      × ((allBelow (listOk s n) m ≡ true) × (listPlace s m ≡ length s)) = simp facts at h
+      in
+      record {
+        held = f .0 .0 .0;
+        some = f .0 .0 .1;
+        most = f .0 .1;
+        lists = λ k l. list-facts (listPlace s k) (all-at (listOk s n) m (f .1 .0) k l);
+        filled = f .1 .1;
+      }
+
+  pub lists-holds : Lists s n → listsOk s n ≡ true
+  unfolding listsOk eachListOk listOk
+  lists-holds f =
+      simp facts
+      (((f .held, f .some), f .most), (all-intro _ _ (λ k l. list-holds (listPlace s k) (f .lists k l)), f .filled))

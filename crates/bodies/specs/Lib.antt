@@ -1,0 +1,6 @@
+pub mod Rising
+pub mod Routers
+pub mod Sessions
+pub mod Distances
+pub mod Lists
+pub mod Passed

@@ -1,0 +1,48 @@
+-- What the four bodies of a plan that is not refused are, in plain facts: document 01, "The plan's bytes".
+-- `..-facts` and `..-holds` say that the check of a row passes exactly if its facts hold.
+use Prim.Native.Nat.{ℕ, _+_, _≤_, _<_}
+use mathlib.Core.List.{List}
+use mathlib.Core.Path.{_≡_}
+use mathlib.Core.Logic.{_⊎_}
+use lib.ListN.{length}
+use Rattle.bodies.specs.Routers.{role, identifier}
+use Rattle.bodies.specs.Sessions.{sessionCount, sessionFirst, sessionSecond}
+use Rattle.bodies.specs.Distances.{distanceIn}
+use Rattle.bodies.specs.Lists.{listCountIn, listPlace, memberCount, member}
+
+-- row 4: every role 1 or 2, identifiers strictly rising
+pub record Routers (s : List ℕ) (n : ℕ) : Type 0 where
+  pub roleLeast : (v : ℕ) → v < n → 1 ≤ role s v
+  pub roleMost : (v : ℕ) → v < n → role s v ≤ 2
+  pub rising : (u v : ℕ) → u < v → v < n → identifier s u < identifier s v
+
+-- row 5: each session's numbers are `first < second < n`, sessions strictly rising
+pub record Sessions (s : List ℕ) (n : ℕ) : Type 0 where
+  pub below : (j : ℕ) → j < sessionCount s → sessionSecond s j < n
+  pub ordered : (j : ℕ) → j < sessionCount s → sessionFirst s j < sessionSecond s j
+  pub rising :
+      (i j : ℕ) → i < j → j < sessionCount s →
+      (sessionFirst s i < sessionFirst s j)
+      ⊎ ((sessionFirst s i ≡ sessionFirst s j) × (sessionSecond s i < sessionSecond s j))
+
+-- row 6: every distance at most 65,534, and 0 on the diagonal
+pub record Distances (s : List ℕ) (n : ℕ) : Type 0 where
+  pub most : (u e : ℕ) → u < n → e < n → distanceIn s n u e ≤ 65534
+  pub diagonal : (u : ℕ) → u < n → distanceIn s n u u ≡ 0
+
+-- one list, its count byte at `place`: 1 to n numbers below n, strictly rising, within the body
+pub record ListAt (s : List ℕ) (n place : ℕ) : Type 0 where
+  pub starts : place < length s
+  pub some : 1 ≤ memberCount s place
+  pub most : memberCount s place ≤ n
+  pub within : place + 1 + memberCount s place ≤ length s
+  pub below : (j : ℕ) → j < memberCount s place → member s place j < n
+  pub rising : (i j : ℕ) → i < j → j < memberCount s place → member s place i < member s place j
+
+-- row 7: 1 to 64 lists, which fill the body to its end
+pub record Lists (s : List ℕ) (n : ℕ) : Type 0 where
+  pub held : 1 ≤ length s
+  pub some : 1 ≤ listCountIn s
+  pub most : listCountIn s ≤ 64
+  pub lists : (k : ℕ) → k < listCountIn s → ListAt s n (listPlace s k)
+  pub filled : listPlace s (listCountIn s) ≡ length s

@@ -1,0 +1,27 @@
+-- Document 01, "Kind 1, routers": role (1 reflector, 2 client), then a 4-byte identifier, low byte first.
+-- `s` is the body of kind 1, `v` a router's number: its place, from 0.
+use Prim.Native.Nat.{ℕ, _+_, _*_}
+use mathlib.Core.List.{List}
+use mathlib.Core.Bool.{Bool, _&&_}
+use lib.Dec.{leb, ltb}
+use lib.ListN.{getD}
+use Rattle.base.specs.Below.{allBelow}
+use Rattle.base.specs.Bytes.{littleEndian}
+use Rattle.bodies.specs.Rising.{risesAt}
+
+abbrev pub role : List ℕ → ℕ → ℕ
+role s v = getD s (5 * v) 0
+
+abbrev pub identifier : List ℕ → ℕ → ℕ
+identifier s v = littleEndian 4 s (5 * v + 1)
+
+-- "Identifiers rise strictly"
+abbrev pub identifierBefore : List ℕ → ℕ → ℕ → Bool
+identifierBefore s u v = ltb (identifier s u) (identifier s v)
+
+unfoldable pub routerOk : List ℕ → ℕ → Bool
+routerOk s v = leb 1 (role s v) && leb (role s v) 2 && risesAt (identifierBefore s) v
+
+-- Row 4 refuses "a role or identifier breaks kind 1".
+unfoldable pub routersOk : List ℕ → ℕ → Bool
+routersOk s n = allBelow (routerOk s) n

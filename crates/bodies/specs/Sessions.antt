@@ -1,0 +1,32 @@
+-- Document 01, "Kind 2, sessions": pairs of router numbers, one byte each. `s` is the body of kind 2, `j` a pair's place, from 0.
+use Prim.Native.Nat.{ℕ, _+_, _*_, _/_}
+use mathlib.Core.List.{List}
+use mathlib.Core.Bool.{Bool, _&&_, _||_}
+use lib.Dec.{ltb, eqb}
+use lib.ListN.{length, getD}
+use Rattle.base.specs.Below.{allBelow}
+use Rattle.bodies.specs.Rising.{risesAt}
+
+abbrev pub sessionCount : List ℕ → ℕ
+sessionCount s = length s / 2
+
+abbrev pub sessionFirst : List ℕ → ℕ → ℕ
+sessionFirst s j = getD s (2 * j) 0
+
+abbrev pub sessionSecond : List ℕ → ℕ → ℕ
+sessionSecond s j = getD s (2 * j + 1) 0
+
+-- "pairs rising strictly": by the first number, and then by the second
+abbrev pub sessionBefore : List ℕ → ℕ → ℕ → Bool
+sessionBefore s i j =
+    ltb (sessionFirst s i) (sessionFirst s j)
+    || (eqb (sessionFirst s i) (sessionFirst s j) && ltb (sessionSecond s i) (sessionSecond s j))
+
+-- "below n, the first below the second, pairs rising strictly"
+unfoldable pub sessionOk : List ℕ → ℕ → ℕ → Bool
+sessionOk s n j =
+    ltb (sessionSecond s j) n && ltb (sessionFirst s j) (sessionSecond s j) && risesAt (sessionBefore s) j
+
+-- Row 5 refuses "a session breaks kind 2".
+unfoldable pub sessionsOk : List ℕ → ℕ → Bool
+sessionsOk s n = allBelow (sessionOk s n) (sessionCount s)

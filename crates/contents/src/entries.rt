@@ -1,0 +1,116 @@
+// The table of contents, read once into four entries by value: refusal 3, and the bodies as parts of the plan.
+
+ghost use mathlib.Core.Path.{_≡_};
+ghost use Prim.Native.Nat.{_+_, _≤_};
+ghost use lib.ListN.{length};
+ghost use Rattle.contents.specs.Contents.{entryAt, contentsOf, end, kindsOk, placesOk, sizesOk, contentsOk, body};
+
+// "kind (1 byte), offset (2), length (2)"; the length is called size.
+pub struct Entry {
+    pub kind: u8,
+    pub offset: u16,
+    pub size: u16,
+}
+
+fn read_entry(plan: &[u8], at: usize) -> Entry
+    requires { ⌜ at + 5 ≤ length (now plan) ⌝ }
+    ensures { λ r. ⌜ r ≡ entryAt (now (plan .entry)) at ⌝ }
+{
+    Entry {
+        kind: plan[at],
+        offset: base::read2(plan, at + 1) as u16,
+        size: base::read2(plan, at + 3) as u16,
+    }
+}
+
+pub fn read_contents(plan: &[u8]) -> [Entry; 4]
+    requires { ⌜ 26 ≤ length (now plan) ⌝ }
+    ensures { λ r. ⌜ r ≡ contentsOf (now (plan .entry)) ⌝ }
+{
+    [
+        read_entry(plan, 6),
+        read_entry(plan, 11),
+        read_entry(plan, 16),
+        read_entry(plan, 21),
+    ]
+}
+
+fn kinds_ok(table: [Entry; 4]) -> bool
+    ensures { λ r. ⌜ r ≡ kindsOk table ⌝ }
+{
+    let routers = table[0];
+    if routers.kind != 1 {
+        return false;
+    }
+    let sessions = table[1];
+    if sessions.kind != 2 {
+        return false;
+    }
+    let distances = table[2];
+    if distances.kind != 3 {
+        return false;
+    }
+    let lists = table[3];
+    lists.kind == 4
+}
+
+fn places_ok(table: [Entry; 4], plan_length: usize) -> bool
+    ensures { λ r. ⌜ r ≡ placesOk table «plan_length» ⌝ }
+{
+    let routers = table[0];
+    if routers.offset != 26 {
+        return false;
+    }
+    let sessions = table[1];
+    if sessions.offset as usize != routers.offset as usize + routers.size as usize {
+        return false;
+    }
+    let distances = table[2];
+    if distances.offset as usize != sessions.offset as usize + sessions.size as usize {
+        return false;
+    }
+    let lists = table[3];
+    if lists.offset as usize != distances.offset as usize + distances.size as usize {
+        return false;
+    }
+    lists.offset as usize + lists.size as usize == plan_length
+}
+
+fn sizes_ok(table: [Entry; 4], n: usize) -> bool
+    requires { ⌜ n ≤ 64 ⌝ }
+    ensures { λ r. ⌜ r ≡ sizesOk table n ⌝ }
+{
+    let routers = table[0];
+    if routers.size as usize != 5 * n {
+        return false;
+    }
+    let sessions = table[1];
+    if sessions.size % 2 != 0 {
+        return false;
+    }
+    let distances = table[2];
+    distances.size as usize == 2 * (n * n)
+}
+
+pub fn contents_ok(table: [Entry; 4], n: usize, plan_length: usize) -> bool
+    requires { ⌜ n ≤ 64 ⌝ }
+    ensures { λ r. ⌜ r ≡ contentsOk table n «plan_length» ⌝ }
+{
+    if !kinds_ok(table) {
+        return false;
+    }
+    if !places_ok(table, plan_length) {
+        return false;
+    }
+    sizes_ok(table, n)
+}
+
+// An entry's body, as a part of the plan itself.
+pub fn body_of(plan: &[u8], e: Entry) -> &[u8]
+    requires { ⌜ end e ≤ length (now plan) ⌝ }
+    ensures { λ r. ⌜ now r ≡ body (now (plan .entry)) e ⌝ }
+{
+    let start = e.offset as usize;
+    let stop = start + e.size as usize;
+    &plan[start..stop]
+}
