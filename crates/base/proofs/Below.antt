@@ -49,6 +49,9 @@ pub any-suc : (p : ℕ → Bool) (i : ℕ) → anyBelow p (suc i) ≡ (anyBelow 
 unfolding anyBelow
 any-suc p i = refl
 
+pub any-next : (p : ℕ → Bool) (i : ℕ) → anyBelow p (i + 1) ≡ (anyBelow p i || p i)
+any-next p i = ap (anyBelow p) (add-one i) ∙ any-suc p i
+
 pub any-more : (p : ℕ → Bool) (i : ℕ) → anyBelow p i ≡ false → p i ≡ false → anyBelow p (i + 1) ≡ false
 any-more p i h q = ap (anyBelow p) (add-one i) ∙ any-suc p i ∙ cc
 

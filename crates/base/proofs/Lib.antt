@@ -4,3 +4,4 @@ pub mod Best
 pub mod Seek
 pub mod Tab
 pub mod BitLaws
+pub mod SetBits

@@ -1,14 +1,36 @@
--- Laws of `seek`, `highest` and `count`.
+-- Laws of `flag`, `seek`, `highest` and `count`.
 use Prim.Native.Nat.{ℕ, zero, suc, _+_, _≤_, _<_, min, max}
 use native.Mathlib.Numerals.{add-one}
 use native.Mathlib.Omega.{arith}
 use mathlib.Core.Path.{_≡_, refl, _∙_, sym, ap, ap₂}
 use mathlib.Core.Bool.{Bool, true, false}
-use mathlib.Core.Logic.{_⊎_, inl, inr, ⊎-elim}
-use lib.Dec.{ltb}
-use borrow.Author.Tests.{ltb-true, ltb-false}
-use Rattle.base.specs.Seek.{seek, onward, highest, count}
+use mathlib.Core.Logic.{⊎-elim}
+use lib.Dec.{ltb, eqb}
+use borrow.Author.Count.{below-none, below-more}
+use borrow.Author.Tests.{ltb-true, ltb-false, lt-ltb, le-ltb, eqb-true, eq-eqb, ne-eqb}
+use Rattle.base.specs.Seek.{flag, seek, highest, count}
 use Rattle.base.proofs.Numbers.{eq-or-ne, lt-or-le}
+
+-- the flag of an equation
+pub flag-same : (i j : ℕ) → 1 ≤ flag (eqb i j) → i ≡ j
+flag-same i j h = go (eqb i j) refl h
+  where
+    go : (b : Bool) → eqb i j ≡ b → 1 ≤ flag b → i ≡ j
+    go true e g = eqb-true i j e
+    go false e g = absurd (omega arith)
+
+pub flag-one : (i j : ℕ) → i ≡ j → 1 ≤ flag (eqb i j)
+flag-one i j e = rw (eq-eqb i j e) (omega arith)
+
+pub flag-two : (i j : ℕ) → flag (eqb i j) < 2
+flag-two i j = go (eqb i j)
+  where
+    go : (b : Bool) → flag b < 2
+    go true = omega arith
+    go false = omega arith
+
+pub flag-none : (i j : ℕ) → (i ≡ j → ⊥) → flag (eqb i j) ≡ 0
+flag-none i j e = rw (ne-eqb i j e)
 
 -- what a search over f below n has found when it answers s
 pub record Found (f : ℕ → ℕ) (n s : ℕ) : Type 0 where
@@ -66,13 +88,28 @@ seek-cong f g n h = found-is f n (seek g n) (record {
     v : Found g n (seek g n)
     v = seek-found g n
 
--- a loop that searches upwards: at its way out on a hit, and at its end
-pub seek-hit : (f : ℕ → ℕ) (n i : ℕ) → i < n → ((d : ℕ) → d < i → f d ≡ 0) → 1 ≤ f i → seek f n ≡ i
-seek-hit f n i l b h = found-is f n i (record { upto = omega arith; before = b; hit = λ g. h })
+-- a loop that looks for the first yes below n, and has found none below i
+pub record Scanned (f : ℕ → ℕ) (n i : ℕ) : Type 0 where
+  pub upto : i ≤ n
+  pub none : (d : ℕ) → d < i → f d ≡ 0
 
-pub seek-none : (f : ℕ → ℕ) (n i : ℕ) → i ≤ n → n ≤ i → ((d : ℕ) → d < i → f d ≡ 0) → seek f n ≡ n
-seek-none f n i l m b =
-    found-is f n n (record { upto = omega arith; before = λ d h. b d (omega arith); hit = λ g. absurd (omega arith) })
+module _ (f : ℕ → ℕ) (n : ℕ) where
+  pub scan-start : Scanned f n 0
+  scan-start = record { upto = omega arith; none = below-none _ }
+
+  pub scan-more : (i : ℕ) → Scanned f n i → i < n → f i ≡ 0 → Scanned f n (i + 1)
+  scan-more i w l h = record { upto = omega arith; none = below-more _ i (w .none) h }
+
+  pub scan-hit : (i : ℕ) → Scanned f n i → i < n → 1 ≤ f i → i ≡ seek f n
+  scan-hit i w l h = sym (found-is f n i (record { upto = w .upto; before = w .none; hit = λ g. h }))
+
+  pub scan-miss : (i : ℕ) → Scanned f n i → n ≤ i → n ≡ seek f n
+  scan-miss i w l =
+      sym (found-is f n n (record {
+        upto = omega arith;
+        before = λ d h. w .none d (omega arith);
+        hit = λ g. absurd (omega arith);
+      }))
 
 pub highest-none : (f : ℕ → ℕ) → highest f 0 ≡ 0
 unfolding highest
@@ -98,28 +135,35 @@ highest-under f (suc n) b h =
     let g : highest f n ≤ b = highest-under f n b (λ i l. h i (omega arith)) in
     omega (arith, highest-suc f n, h n (omega arith))
 
+-- the same loop, asking only whether there is a yes
+pub any-hit : (f : ℕ → ℕ) (n i : ℕ) → i < n → 1 ≤ f i → true ≡ ltb 0 (highest f n)
+any-hit f n i l h = sym (lt-ltb 0 (highest f n) (omega (arith, highest-over f n i l)))
+
+pub any-miss : (f : ℕ → ℕ) (n i : ℕ) → Scanned f n i → n ≤ i → false ≡ ltb 0 (highest f n)
+any-miss f n i w l = sym (le-ltb 0 (highest f n) (highest-under f n 0 (λ d h. omega (arith, w .none d (omega arith)))))
+
 pub highest-cong : (f g : ℕ → ℕ) (n : ℕ) → ((i : ℕ) → i < n → f i ≡ g i) → highest f n ≡ highest g n
 highest-cong f g zero h = highest-none f ∙ sym (highest-none g)
 highest-cong f g (suc n) h =
     highest-suc f n ∙ ap₂ max (highest-cong f g n (λ i l. h i (omega arith))) (h n (omega arith)) ∙ sym (highest-suc g n)
 
--- some number below n that f says yes to
-pub record Some (f : ℕ → ℕ) (n : ℕ) : Type 0 where
+-- where the highest value stands
+pub record Top (f : ℕ → ℕ) (n : ℕ) : Type 0 where
   pub at : ℕ
   pub below : at < n
-  pub holds : 1 ≤ f at
+  pub is : f at ≡ highest f n
 
-pub highest-some : (f : ℕ → ℕ) (n : ℕ) → 1 ≤ highest f n → Some f n
-highest-some f zero h = absurd (omega (arith, highest-none f))
-highest-some f (suc n) h = ⊎-elim new (old (highest-some f n)) (lt-or-le 0 (f n))
+pub highest-top : (f : ℕ → ℕ) (n : ℕ) → 1 ≤ highest f n → Top f n
+highest-top f zero h = absurd (omega (arith, highest-none f))
+highest-top f (suc n) h = ⊎-elim new (old (highest-top f n)) (lt-or-le (highest f n) (f n))
   where
-    new : 0 < f n → Some f (suc n)
-    new l = record { at = n; below = omega arith; holds = omega arith }
+    new : highest f n < f n → Top f (suc n)
+    new l = record { at = n; below = omega arith; is = omega (arith, highest-suc f n) }
 
-    old : (1 ≤ highest f n → Some f n) → f n ≤ 0 → Some f (suc n)
+    old : (1 ≤ highest f n → Top f n) → f n ≤ highest f n → Top f (suc n)
     old before l =
-        let w : Some f n = before (omega (arith, highest-suc f n)) in
-        record { at = w .at; below = omega arith; holds = w .holds }
+        let w : Top f n = before (omega (arith, highest-suc f n)) in
+        record { at = w .at; below = omega arith; is = omega (arith, highest-suc f n, w .is) }
 
 pub count-none : (f : ℕ → ℕ) → count f 0 ≡ 0
 unfolding count

@@ -4,7 +4,7 @@ use native.Mathlib.Numerals.{add-one}
 use native.Mathlib.Omega.{arith}
 use mathlib.Core.Path.{_≡_, refl, _∙_, sym, ap, ap₂}
 use mathlib.Core.List.{List, [], _∷_, _++_, append-assoc}
-use mathlib.Core.Logic.{_⊎_, inl, inr, ⊎-elim}
+use mathlib.Core.Logic.{⊎-elim}
 use lib.ListN.{length, getD, take, drop, set, length-append, length-drop, take-append-drop, List·getD-append}
 use lib.Seq.{getD-at, set-at, drop-cons, drop-at, take-suc}
 use Rattle.base.specs.Tab.{tab}
@@ -40,24 +40,37 @@ module _ {A : Type 0} where
       ∙ ap₂ (λ t x. t ++ (x ∷ [])) (tab-cong f g n (λ i l. h i (omega arith))) (h n (omega arith))
       ∙ sym (tab-suc g n)
 
-  -- a list written at its front, one store a turn
-  pub write-none : (f : ℕ → A) (d : List A) → d ≡ tab f 0 ++ drop 0 d
-  write-none f d = rw tab-none
+-- a loop that writes f 0, .. , f (n - 1) to the front of a list that was d, and has written i of them
+pub record Written {A : Type 0} (f : ℕ → A) (n : ℕ) (d l : List A) (i : ℕ) : Type 0 where
+  pub upto : i ≤ n
+  pub long : n ≤ length d
+  pub is : l ≡ tab f i ++ drop i d
 
-  pub write-more : (f : ℕ → A) (n : ℕ) (d l : List A) (x z : A) → n < length d → l ≡ tab f n ++ drop n d → x ≡ f n
-      → set l n x ≡ tab f (n + 1) ++ drop (n + 1) d
-  write-more f n d l x z h e q =
-      rw (e, q, drop-cons d n z h, add-one, tab-suc)
-      (set-at (tab f n) (getD d n z) (drop (suc n) d) (f n) n (length-tab f n)
-      ∙ sym (append-assoc (tab f n) (f n ∷ []) (drop (suc n) d)))
+module _ {A : Type 0} (f : ℕ → A) (n : ℕ) (d : List A) where
+  pub write-start : n ≤ length d → Written f n d d 0
+  write-start h = record { upto = omega arith; long = h; is = rw tab-none }
 
-  pub write-length : (f : ℕ → A) (n : ℕ) (d l : List A) → n ≤ length d → l ≡ tab f n ++ drop n d → length l ≡ length d
-  write-length f n d l h e =
-      ap length e ∙ length-append (tab f n) (drop n d) ∙ omega (arith, length-tab f n, length-drop n d)
+  pub write-length : (l : List A) (i : ℕ) → Written f n d l i → length l ≡ length d
+  write-length l i w =
+      ap length (w .is) ∙ length-append (tab f i) (drop i d) ∙ omega (arith, length-tab f i, length-drop i d, w .upto, w .long)
 
-  pub write-done : (f : ℕ → A) (n i : ℕ) (d l : List A) → i ≤ n → n ≤ i → l ≡ tab f i ++ drop i d → l ≡ tab f n ++ drop n d
-  write-done f n i d l h g e = let q : i ≡ n = omega arith in rw q at e
+  pub write-room : (l : List A) (i : ℕ) → Written f n d l i → i < n → i < length l
+  write-room l i w h = omega (arith, write-length l i w, w .long)
 
+  pub write-more : (z : A) (l : List A) (i : ℕ) (x : A) → Written f n d l i → i < n → x ≡ f i → Written f n d (set l i x) (i + 1)
+  write-more z l i x w h q = record {
+    upto = omega arith;
+    long = w .long;
+    is =
+        rw (w .is, q, drop-cons d i z (omega (arith, w .long)), add-one, tab-suc)
+        (set-at (tab f i) (getD d i z) (drop (suc i) d) (f i) i (length-tab f i)
+        ∙ sym (append-assoc (tab f i) (f i ∷ []) (drop (suc i) d)));
+  }
+
+  pub write-done : (l : List A) (i : ℕ) → Written f n d l i → n ≤ i → l ≡ tab f n ++ drop n d
+  write-done l i w h = let e : i ≡ n = omega (arith, w .upto) in rw e at (w .is)
+
+module _ {A : Type 0} where
   -- a list that has the function's values at its front
   pub tab-front : (f : ℕ → A) (n : ℕ) (z : A) (l : List A) → n ≤ length l → ((i : ℕ) → i < n → getD l i z ≡ f i) → l ≡ tab f n ++ drop n l
   tab-front f n z l h e = sym (take-append-drop n l) ∙ ap (λ t. t ++ drop n l) (front n h e)

@@ -1,8 +1,9 @@
 // Single bits of a word.
 
 ghost use mathlib.Core.Path.{_≡_};
-ghost use Prim.Native.Nat.{_<_};
-ghost use Rattle.base.specs.Bits.{bitN};
+ghost use Prim.Native.Nat.{_<_, _^_};
+ghost use lib.Bits.{bitOr};
+ghost use Rattle.base.specs.Bits.{bitN, withBit};
 
 // Bit j of x.
 pub fn bit(x: u64, j: usize) -> u64
@@ -10,4 +11,20 @@ pub fn bit(x: u64, j: usize) -> u64
     ensures { λ r. ⌜ r ≡ bitN x j ⌝ }
 {
     (x >> j) % 2
+}
+
+// x with bit j set.
+pub fn with_bit(x: u64, j: usize) -> u64
+    requires { ⌜ j < 64 ⌝ }
+    ensures { λ r. ⌜ r ≡ bitOr x (2 ^ j) ⌝ }
+{
+    x | (1 << j)
+}
+
+// Sets bit j of row i.
+pub fn set_bit(rows: &mut [u64; 64], i: usize, j: usize)
+    requires { ⌜ (i < 64) × (j < 64) ⌝ }
+    ensures { λ r. ⌜ now (rows .exit) ≡ withBit (now (rows .entry)) i j ⌝ }
+{
+    rows[i] = with_bit(rows[i], j);
 }

@@ -3,4 +3,3 @@ pub mod Preference
 pub mod Activation
 pub mod Rounds
 pub mod Reliance
-pub mod Decoded

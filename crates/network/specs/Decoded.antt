@@ -5,8 +5,8 @@ use mathlib.Core.List.{List}
 use lib.Dec.{eqb}
 use Rattle.base.specs.Bits.{bitN, bits}
 use Rattle.bodies.specs.Distances.{distanceIn}
-use Rattle.routing.specs.declared.Network.{Network}
+use Rattle.network.specs.declared.Network.{Network}
 use Rattle.routing.specs.Instance.{Instance}
 
 abbrev pub decoded : Network → List ℕ → List ℕ → Instance
 decoded net rows distances =

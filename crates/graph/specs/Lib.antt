@@ -1,0 +1,5 @@
+pub mod Closure
+pub mod Groups
+pub mod Rank
+pub mod Cycle
+pub mod Search

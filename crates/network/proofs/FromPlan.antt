@@ -1,0 +1,149 @@
+-- The network of a plan that is not refused: what its bodies give the code that reads it, and what holds of it.
+use Prim.Native.Nat.{ℕ, _+_, _-_, _*_, _<_}
+use native.Mathlib.Omega.{arith}
+use mathlib.Core.Path.{_≡_, refl, _∙_, sym, ap, ap₂, fun-ext}
+use mathlib.Core.Bool.{Bool, true, false, _&&_, _||_, and-comm, or-comm}
+use mathlib.Core.List.{List}
+use mathlib.Core.Logic.{_⊎_, inl, inr, ⊎-elim}
+use borrow.Author.Tests.{eq-eqb, ne-eqb, eqb-true}
+use lib.Dec.{eqb, lit<}
+use lib.ListN.{length, getD, take, drop, length-take, length-drop}
+use lib.Seq.{getD-take, getD-drop}
+use Rattle.base.specs.Below.{anyBelow}
+use Rattle.base.specs.Bits.{bitN, bits}
+use Rattle.base.proofs.Below.{Witness, any-at}
+use Rattle.base.proofs.Numbers.{facts, eq-or-ne}
+use Rattle.contents.specs.Header.{routerCount}
+use Rattle.contents.specs.Contents.{contentsOf, listsEntry, routersBody, sessionsBody, distancesBody, listsBody}
+use Rattle.bodies.specs.Routers.{role}
+use Rattle.bodies.specs.Sessions.{sessionCount, sessionFirst, sessionSecond}
+use Rattle.bodies.specs.Distances.{distanceIn}
+use Rattle.bodies.specs.Lists.{listPlace, member}
+use Rattle.plan.specs.EgressLists.{listCount, listStart, listSize, listNumbers, SpanOf}
+use Rattle.plan.specs.Refusal.{planRefusal}
+use Rattle.plan.specs.Passed.{Passed}
+use Rattle.plan.proofs.Passed.{passed, part-length}
+use Rattle.plan.proofs.ListWithin.{span-within}
+use Rattle.network.specs.declared.Network.{Network}
+use Rattle.network.specs.Decoded.{decoded}
+use Rattle.network.specs.FromPlan.{pairs, inSession, named, instanceOf, Trusted}
+
+module _ (plan : List ℕ) (p : Passed plan) where
+  pub routers-length : length (routersBody plan) ≡ 5 * routerCount plan
+  routers-length = part-length plan p 0 (lit< tt) ∙ p .contents .routersSize
+
+  pub session-below : (j : ℕ) → j < sessionCount (sessionsBody plan) → (sessionFirst (sessionsBody plan) j < 64) × (sessionSecond (sessionsBody plan) j < 64)
+  session-below j l = omega (arith, p .sessions .below j l, p .sessions .ordered j l, p .count .most)
+
+  numbers-length : (k : ℕ) → k < listCount plan → length (listNumbers plan k) ≡ listSize plan k
+  numbers-length k l = simp (length-take, length-drop) (omega (arith, span-within plan p k l))
+
+  -- a list's numbers as they stand in the plan are those that stand in the body of kind 4
+  number-is : (k : ℕ) → k < listCount plan → (j : ℕ) → j < listSize plan k
+      → getD (listNumbers plan k) j 0 ≡ member (listsBody plan) (listPlace (listsBody plan) k) j
+  number-is k l j h =
+      let e = listsEntry (contentsOf plan) in
+      let place = listPlace (listsBody plan) k in
+      let inside : place + 1 + j < e .size = omega (arith, p .lists .lists k l .within, part-length plan p 3 (lit< tt)) in
+      getD-take (listSize plan k) (drop (listStart plan k) plan) j 0 h
+      ∙ getD-drop (listStart plan k) plan j 0
+      ∙ ap (λ i. getD plan i 0) (omega arith)
+      ∙ sym (getD-take (e .size) (drop (e .offset) plan) (place + 1 + j) 0 inside ∙ getD-drop (e .offset) plan (place + 1 + j) 0)
+
+  pub number-below : (k : ℕ) → k < listCount plan → (j : ℕ) → j < length (listNumbers plan k) → getD (listNumbers plan k) j 0 < routerCount plan
+  number-below k l j h =
+      let g : j < listSize plan k = omega (arith, numbers-length k l) in
+      omega (arith, number-is k l j g, p .lists .lists k l .below j g)
+
+-- the stretch of the plan that is read for list k
+pub span-numbers : (plan : List ℕ) (k start count : ℕ) → SpanOf plan k start count
+    → take (start + count - start) (drop start plan) ≡ listNumbers plan k
+span-numbers plan k start count s =
+    let size : start + count - start ≡ listSize plan k = omega (arith, s .counts) in
+    ap₂ (λ m b. take m (drop b plan)) size (s .starts)
+
+-- two networks whose parts agree at every number are one
+pub read-same : (plan : List ℕ) (k : ℕ) (net : Network) (rows : List ℕ) → net .n ≡ routerCount plan
+    → ((v : ℕ) → eqb (bitN (net .reflectors) v) 1 ≡ eqb (role (routersBody plan) v) 1)
+    → ((w v : ℕ) → eqb (bits rows w v) 1 ≡ inSession (sessionsBody plan) w v)
+    → ((v : ℕ) → eqb (bitN (net .listed) v) 1 ≡ named (listNumbers plan k) v)
+    → decoded net rows (distancesBody plan) ≡ instanceOf plan k
+read-same plan k net rows count roles sessions numbers =
+    λ i. record {
+      n = count i;
+      reflector = λ v. roles v i;
+      neighbour = λ w v. sessions w v i;
+      dist = distanceIn (distancesBody plan) (count i);
+      listed = λ v. numbers v i;
+    }
+
+-- a session pairs in either order, and pairs its own two routers alone
+pairs-swap : (s : List ℕ) (w v j : ℕ) → pairs s w v j ≡ pairs s v w j
+unfolding pairs
+pairs-swap s w v j =
+    ap₂ _||_ (and-comm (eqb (sessionFirst s j) w) (eqb (sessionSecond s j) v)) (and-comm (eqb (sessionSecond s j) w) (eqb (sessionFirst s j) v))
+    ∙ or-comm (eqb (sessionSecond s j) v && eqb (sessionFirst s j) w) (eqb (sessionFirst s j) v && eqb (sessionSecond s j) w)
+
+pairs-are : (s : List ℕ) (w v j : ℕ) → pairs s w v j ≡ true
+    → ((sessionFirst s j ≡ w) × (sessionSecond s j ≡ v)) ⊎ ((sessionSecond s j ≡ w) × (sessionFirst s j ≡ v))
+unfolding pairs
+pairs-are s w v j h = go (eqb (sessionFirst s j) w && eqb (sessionSecond s j) v) refl
+  where
+    go : (b : Bool) → (eqb (sessionFirst s j) w && eqb (sessionSecond s j) v) ≡ b
+        → ((sessionFirst s j ≡ w) × (sessionSecond s j ≡ v)) ⊎ ((sessionSecond s j ≡ w) × (sessionFirst s j ≡ v))
+    go true e = inl (simp facts at e)
+    go false e =
+        let other : (eqb (sessionSecond s j) w && eqb (sessionFirst s j) v) ≡ true = cc in
+        inr (simp facts at other)
+
+session-swap : (s : List ℕ) (w v : ℕ) → inSession s w v ≡ inSession s v w
+unfolding inSession
+session-swap s w v = ap (λ q. anyBelow q (sessionCount s)) (fun-ext (pairs-swap s w v))
+
+module _ (plan : List ℕ) (p : Passed plan) where
+  neighbour-bounds : (w v : ℕ) → inSession (sessionsBody plan) w v ≡ true → (w ≡ v → ⊥) × (v < routerCount plan)
+  unfolding inSession
+  neighbour-bounds w v h =
+      let s = sessionsBody plan in
+      let found : Witness (pairs s w v) (sessionCount s) = any-at (pairs s w v) (sessionCount s) h in
+      let below = p .sessions .below (found .at) (found .below) in
+      let ordered = p .sessions .ordered (found .at) (found .below) in
+      ⊎-elim
+      (λ (e : (sessionFirst s (found .at) ≡ w) × (sessionSecond s (found .at) ≡ v)). (λ same. omega arith, omega arith))
+      (λ (e : (sessionSecond s (found .at) ≡ w) × (sessionFirst s (found .at) ≡ v)). (λ same. omega arith, omega arith))
+      (pairs-are s w v (found .at) (found .holds))
+
+  neighbour-apart : (v : ℕ) → inSession (sessionsBody plan) v v ≡ false
+  neighbour-apart v = go (inSession (sessionsBody plan) v v) refl
+    where
+      go : (b : Bool) → inSession (sessionsBody plan) v v ≡ b → inSession (sessionsBody plan) v v ≡ false
+      go true e = absurd (neighbour-bounds v v e .0 refl)
+      go false e = e
+
+  listed-below : (k : ℕ) → k < listCount plan → (v : ℕ) → named (listNumbers plan k) v ≡ true → v < routerCount plan
+  unfolding named
+  listed-below k l v h =
+      let found : Witness (λ j. eqb (getD (listNumbers plan k) j 0) v) (length (listNumbers plan k)) = any-at _ _ h in
+      omega (arith, number-below plan p k l (found .at) (found .below), eqb-true (getD (listNumbers plan k) (found .at) 0) v (found .holds))
+
+  roles : (v : ℕ) → v < routerCount plan
+      → ((eqb (role (routersBody plan) v) 1 ≡ true) × (role (routersBody plan) v ≡ 1))
+      ⊎ ((eqb (role (routersBody plan) v) 1 ≡ false) × (role (routersBody plan) v ≡ 2))
+  roles v l =
+      let r = role (routersBody plan) v in
+      ⊎-elim (λ (e : r ≡ 1). inl (eq-eqb r 1 e, e))
+      (λ (e : r ≡ 1 → ⊥). inr (ne-eqb r 1 e, omega (arith, p .routers .roleLeast v l, p .routers .roleMost v l)))
+      (eq-or-ne r 1)
+
+pub trusted : (plan : List ℕ) (k : ℕ) → planRefusal plan ≡ 0 → k < listCount plan → Trusted plan (instanceOf plan k)
+trusted plan k accepted l =
+    let p = passed plan accepted in
+    record {
+      symmetric = session-swap (sessionsBody plan);
+      apart = neighbour-apart plan p;
+      neighbourBelow = λ w v h. neighbour-bounds plan p w v h .1;
+      listedBelow = listed-below plan p k l;
+      distanceMost = p .distances .most;
+      distanceOwn = p .distances .diagonal;
+      roles = roles plan p;
+    }

@@ -1,0 +1,2 @@
+pub mod FromPlan
+pub mod Marks

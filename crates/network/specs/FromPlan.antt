@@ -1,0 +1,67 @@
+-- The network of a plan with one of its lists (document 01, "The plan's bytes").
+use Prim.Native.Nat.{ℕ, _≤_, _<_}
+use mathlib.Core.Path.{_≡_}
+use mathlib.Core.Bool.{Bool, true, false, _&&_, _||_}
+use mathlib.Core.List.{List}
+use mathlib.Core.Logic.{_⊎_}
+use lib.Dec.{eqb}
+use lib.ListN.{length, getD}
+use Rattle.base.specs.Below.{anyBelow}
+use Rattle.contents.specs.Header.{routerCount}
+use Rattle.contents.specs.Contents.{routersBody, sessionsBody, distancesBody}
+use Rattle.bodies.specs.Routers.{role}
+use Rattle.bodies.specs.Sessions.{sessionCount, sessionFirst, sessionSecond}
+use Rattle.bodies.specs.Distances.{distanceIn}
+use Rattle.plan.specs.EgressLists.{listNumbers}
+use Rattle.network.specs.declared.Network.{Network}
+use Rattle.routing.specs.Instance.{Instance}
+use Rattle.network.specs.Decoded.{decoded}
+
+-- "Two routers of a pair are neighbours": w and v are those of session j, in either order; s is the body of kind 2
+unfoldable pub pairs : List ℕ → ℕ → ℕ → ℕ → Bool
+pairs s w v j =
+    (eqb (sessionFirst s j) w && eqb (sessionSecond s j) v) || (eqb (sessionSecond s j) w && eqb (sessionFirst s j) v)
+
+unfoldable pub inSession : List ℕ → ℕ → ℕ → Bool
+inSession s w v = anyBelow (pairs s w v) (sessionCount s)
+
+-- v is one of a list's "router numbers"
+unfoldable pub named : List ℕ → ℕ → Bool
+named numbers v = anyBelow (λ j. eqb (getD numbers j 0) v) (length numbers)
+
+-- the plan with its list k
+abbrev pub instanceOf : List ℕ → ℕ → Instance
+instanceOf plan k =
+    record {
+      -- "n, the number of routers"
+      n = routerCount plan;
+      -- "role (1 reflector, 2 client)"
+      reflector = λ v. eqb (role (routersBody plan) v) 1;
+      -- "Two routers of a pair are neighbours."
+      neighbour = inSession (sessionsBody plan);
+      -- "row u, column e is the distance from u to e"
+      dist = distanceIn (distancesBody plan) (routerCount plan);
+      -- "c router numbers": those of list k
+      listed = named (listNumbers plan k);
+    }
+
+-- The network read from a plan, as the code holds it, is the plan's own, and has at most 64 routers.
+pub record ReadFrom (plan : List ℕ) (k : ℕ) (net : Network) (rows : List ℕ) : Type 0 where
+  pub same : decoded net rows (distancesBody plan) ≡ instanceOf plan k
+  pub count : net .n ≡ routerCount plan
+  pub most : net .n ≤ 64
+
+-- What holds of the network of a plan that is not refused, for any of its lists.
+pub record Trusted (plan : List ℕ) (I : Instance) : Type 0 where
+  -- "Two routers of a pair are neighbours": each of the other, and no router of itself
+  pub symmetric : (w v : ℕ) → I .neighbour w v ≡ I .neighbour v w
+  pub apart : (v : ℕ) → I .neighbour v v ≡ false
+  -- "router numbers, one byte each and below n", of sessions and of lists
+  pub neighbourBelow : (w v : ℕ) → I .neighbour w v ≡ true → v < I .n
+  pub listedBelow : (v : ℕ) → I .listed v ≡ true → v < I .n
+  -- "0 to 65,534 .. The diagonal is 0."
+  pub distanceMost : (u e : ℕ) → u < I .n → e < I .n → I .dist u e ≤ 65534
+  pub distanceOwn : (u : ℕ) → u < I .n → I .dist u u ≡ 0
+  -- "role (1 reflector, 2 client)": a router is the one or the other
+  pub roles : (v : ℕ) → v < I .n
+      → ((I .reflector v ≡ true) × (role (routersBody plan) v ≡ 1)) ⊎ ((I .reflector v ≡ false) × (role (routersBody plan) v ≡ 2))

@@ -1,0 +1,80 @@
+// From the bytes of a plan that is not refused to the network, read once.
+
+use crate::Network;
+ghost use mathlib.Core.Path.{_≡_};
+ghost use Prim.Native.Nat.{ℕ, _*_, _≤_, _<_};
+ghost use lib.Dec.{eqb};
+ghost use lib.ListN.{length, getD, replicate};
+ghost use Rattle.base.specs.Bits.{bitN, bits};
+ghost use Rattle.plan.specs.Refusal.{planRefusal};
+ghost use Rattle.bodies.specs.Routers.{role};
+ghost use Rattle.bodies.specs.Sessions.{sessionCount, sessionFirst, sessionSecond};
+ghost use Rattle.plan.specs.EgressLists.{listCount};
+ghost use Rattle.network.specs.FromPlan.{inSession, named, ReadFrom};
+
+// The routers whose role is 1; s is the body of kind 1.
+fn reflector_word(s: &[u8], n: usize) -> u64
+    requires { ⌜ (n ≤ 64) × (length (now s) ≡ 5 * n) ⌝ }
+    ensures { λ r. ⌜ ((v : ℕ) → eqb (bitN r v) 1 ≡ eqb (role (now (s .entry)) v) 1) ⌝ }
+{
+    let mut word = 0;
+    let mut v = 0;
+    while v < n {
+        if s[5 * v] == 1 {
+            word = base::bits::with_bit(word, v);
+            v += 1;
+        } else {
+            v += 1;
+        }
+    }
+    word
+}
+
+// The routers that a list's numbers name.
+fn listed_word(numbers: &[u8]) -> u64
+    requires { ⌜ ((j : ℕ) → j < length (now numbers) → getD (now numbers) j 0 < 64) ⌝ }
+    ensures { λ r. ⌜ ((v : ℕ) → eqb (bitN r v) 1 ≡ named (now (numbers .entry)) v) ⌝ }
+{
+    let mut word = 0;
+    let mut j = 0;
+    while j < numbers.len() {
+        word = base::bits::with_bit(word, base::wide(numbers[j]));
+        j += 1;
+    }
+    word
+}
+
+// The row of neighbours of each router; s is the body of kind 2.
+fn neighbour_rows(s: &[u8], rows: &mut [u64; 64])
+    requires { ⌜ (now rows ≡ replicate 64 0) × ((j : ℕ) → j < sessionCount (now s) → (sessionFirst (now s) j < 64) × (sessionSecond (now s) j < 64)) ⌝ }
+    ensures { λ r. ⌜ ((w v : ℕ) → eqb (bits (now (rows .exit)) w v) 1 ≡ inSession (now (s .entry)) w v) ⌝ }
+{
+    let count = s.len() / 2;
+    let mut j = 0;
+    while j < count {
+        let first = base::wide(s[2 * j]);
+        let second = base::wide(s[2 * j + 1]);
+        base::bits::set_bit(rows, first, second);
+        base::bits::set_bit(rows, second, first);
+        j += 1;
+    }
+}
+
+// The network of a plan with one of its lists; the rows of neighbours are lent as zeros.
+pub fn decode(plan: &[u8], list: usize, rows: &mut [u64; 64]) -> Network
+    requires { ⌜ (planRefusal (now plan) ≡ 0) × (list < listCount (now plan)) × (now rows ≡ replicate 64 0) ⌝ }
+    ensures { λ r. ⌜ ReadFrom (now (plan .entry)) list r (now (rows .exit)) ⌝ }
+{
+    let n = base::wide(plan[4]);
+    let reflectors = reflector_word(plan::parts::part(plan, 0), n);
+    neighbour_rows(plan::parts::part(plan, 1), rows);
+    let span = plan::lists::list_span(plan, list);
+    let start = span.start;
+    let stop = start + span.count;
+    let listed = listed_word(&plan[start..stop]);
+    Network {
+        n,
+        reflectors,
+        listed,
+    }
+}

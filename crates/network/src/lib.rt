@@ -1,0 +1,10 @@
+// A plan with one of its lists as the code holds it, read once from the plan's bytes.
+
+pub mod decode;
+
+// Bit v of a word stands for router v.
+pub struct Network {
+    pub n: usize,
+    pub reflectors: u64,
+    pub listed: u64,
+}
