@@ -1,0 +1,243 @@
+//! The calls made for one plan, sound or damaged.
+
+use crate::arguments;
+use crate::checker::{Answer, Call};
+use crate::compare::{Comparison, Mismatch};
+use crate::plan::{self, Plan};
+use crate::random::Random;
+use crate::rules::Case;
+use crate::series;
+
+pub type Outcome = Result<(), Box<Mismatch>>;
+
+/// All calls for one plan.
+pub fn hold(comparison: &mut Comparison, random: &mut Random, bytes: &[u8]) -> Outcome {
+    comparison.counts.plans += 1;
+    comparison.call(bytes, &Call::Check)?;
+    match plan::read(bytes) {
+        Ok(plan) => hold_sound(comparison, random, bytes, &plan),
+        Err(_) => hold_refused(comparison, random, bytes),
+    }
+}
+
+/// Refusals 1 to 7 stand before 8, 9 and 10, whatever else is handed over.
+fn hold_refused(comparison: &mut Comparison, random: &mut Random, bytes: &[u8]) -> Outcome {
+    for _ in 0..2 {
+        for call in loose_calls(random) {
+            comparison.call(bytes, &call)?;
+        }
+    }
+    Ok(())
+}
+
+/// One call of each kind with arguments that need fit nothing.
+fn loose_calls(random: &mut Random) -> [Call; 6] {
+    let mut number = |bound: usize| arguments::mostly_below(random, bound);
+    let list = number(2);
+    let (router, first, second) = (number(4), number(4), number(4));
+    let mut buffer = || {
+        let length = random.below(140);
+        random.bytes(length)
+    };
+    let buffers = [buffer(), buffer(), buffer(), buffer()];
+    let (table, sequence) = (buffer(), buffer());
+    let limit = random.word();
+    [
+        Call::List { list },
+        Call::Compare { router, first, second },
+        Call::Relies { list, router, other: first },
+        Call::Verdict { list, buffers },
+        Call::Activate { list, router, table: table.clone() },
+        Call::Run { list, sequence, limit, table },
+    ]
+}
+
+fn hold_sound(comparison: &mut Comparison, random: &mut Random, bytes: &[u8], plan: &Plan) -> Outcome {
+    comparison.counts.sound_plans += 1;
+    hold_comparing(comparison, random, bytes, plan)?;
+    hold_past_the_lists(comparison, random, bytes, plan)?;
+    let verdicts = hold_verdicts(comparison, random, bytes, plan)?;
+    for _ in 0..3 {
+        let list = random.below(plan.lists.len());
+        hold_list(comparison, random, bytes, list, plan)?;
+    }
+    let stable: Vec<usize> = (0..plan.lists.len()).filter(|&list| verdicts[list].fields[0] == 1).collect();
+    if !stable.is_empty() {
+        let list = random.pick(&stable);
+        series::hold(comparison, random, bytes, plan, list, &verdicts[list])?;
+    }
+    Ok(())
+}
+
+fn hold_comparing(comparison: &mut Comparison, random: &mut Random, bytes: &[u8], plan: &Plan) -> Outcome {
+    for _ in 0..8 {
+        let mut number = || random.below(plan.n);
+        let (router, first, second) = (number(), number(), number());
+        comparison.call(bytes, &Call::Compare { router, first, second })?;
+    }
+    for _ in 0..3 {
+        let mut number = || arguments::mostly_below(random, plan.n);
+        let (router, first, second) = (number(), number(), number());
+        comparison.call(bytes, &Call::Compare { router, first, second })?;
+    }
+    let router = random.below(plan.n);
+    comparison.call(bytes, &Call::Compare { router, first: router, second: router })?;
+    let strange = arguments::past(random, plan.n);
+    let call = match random.below(3) {
+        0 => Call::Compare { router: strange, first: router, second: router },
+        1 => Call::Compare { router, first: strange, second: router },
+        _ => Call::Compare { router, first: router, second: strange },
+    };
+    comparison.call(bytes, &call).map(|_| ())
+}
+
+/// List numbers at and past the number of lists, in every call.
+fn hold_past_the_lists(comparison: &mut Comparison, random: &mut Random, bytes: &[u8], plan: &Plan) -> Outcome {
+    let (m, n) = (plan.lists.len(), plan.n);
+    for list in [m, m + 1, usize::MAX, arguments::past(random, m)] {
+        comparison.call(bytes, &Call::List { list })?;
+    }
+    let case = Case { plan, listed: &plan.lists[0].listed };
+    let list = arguments::past(random, m);
+    let table = arguments::table_buffer(random, case);
+    let sequence = arguments::sequence(random, n);
+    let limit = arguments::limit(random, sequence.len());
+    let router = random.below(n);
+    let calls = [
+        Call::Relies { list, router, other: random.below(n) },
+        Call::Verdict { list, buffers: arguments::verdict_buffers(random, n) },
+        Call::Verdict { list, buffers: arguments::short_verdict_buffers(random, n) },
+        Call::Activate { list, router, table: table.clone() },
+        Call::Activate { list, router, table: arguments::broken_table(random, case) },
+        Call::Run { list, sequence, limit, table },
+    ];
+    calls.iter().try_for_each(|call| comparison.call(bytes, call).map(|_| ()))
+}
+
+/// Every list handed back, and its verdict.
+fn hold_verdicts(
+    comparison: &mut Comparison,
+    random: &mut Random,
+    bytes: &[u8],
+    plan: &Plan,
+) -> Result<Vec<Answer>, Box<Mismatch>> {
+    let mut verdicts = Vec::new();
+    for list in 0..plan.lists.len() {
+        comparison.call(bytes, &Call::List { list })?;
+        let buffers = arguments::verdict_buffers(random, plan.n);
+        let answer = comparison.call(bytes, &Call::Verdict { list, buffers })?;
+        let counts = &mut comparison.counts;
+        counts.lists += 1;
+        if answer.fields[0] == 0 {
+            counts.suspect_lists += 1;
+            let (labels, first) = (&answer.buffers[0], answer.buffers[3][0]);
+            counts.entered_cycles += u64::from(labels[usize::from(first)] != first);
+            counts.longest_cycle = counts.longest_cycle.max(answer.fields[1]);
+        } else {
+            counts.highest_rank = counts.highest_rank.max(answer.fields[1]);
+        }
+        verdicts.push(answer);
+    }
+    Ok(verdicts)
+}
+
+fn hold_list(comparison: &mut Comparison, random: &mut Random, bytes: &[u8], list: usize, plan: &Plan) -> Outcome {
+    let case = Case { plan, listed: &plan.lists[list].listed };
+    hold_reliances(comparison, random, bytes, list, plan)?;
+    for _ in 0..2 {
+        let buffers = arguments::short_verdict_buffers(random, plan.n);
+        comparison.call(bytes, &Call::Verdict { list, buffers })?;
+    }
+    hold_activations(comparison, random, bytes, list, case)?;
+    hold_runs(comparison, random, bytes, list, case)
+}
+
+/// With few routers, every pair.
+fn hold_all_reliances(comparison: &mut Comparison, bytes: &[u8], list: usize, n: usize) -> Outcome {
+    for (router, other) in (0..=n).flat_map(|router| (0..=n).map(move |other| (router, other))) {
+        comparison.call(bytes, &Call::Relies { list, router, other })?;
+    }
+    Ok(())
+}
+
+fn hold_reliances(
+    comparison: &mut Comparison,
+    random: &mut Random,
+    bytes: &[u8],
+    list: usize,
+    plan: &Plan,
+) -> Outcome {
+    if plan.n <= 8 {
+        return hold_all_reliances(comparison, bytes, list, plan.n);
+    }
+    for _ in 0..12 {
+        let router = random.below(plan.n);
+        let neighbours: Vec<usize> = plan.neighbours[router].iter().copied().collect();
+        let near = !neighbours.is_empty() && random.chance(70);
+        let other = if near { random.pick(&neighbours) } else { random.below(plan.n) };
+        comparison.call(bytes, &Call::Relies { list, router, other })?;
+    }
+    let (router, strange) = (random.below(plan.n), arguments::past(random, plan.n));
+    comparison.call(bytes, &Call::Relies { list, router, other: strange })?;
+    comparison.call(bytes, &Call::Relies { list, router: strange, other: router })?;
+    comparison.call(bytes, &Call::Relies { list, router, other: router }).map(|_| ())
+}
+
+fn hold_activations(
+    comparison: &mut Comparison,
+    random: &mut Random,
+    bytes: &[u8],
+    list: usize,
+    case: Case,
+) -> Outcome {
+    let n = case.plan.n;
+    let table = arguments::table_buffer(random, case);
+    for _ in 0..4 {
+        let router = random.below(n);
+        comparison.call(bytes, &Call::Activate { list, router, table: table.clone() })?;
+    }
+    for _ in 0..3 {
+        let router = arguments::mostly_below(random, n);
+        let table = arguments::broken_table(random, case);
+        comparison.call(bytes, &Call::Activate { list, router, table })?;
+    }
+    let router = arguments::past(random, n);
+    comparison.call(bytes, &Call::Activate { list, router, table: table.clone() })?;
+    for router in [arguments::mostly_below(random, n), random.below(n)] {
+        let mut table = arguments::broken_table(random, case);
+        table.truncate(arguments::short(random, 2 * n));
+        comparison.call(bytes, &Call::Activate { list, router, table })?;
+    }
+    Ok(())
+}
+
+fn hold_runs(comparison: &mut Comparison, random: &mut Random, bytes: &[u8], list: usize, case: Case) -> Outcome {
+    let n = case.plan.n;
+    for kind in 0..6 {
+        let sequence = match kind {
+            3 => arguments::strange_sequence(random, n),
+            _ => arguments::sequence(random, n),
+        };
+        let mut table = match kind {
+            4 => arguments::broken_table(random, case),
+            _ => arguments::table_buffer(random, case),
+        };
+        if kind == 5 {
+            table.truncate(arguments::short(random, 2 * n));
+        }
+        let limit = arguments::limit(random, sequence.len());
+        comparison.call(bytes, &Call::Run { list, sequence, limit, table })?;
+    }
+    Ok(())
+}
+
+/// A run of a great many acts, with more rounds than two bytes can count.
+pub fn hold_long_run(comparison: &mut Comparison, random: &mut Random, bytes: &[u8]) -> Outcome {
+    let Ok(plan) = plan::read(bytes) else { return Ok(()) };
+    let case = Case { plan: &plan, listed: &plan.lists[0].listed };
+    let length = 66_000 * plan.n + random.below(1000);
+    let sequence: Vec<u8> = (0..length).map(|place| (place % plan.n) as u8).collect();
+    let table = arguments::table_buffer(random, case);
+    let limit = random.pick(&[u64::MAX, length as u64, length as u64 - 1]);
+    comparison.call(bytes, &Call::Run { list: 0, sequence, limit, table }).map(|_| ())
+}

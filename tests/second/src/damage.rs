@@ -1,0 +1,258 @@
+//! Damaged plans: aimed at one refusal number, or at random.
+
+use crate::generate::{Bodies, Draft};
+use crate::plan::{FIRST_BODY, LONGEST_PLAN};
+use crate::random::Random;
+
+/// A plan whose damage is aimed at the given refusal number, 1 to 7.
+pub fn aimed(random: &mut Random, draft: &Draft, refusal: u8) -> Vec<u8> {
+    let bodies = draft.bodies();
+    match refusal {
+        1 => letters(random, bodies.bytes()),
+        2 => router_count(random, bodies.bytes()),
+        3 => contents(random, bodies),
+        4 => routers(random, bodies),
+        5 => sessions(random, bodies),
+        6 => distances(random, bodies),
+        _ => lists(random, bodies),
+    }
+}
+
+/// Damage of any kind, at times none that counts.
+pub fn any(random: &mut Random, draft: &Draft) -> Vec<u8> {
+    let mut plan = draft.bytes();
+    match random.below(8) {
+        0 => flip_bits(random, &mut plan, 1),
+        1 => {
+            let flips = random.between(2, 5);
+            flip_bits(random, &mut plan, flips);
+        }
+        2 => plan.truncate(random.below(plan.len())),
+        3 => {
+            let count = random.between(1, 5);
+            plan.extend(random.bytes(count));
+        }
+        4 => junk(random, &mut plan),
+        5 => overwrite(random, &mut plan),
+        _ => return two_at_once(random, draft),
+    }
+    plan
+}
+
+fn flip_bits(random: &mut Random, plan: &mut [u8], count: usize) {
+    for _ in 0..count {
+        // The head takes half of the hits, or it would be met too seldom.
+        let within = if random.chance(50) { FIRST_BODY } else { plan.len() };
+        plan[random.below(within)] ^= 1 << random.below(8);
+    }
+}
+
+fn overwrite(random: &mut Random, plan: &mut [u8]) {
+    let value = random.pick(&[0, 1, 2, 63, 64, 65, 127, 128, 254, 255]);
+    plan[random.below(plan.len())] = value;
+}
+
+fn junk(random: &mut Random, plan: &mut Vec<u8>) {
+    let count = random.pick(&[0, 1, 25, 26, 27, 40, 300]);
+    *plan = random.bytes(count);
+    if count >= 26 && random.chance(70) {
+        plan[..6].copy_from_slice(b"RRP1\x03\x04");
+    }
+}
+
+/// Damage to two bodies, so that the order of the checks shows.
+fn two_at_once(random: &mut Random, draft: &Draft) -> Vec<u8> {
+    let mut bodies = draft.bodies();
+    for _ in 0..2 {
+        damage_body(random, &mut bodies);
+    }
+    let mut plan = bodies.bytes();
+    match random.below(6) {
+        0 => plan[4] = random.pick(&[0, 65]),
+        1 => plan[5] = 3,
+        2 => plan[6 + 5 * random.below(4)] = 9,
+        _ => (),
+    }
+    plan
+}
+
+fn damage_body(random: &mut Random, bodies: &mut Bodies) {
+    match random.below(4) {
+        0 => routers_body(random, bodies),
+        1 => sessions_body(random, bodies),
+        2 => distances_body(random, bodies),
+        _ => lists_body(random, bodies),
+    }
+}
+
+fn letters(random: &mut Random, mut plan: Vec<u8>) -> Vec<u8> {
+    match random.below(5) {
+        0 => plan.truncate(random.pick(&[0, 1, 4, 5, 6, 24, 25])),
+        1 => plan.resize(random.pick(&[LONGEST_PLAN + 1, LONGEST_PLAN + 2, 65_536, 65_562]), 0),
+        2 => plan[random.below(4)] ^= 1 << random.below(8),
+        3 => plan[5] = random.pick(&[0, 3, 5, 255]),
+        _ => {
+            plan[4] = random.pick(&[0, 65]);
+            plan[5] ^= 1 << random.below(8);
+        }
+    }
+    plan
+}
+
+fn router_count(random: &mut Random, mut plan: Vec<u8>) -> Vec<u8> {
+    plan[4] = random.pick(&[0, 65, 66, 127, 128, 192, 255]);
+    plan
+}
+
+fn contents(random: &mut Random, mut bodies: Bodies) -> Vec<u8> {
+    match random.below(9) {
+        8 => return wrapped_contents(random, bodies.bytes()),
+        0 => _ = bodies.bodies[0].pop(),
+        1 => bodies.bodies[0].push(0),
+        2 => bodies.bodies[1].push(0),
+        3 => _ = bodies.bodies[2].pop(),
+        4 => bodies.bodies[2].extend([0, 0]),
+        _ => return contents_entry(random, bodies.bytes()),
+    }
+    bodies.bytes()
+}
+
+/// Offsets that fit one another only if their sums are cut to two bytes.
+fn wrapped_contents(random: &mut Random, mut plan: Vec<u8>) -> Vec<u8> {
+    let n = usize::from(plan[4]);
+    let sessions_at = FIRST_BODY + 5 * n;
+    let distances_at = random.below(sessions_at / 2) * 2 + sessions_at % 2;
+    let lists_at = distances_at + 2 * n * n;
+    let lists_length = plan.len() - lists_at;
+    let mut set = |at: usize, value: usize| plan[at..at + 2].copy_from_slice(&(value as u16).to_le_bytes());
+    set(14, 65_536 + distances_at - sessions_at);
+    set(17, distances_at);
+    set(22, lists_at);
+    set(24, lists_length);
+    plan
+}
+
+fn contents_entry(random: &mut Random, mut plan: Vec<u8>) -> Vec<u8> {
+    let entry = 6 + 5 * random.below(4);
+    match random.below(6) {
+        0 => plan[entry] = random.pick(&[0, 5, 255]),
+        1 => plan[entry + 1] ^= 1 << random.below(8),
+        2 => plan[entry + 2] ^= 1 << random.below(8),
+        3 => plan[entry + random.between(3, 4)] ^= 1 << random.below(8),
+        4 if plan.len() < LONGEST_PLAN => plan.push(0),
+        _ => {
+            let last = plan.len() - 1;
+            plan.truncate(last.max(FIRST_BODY));
+        }
+    }
+    plan
+}
+
+fn routers(random: &mut Random, mut bodies: Bodies) -> Vec<u8> {
+    routers_body(random, &mut bodies);
+    bodies.bytes()
+}
+
+fn routers_body(random: &mut Random, bodies: &mut Bodies) {
+    let n = usize::from(bodies.n);
+    let routers = &mut bodies.bodies[0];
+    if n == 1 || random.chance(50) {
+        routers[5 * random.below(n)] = random.pick(&[0, 3, 4, 129, 130, 255]);
+        return;
+    }
+    // An identifier equal to the one before it, or the two the wrong way round.
+    let at = 5 * random.between(1, n - 1);
+    if random.chance(50) {
+        routers.copy_within(at - 4..at, at + 1);
+    } else {
+        (0..4).for_each(|byte| routers.swap(at - 4 + byte, at + 1 + byte));
+    }
+}
+
+fn sessions(random: &mut Random, mut bodies: Bodies) -> Vec<u8> {
+    sessions_body(random, &mut bodies);
+    bodies.bytes()
+}
+
+fn sessions_body(random: &mut Random, bodies: &mut Bodies) {
+    let n = bodies.n;
+    let sessions = &mut bodies.bodies[1];
+    let pair = 2 * random.below((sessions.len() / 2).max(1));
+    if sessions.is_empty() {
+        sessions.extend([0, 0]);
+    }
+    match random.below(6) {
+        0 => sessions.swap(pair, pair + 1),
+        1 => sessions[pair] = sessions[pair + 1],
+        2 => sessions[pair + 1] = random.pick(&[n, n + 1, 64, 128, 255]),
+        3 => sessions[pair] = random.pick(&[n, 254, 255]),
+        4 => {
+            let again = sessions[pair..pair + 2].to_vec();
+            sessions.splice(pair..pair, again);
+        }
+        _ => {
+            // Two neighbouring pairs the wrong way round.
+            let last = sessions.len() - 2;
+            let from = pair.min(last.saturating_sub(2));
+            let to = (from + 2).min(last);
+            (0..2).for_each(|byte| sessions.swap(from + byte, to + byte));
+        }
+    }
+    trim_to_longest(bodies);
+}
+
+/// Keeps a grown plan within the longest length, so that the damage shows.
+fn trim_to_longest(bodies: &mut Bodies) {
+    while bodies.bodies.iter().map(Vec::len).sum::<usize>() + FIRST_BODY > LONGEST_PLAN {
+        bodies.bodies[3].pop();
+    }
+}
+
+fn distances(random: &mut Random, mut bodies: Bodies) -> Vec<u8> {
+    distances_body(random, &mut bodies);
+    bodies.bytes()
+}
+
+fn distances_body(random: &mut Random, bodies: &mut Bodies) {
+    let n = usize::from(bodies.n);
+    let distances = &mut bodies.bodies[2];
+    if random.chance(50) {
+        let at = 2 * random.below(n * n);
+        distances[at..at + 2].fill(255);
+    } else {
+        let router = random.pick(&[0, n - 1, n / 2]);
+        distances[2 * (router * n + router) + random.below(2)] = random.pick(&[1, 128, 255]);
+    }
+}
+
+fn lists(random: &mut Random, mut bodies: Bodies) -> Vec<u8> {
+    lists_body(random, &mut bodies);
+    bodies.bytes()
+}
+
+fn lists_body(random: &mut Random, bodies: &mut Bodies) {
+    let n = bodies.n;
+    let lists = &mut bodies.bodies[3];
+    if lists.len() < 3 {
+        return lists.clear();
+    }
+    let last = lists.len() - 1;
+    match random.below(10) {
+        0 => lists.clear(),
+        1 => lists[0] = random.pick(&[0, 65, 255]),
+        2 => lists[0] = lists[0].wrapping_add(1),
+        3 => lists[0] -= 1,
+        4 => lists[1] = random.pick(&[0, n + 1, 255]),
+        5 => lists[2] = random.pick(&[n, 64, 255]),
+        6 => lists[last] = random.pick(&[n, 255]),
+        7 => _ = lists.pop(),
+        8 => lists.push(0),
+        _ => {
+            // The first list, its first number twice.
+            let twice = lists[2];
+            lists[1] = lists[1].wrapping_add(1);
+            lists.insert(2, twice);
+        }
+    }
+    trim_to_longest(bodies);
+}

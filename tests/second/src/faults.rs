@@ -1,0 +1,224 @@
+//! Checkers with one fault each, to see that the comparison finds it.
+
+use crate::checker::{Acts, Checker, ListFields, RunFields, VerdictBuffers, VerdictFields};
+use crate::plan::{Plan, Router};
+use crate::rules::{Case, Held, Right, Rules, Table};
+use crate::second::Second;
+
+/// A rule misread.
+#[derive(Clone, Copy, Debug, PartialEq, Eq)]
+pub enum Misreading {
+    ScaledDistances,
+    HigherNumberWinsTie,
+    TieIsNoReliance,
+    ListenerJudgesBestClient,
+    ReflectorTellsThirdHand,
+    SharedClientOutdoesItself,
+    ListedReflectorOffersClient,
+    ClientHearsItsRouteBack,
+    UnlistedClientAnnounces,
+    LowestSenderBeforeEgress,
+    HighestSender,
+}
+
+pub const MISREADINGS: [Misreading; 11] = [
+    Misreading::ScaledDistances,
+    Misreading::HigherNumberWinsTie,
+    Misreading::TieIsNoReliance,
+    Misreading::ListenerJudgesBestClient,
+    Misreading::ReflectorTellsThirdHand,
+    Misreading::SharedClientOutdoesItself,
+    Misreading::ListedReflectorOffersClient,
+    Misreading::ClientHearsItsRouteBack,
+    Misreading::UnlistedClientAnnounces,
+    Misreading::LowestSenderBeforeEgress,
+    Misreading::HighestSender,
+];
+
+pub struct Misread(pub Misreading);
+
+impl Misread {
+    fn is(&self, misreading: Misreading) -> bool {
+        self.0 == misreading
+    }
+}
+
+impl Rules for Misread {
+    fn value(&self, plan: &Plan, at: Router, egress: Router) -> (usize, usize) {
+        let distance = usize::from(plan.distances[at][egress]);
+        match self.0 {
+            Misreading::ScaledDistances => (distance / 10, egress),
+            Misreading::HigherNumberWinsTie => (distance, plan.n - egress),
+            _ => Right.value(plan, at, egress),
+        }
+    }
+
+    fn offer(&self, case: Case, reflector: Router, listener: Router) -> Option<Router> {
+        match self.0 {
+            Misreading::ListenerJudgesBestClient if !case.is_listed(reflector) => {
+                self.best_client_valued_at(case, reflector, listener)
+            }
+            Misreading::ListedReflectorOffersClient => self.best_client(case, reflector),
+            _ => Right.offer(case, reflector, listener),
+        }
+    }
+
+    fn outdoes(&self, plan: &Plan, at: Router, offer: Router, own: Router) -> bool {
+        match self.0 {
+            Misreading::TieIsNoReliance => plan.distances[at][offer] < plan.distances[at][own],
+            Misreading::SharedClientOutdoesItself => offer == own || self.is_better(plan, at, offer, own),
+            _ => self.is_better(plan, at, offer, own),
+        }
+    }
+
+    fn announced(&self, case: Case, table: &Table, from: Router, to: Router) -> Option<Router> {
+        let plan = case.plan;
+        let held = table.get(&from).filter(|held| held.sender != from);
+        let unlisted_reflector = plan.is_reflector(from) && !case.is_listed(from);
+        let silent_client = !plan.is_reflector(from) && !case.is_listed(from);
+        let third_hand = self.is(Misreading::ReflectorTellsThirdHand) && unlisted_reflector;
+        let back = self.is(Misreading::ClientHearsItsRouteBack) && unlisted_reflector;
+        match held {
+            Some(held) if third_hand && plan.is_reflector(held.sender) => Some(held.egress),
+            Some(held) if back && held.sender == to => Some(held.egress),
+            Some(held) if self.is(Misreading::UnlistedClientAnnounces) && silent_client => Some(held.egress),
+            _ => Right.announced(case, table, from, to),
+        }
+    }
+
+    fn value_heard(&self, plan: &Plan, at: Router, heard: Held) -> ((usize, usize), bool, Router) {
+        let value = self.value(plan, at, heard.egress);
+        match self.0 {
+            Misreading::LowestSenderBeforeEgress => (value, false, heard.sender),
+            Misreading::HighestSender => (value, heard.sender != heard.egress, plan.n - heard.sender),
+            _ => (value, heard.sender != heard.egress, heard.sender),
+        }
+    }
+}
+
+/// A slip in a call that reads the rules rightly.
+#[derive(Clone, Copy, Debug, PartialEq, Eq)]
+pub enum Slip {
+    FirstActOnly,
+    ActLeavesTable,
+    ExhaustedAtTheLimit,
+    RoundsByDivision,
+    SequenceCheckedToTheLimit,
+    RefusalBeforeTen,
+    ListCutToAByte,
+    LimitCutToAWord,
+    FieldsClearedOnRefusal,
+    ByteAfterTheTable,
+    ByteAfterTheCycle,
+    SuspectToAll,
+    LongPlanAccepted,
+}
+
+pub const SLIPS: [Slip; 13] = [
+    Slip::FirstActOnly,
+    Slip::ActLeavesTable,
+    Slip::ExhaustedAtTheLimit,
+    Slip::RoundsByDivision,
+    Slip::SequenceCheckedToTheLimit,
+    Slip::RefusalBeforeTen,
+    Slip::ListCutToAByte,
+    Slip::LimitCutToAWord,
+    Slip::FieldsClearedOnRefusal,
+    Slip::ByteAfterTheTable,
+    Slip::ByteAfterTheCycle,
+    Slip::SuspectToAll,
+    Slip::LongPlanAccepted,
+];
+
+pub struct Careless {
+    slip: Slip,
+    inner: Second<Right>,
+}
+
+impl Careless {
+    pub fn new(slip: Slip) -> Self {
+        Careless { slip, inner: Second::right() }
+    }
+
+    fn is(&self, slip: Slip) -> bool {
+        self.slip == slip
+    }
+}
+
+impl Checker for Careless {
+    fn check(&mut self, plan: &[u8]) -> u8 {
+        if self.is(Slip::LongPlanAccepted) && plan.len() > 16_731 {
+            return 3;
+        }
+        self.inner.check(plan)
+    }
+
+    fn list(&mut self, plan: &[u8], list: usize, fields: &mut ListFields) -> u8 {
+        let list = if self.is(Slip::ListCutToAByte) { list % 256 } else { list };
+        self.inner.list(plan, list, fields)
+    }
+
+    fn compare(&mut self, plan: &[u8], router: usize, pair: (usize, usize), better: &mut u8) -> u8 {
+        let refusal = self.inner.compare(plan, router, pair, better);
+        if self.is(Slip::FieldsClearedOnRefusal) && refusal != 0 {
+            *better = 0;
+        }
+        refusal
+    }
+
+    fn relies(&mut self, plan: &[u8], list: usize, pair: (usize, usize), relies: &mut u8) -> u8 {
+        self.inner.relies(plan, list, pair, relies)
+    }
+
+    fn verdict(&mut self, plan: &[u8], list: usize, lent: VerdictBuffers, fields: &mut VerdictFields) -> u8 {
+        let VerdictBuffers { labels, ranks, table, cycle } = lent;
+        let again = VerdictBuffers { labels, ranks, table, cycle: &mut *cycle };
+        let refusal = self.inner.verdict(plan, list, again, fields);
+        if refusal == 0 && self.is(Slip::SuspectToAll) {
+            fields.stable = 0;
+        }
+        let after = fields.size as usize;
+        if refusal == 0 && fields.stable == 0 && self.is(Slip::ByteAfterTheCycle) && after < cycle.len() {
+            cycle[after] = 255;
+        }
+        refusal
+    }
+
+    fn activate(&mut self, plan: &[u8], list: usize, router: usize, table: &mut [u8]) -> u8 {
+        let before = table.to_vec();
+        let refusal = self.inner.activate(plan, list, router, table);
+        if refusal == 0 && self.is(Slip::ActLeavesTable) {
+            table.copy_from_slice(&before);
+        }
+        if refusal == 0 && self.is(Slip::ByteAfterTheTable) && table.len() > 2 * usize::from(plan[4]) {
+            table[2 * usize::from(plan[4])] = 0;
+        }
+        if refusal == 9 && self.is(Slip::RefusalBeforeTen) {
+            return 10;
+        }
+        refusal
+    }
+
+    fn run(&mut self, plan: &[u8], list: usize, acts: Acts, table: &mut [u8], fields: &mut RunFields) -> u8 {
+        let length = acts.sequence.len() as u64;
+        let mut acts = acts;
+        match self.slip {
+            Slip::SequenceCheckedToTheLimit if acts.limit < length => {
+                acts.sequence = &acts.sequence[..acts.limit as usize];
+            }
+            Slip::FirstActOnly => acts.limit = acts.limit.min(1),
+            Slip::LimitCutToAWord => acts.limit %= 1 << 32,
+            _ => (),
+        }
+        let refusal = self.inner.run(plan, list, acts, table, fields);
+        if refusal != 0 {
+            return refusal;
+        }
+        match self.slip {
+            Slip::ExhaustedAtTheLimit => fields.exhausted = u8::from(length >= acts.limit),
+            Slip::RoundsByDivision => fields.rounds = fields.applied / u64::from(plan[4]),
+            _ => (),
+        }
+        refusal
+    }
+}

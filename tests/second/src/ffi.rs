@@ -1,0 +1,130 @@
+//! The proved library, linked as a static C library.
+
+use crate::checker::{Acts, Checker, ListFields, RunFields, VerdictBuffers, VerdictFields};
+
+extern "C" {
+    fn rrp_check(plan: *const u8, plan_len: usize) -> u8;
+
+    fn rrp_list(plan: *const u8, plan_len: usize, list: usize, start: *mut u64, count: *mut u64) -> u8;
+
+    fn rrp_compare(
+        plan: *const u8,
+        plan_len: usize,
+        router: usize,
+        first: usize,
+        second: usize,
+        better: *mut u8,
+    ) -> u8;
+
+    fn rrp_relies(plan: *const u8, plan_len: usize, list: usize, router: usize, other: usize, relies: *mut u8) -> u8;
+
+    fn rrp_verdict(
+        plan: *const u8,
+        plan_len: usize,
+        list: usize,
+        labels: *mut u8,
+        labels_len: usize,
+        ranks: *mut u8,
+        ranks_len: usize,
+        table: *mut u8,
+        table_len: usize,
+        cycle: *mut u8,
+        cycle_len: usize,
+        stable: *mut u8,
+        size: *mut u64,
+    ) -> u8;
+
+    fn rrp_activate(
+        plan: *const u8,
+        plan_len: usize,
+        list: usize,
+        router: usize,
+        table: *mut u8,
+        table_len: usize,
+    ) -> u8;
+
+    fn rrp_run(
+        plan: *const u8,
+        plan_len: usize,
+        list: usize,
+        sequence: *const u8,
+        sequence_len: usize,
+        limit: u64,
+        table: *mut u8,
+        table_len: usize,
+        applied: *mut u64,
+        rounds: *mut u64,
+        exhausted: *mut u8,
+    ) -> u8;
+}
+
+/// The linked library. Each pointer handed over comes from a slice or a
+/// reference that lives through the call, with that slice's length.
+pub struct Library;
+
+impl Checker for Library {
+    fn check(&mut self, plan: &[u8]) -> u8 {
+        // SAFETY: the pointer and length are those of one slice.
+        unsafe { rrp_check(plan.as_ptr(), plan.len()) }
+    }
+
+    fn list(&mut self, plan: &[u8], list: usize, fields: &mut ListFields) -> u8 {
+        // SAFETY: as above; the results are two variables of their own.
+        unsafe { rrp_list(plan.as_ptr(), plan.len(), list, &mut fields.start, &mut fields.count) }
+    }
+
+    fn compare(&mut self, plan: &[u8], router: usize, pair: (usize, usize), better: &mut u8) -> u8 {
+        // SAFETY: as above.
+        unsafe { rrp_compare(plan.as_ptr(), plan.len(), router, pair.0, pair.1, better) }
+    }
+
+    fn relies(&mut self, plan: &[u8], list: usize, pair: (usize, usize), relies: &mut u8) -> u8 {
+        // SAFETY: as above.
+        unsafe { rrp_relies(plan.as_ptr(), plan.len(), list, pair.0, pair.1, relies) }
+    }
+
+    fn verdict(&mut self, plan: &[u8], list: usize, lent: VerdictBuffers, fields: &mut VerdictFields) -> u8 {
+        // SAFETY: as above; the four buffers do not overlap.
+        unsafe {
+            rrp_verdict(
+                plan.as_ptr(),
+                plan.len(),
+                list,
+                lent.labels.as_mut_ptr(),
+                lent.labels.len(),
+                lent.ranks.as_mut_ptr(),
+                lent.ranks.len(),
+                lent.table.as_mut_ptr(),
+                lent.table.len(),
+                lent.cycle.as_mut_ptr(),
+                lent.cycle.len(),
+                &mut fields.stable,
+                &mut fields.size,
+            )
+        }
+    }
+
+    fn activate(&mut self, plan: &[u8], list: usize, router: usize, table: &mut [u8]) -> u8 {
+        // SAFETY: as above.
+        unsafe { rrp_activate(plan.as_ptr(), plan.len(), list, router, table.as_mut_ptr(), table.len()) }
+    }
+
+    fn run(&mut self, plan: &[u8], list: usize, acts: Acts, table: &mut [u8], fields: &mut RunFields) -> u8 {
+        // SAFETY: as above.
+        unsafe {
+            rrp_run(
+                plan.as_ptr(),
+                plan.len(),
+                list,
+                acts.sequence.as_ptr(),
+                acts.sequence.len(),
+                acts.limit,
+                table.as_mut_ptr(),
+                table.len(),
+                &mut fields.applied,
+                &mut fields.rounds,
+                &mut fields.exhausted,
+            )
+        }
+    }
+}

@@ -1,0 +1,269 @@
+//! Random plans of several shapes.
+
+use crate::plan::{Router, FIRST_BODY, LONGEST_PLAN, MOST_LISTS, MOST_ROUTERS};
+use crate::random::Random;
+use std::collections::BTreeSet;
+
+/// A plan before it becomes bytes.
+#[derive(Clone)]
+pub struct Draft {
+    pub reflector: Vec<bool>,
+    pub identifiers: Vec<u32>,
+    pub sessions: BTreeSet<(Router, Router)>,
+    pub distances: Vec<Vec<u16>>,
+    pub lists: Vec<BTreeSet<Router>>,
+}
+
+/// The four bodies of a plan and its router count.
+#[derive(Clone)]
+pub struct Bodies {
+    pub n: u8,
+    pub bodies: [Vec<u8>; 4],
+}
+
+impl Draft {
+    pub fn bodies(&self) -> Bodies {
+        let role = |&reflector: &bool| if reflector { 1 } else { 2 };
+        let routers = self.reflector.iter().zip(&self.identifiers);
+        let lists = self
+            .lists
+            .iter()
+            .flat_map(|list| [list.len() as u8].into_iter().chain(list.iter().map(|&router| router as u8)));
+        Bodies {
+            n: self.reflector.len() as u8,
+            bodies: [
+                routers
+                    .flat_map(|(reflector, id)| [vec![role(reflector)], id.to_le_bytes().to_vec()].concat())
+                    .collect(),
+                self.sessions.iter().flat_map(|&(one, other)| [one as u8, other as u8]).collect(),
+                self.distances.iter().flatten().flat_map(|distance| distance.to_le_bytes()).collect(),
+                [self.lists.len() as u8].into_iter().chain(lists).collect(),
+            ],
+        }
+    }
+
+    pub fn bytes(&self) -> Vec<u8> {
+        self.bodies().bytes()
+    }
+}
+
+impl Bodies {
+    pub fn bytes(&self) -> Vec<u8> {
+        let mut plan = [b"RRP1".as_slice(), &[self.n, 4]].concat();
+        let mut offset = FIRST_BODY;
+        for (kind, body) in (1u8..).zip(&self.bodies) {
+            plan.push(kind);
+            plan.extend((offset as u16).to_le_bytes());
+            plan.extend((body.len() as u16).to_le_bytes());
+            offset += body.len();
+        }
+        plan.extend(self.bodies.concat());
+        plan
+    }
+}
+
+/// A random sound plan.
+pub fn draft(random: &mut Random) -> Draft {
+    let n = router_count(random);
+    draft_of(random, n)
+}
+
+/// A random sound plan with `n` routers.
+pub fn draft_of(random: &mut Random, n: usize) -> Draft {
+    let topology = topology(random, n);
+    let distances = distances(random, &topology);
+    let (reflector, sessions) = topology;
+    let lists = lists(random, &reflector);
+    Draft { identifiers: identifiers(random, n), reflector, sessions, distances, lists }
+}
+
+/// The largest plan: 64 routers, all sessions, 64 full lists.
+pub fn largest(random: &mut Random) -> Draft {
+    let n = MOST_ROUTERS;
+    let topology = ((0..n).map(|router| router % 2 == 0).collect(), all_pairs(n).collect());
+    let distances = distances(random, &topology);
+    let (reflector, sessions) = topology;
+    let lists = vec![(0..n).collect(); MOST_LISTS];
+    let draft = Draft { identifiers: identifiers(random, n), reflector, sessions, distances, lists };
+    debug_assert_eq!(draft.bytes().len(), LONGEST_PLAN);
+    draft
+}
+
+fn router_count(random: &mut Random) -> usize {
+    match random.below(20) {
+        0..=1 => random.between(1, 6),
+        2..=9 => random.between(5, 10),
+        10..=16 => random.between(8, 20),
+        17..=18 => random.between(20, 62),
+        _ => random.pick(&[31, 32, 33, 63, 64]),
+    }
+}
+
+fn identifiers(random: &mut Random, n: usize) -> Vec<u32> {
+    let mut chosen = BTreeSet::new();
+    if random.chance(20) {
+        chosen.extend([0, u32::MAX].into_iter().take(n));
+    }
+    // Either all over the range or close together, across byte bounds.
+    let (base, mask) = if random.chance(50) { (0, u32::MAX) } else { (random.word() as u32 & 0x7FFF_FF00, 0x3FF) };
+    while chosen.len() < n {
+        chosen.insert(base + (random.word() as u32 & mask));
+    }
+    chosen.into_iter().collect()
+}
+
+fn all_pairs(n: usize) -> impl Iterator<Item = (Router, Router)> {
+    (0..n).flat_map(move |one| (one + 1..n).map(move |other| (one, other)))
+}
+
+type Topology = (Vec<bool>, BTreeSet<(Router, Router)>);
+
+fn topology(random: &mut Random, n: usize) -> Topology {
+    match random.below(16) {
+        0 => scattered(random, n, 75),
+        1 => {
+            let percent = random.pick(&[0, 15, 100]);
+            scattered(random, n, percent)
+        }
+        2 => scattered(random, n, (250 / n).min(100)),
+        3..=5 => ring_of_reflectors(random, n),
+        _ => mesh_of_reflectors(random, n),
+    }
+}
+
+/// Random roles; each session is there with the given chance.
+fn scattered(random: &mut Random, n: usize, percent: usize) -> Topology {
+    let share = random.pick(&[0, 30, 50, 70, 100]);
+    let reflector = (0..n).map(|_| random.chance(share)).collect();
+    (reflector, all_pairs(n).filter(|_| random.chance(percent)).collect())
+}
+
+fn ordered(one: Router, other: Router) -> (Router, Router) {
+    (one.min(other), one.max(other))
+}
+
+/// Chooses which routers are reflectors: `count` of them, anywhere.
+fn choose_reflectors(random: &mut Random, n: usize, count: usize) -> (Vec<Router>, Vec<Router>) {
+    let mut routers: Vec<Router> = (0..n).collect();
+    random.shuffle(&mut routers);
+    let clients = routers.split_off(count);
+    if random.chance(50) {
+        routers.sort_unstable();
+    }
+    (routers, clients)
+}
+
+fn roles(n: usize, reflectors: &[Router]) -> Vec<bool> {
+    (0..n).map(|router| reflectors.contains(&router)).collect()
+}
+
+/// Reflectors in a ring, each with clients of its own.
+fn ring_of_reflectors(random: &mut Random, n: usize) -> Topology {
+    let count = random.between(1, n.div_ceil(2));
+    let (reflectors, clients) = choose_reflectors(random, n, count);
+    let mut sessions = BTreeSet::new();
+    for place in 1..=count {
+        let (one, other) = (reflectors[place - 1], reflectors[place % count]);
+        if one != other {
+            sessions.insert(ordered(one, other));
+        }
+    }
+    for (place, &client) in clients.iter().enumerate() {
+        sessions.insert(ordered(client, reflectors[place % count]));
+    }
+    (roles(n, &reflectors), sessions)
+}
+
+/// Reflectors in a mesh, full or with gaps; clients own or shared, and at
+/// times sessions between clients.
+fn mesh_of_reflectors(random: &mut Random, n: usize) -> Topology {
+    let count = random.between(n.div_ceil(4), (2 * n).div_ceil(3));
+    let (reflectors, clients) = choose_reflectors(random, n, count);
+    let kept = random.pick(&[100, 100, 100, 60]);
+    let shared = random.pick(&[0, 0, 10, 40]);
+    let between_clients = random.pick(&[0, 0, 5, 20]);
+    let is_reflector = roles(n, &reflectors);
+    let mut sessions: BTreeSet<(Router, Router)> = all_pairs(n)
+        .filter(|&(one, other)| match (is_reflector[one], is_reflector[other]) {
+            (true, true) => random.chance(kept),
+            (false, false) => random.chance(between_clients),
+            _ => false,
+        })
+        .collect();
+    for (place, &client) in clients.iter().enumerate() {
+        let first = if random.chance(60) { reflectors[place % count] } else { random.pick(&reflectors) };
+        sessions.insert(ordered(client, first));
+        while random.chance(shared) {
+            sessions.insert(ordered(client, random.pick(&reflectors)));
+        }
+    }
+    (is_reflector, sessions)
+}
+
+/// The neighbouring reflector with the next higher number, around the end.
+fn favoured(draft: &Topology, router: Router) -> Option<Router> {
+    let (reflector, sessions) = draft;
+    let near: Vec<Router> = (0..reflector.len())
+        .filter(|&other| reflector[other] && sessions.contains(&ordered(router, other)))
+        .collect();
+    near.iter().find(|&&other| other > router).or(near.first()).copied()
+}
+
+fn distances(random: &mut Random, topology: &Topology) -> Vec<Vec<u16>> {
+    let sessions = &topology.1;
+    let n = topology.0.len();
+    let style = random.pick(&[0, 1, 1, 1, 1, 2, 2, 2, 3, 4, 5, 6, 7, 7, 7, 7, 7, 8, 8, 8, 8, 9, 9, 9, 9]);
+    let positions: Vec<usize> = (0..n).map(|_| random.below(200)).collect();
+    let spread = random.between(0, 12);
+    let mut row = |from: Router| {
+        let favoured = favoured(topology, from);
+        let beside = |router: Router, to: Router| sessions.contains(&ordered(router, to));
+        let mut distance = |to: Router| match style {
+            0 => random.below(3),
+            1 => random.below(20),
+            2 => random.below(65_535),
+            3 => random.pick(&[0, 1, 255, 256, 65_533, 65_534]),
+            // Nearly the same order of preference everywhere: high ranks.
+            4 => positions[to] + random.below(2),
+            5 => positions[to] + random.below(60),
+            6 => positions[from].abs_diff(positions[to]),
+            // Ten to the neighbours, near it to the others.
+            7 if beside(from, to) => 10,
+            7 => 4 + random.below(spread + 1),
+            // Nearest to the clients of one other reflector: long cycles.
+            8 if beside(from, to) => 10,
+            8 if favoured.is_some_and(|other| beside(other, to)) => 6,
+            8 => 14,
+            _ => random.pick(&[6, 9, 10, 10, 14]),
+        };
+        (0..n).map(|to| if from == to { 0 } else { distance(to) as u16 }).collect()
+    };
+    (0..n).map(&mut row).collect()
+}
+
+fn lists(random: &mut Random, reflector: &[bool]) -> Vec<BTreeSet<Router>> {
+    let count = match random.below(40) {
+        0..=15 => 1,
+        16..=37 => random.between(2, 4),
+        38 => random.between(5, 63),
+        _ => MOST_LISTS,
+    };
+    (0..count).map(|_| egress_list(random, reflector)).collect()
+}
+
+fn egress_list(random: &mut Random, reflector: &[bool]) -> BTreeSet<Router> {
+    let n = reflector.len();
+    let shares = [(100, 0), (100, 2), (95, 0), (90, 2), (75, 0), (75, 5), (50, 10), (50, 50), (15, 15), (0, 0)];
+    // Most lists name all clients or nearly all.
+    let kinds = if random.chance(70) { 4 } else { shares.len() };
+    let (clients, reflectors) = random.pick(&shares[..kinds]);
+    let mut listed: BTreeSet<Router> =
+        (0..n).filter(|&router| random.chance(if reflector[router] { reflectors } else { clients })).collect();
+    if listed.is_empty() {
+        listed.insert(random.below(n));
+    }
+    if random.chance(2) {
+        listed.extend(0..n);
+    }
+    listed
+}

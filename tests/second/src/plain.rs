@@ -1,0 +1,114 @@
+//! A plain checker in ordinary array code: the yardstick of the bench. It is
+//! held against the second checker too.
+
+// Loops over router numbers are the plain way here.
+#![allow(clippy::needless_range_loop)]
+
+mod reader;
+mod rules;
+mod verdict;
+
+use crate::checker::{Acts, Checker, ListFields, RunFields, VerdictBuffers, VerdictFields};
+use reader::read;
+use verdict::verdict;
+
+const MOST: usize = 64;
+const NOTHING: u8 = 255;
+
+type Matrix = [[bool; MOST]; MOST];
+
+fn run(bytes: &[u8], list: usize, acts: Acts, table: &mut [u8]) -> Result<RunFields, u8> {
+    let plan = read(bytes)?;
+    let listed = plan.listed(list)?;
+    if acts.sequence.iter().any(|&router| usize::from(router) >= plan.n) {
+        return Err(8);
+    }
+    plan.check_table(&listed, table)?;
+    let length = acts.sequence.len() as u64;
+    let applied = length.min(acts.limit);
+    let mut acted = [false; MOST];
+    let (mut missing, mut rounds) = (plan.n, 0);
+    for &router in &acts.sequence[..applied as usize] {
+        let router = usize::from(router);
+        plan.activate(&listed, table, router);
+        if !acted[router] {
+            acted[router] = true;
+            missing -= 1;
+        }
+        if missing == 0 {
+            acted = [false; MOST];
+            missing = plan.n;
+            rounds += 1;
+        }
+    }
+    Ok(RunFields { applied, rounds, exhausted: u8::from(length > acts.limit) })
+}
+
+/// Stores the result, or gives the refusal number and leaves it as it was.
+fn store<T>(result: Result<T, u8>, into: &mut T) -> u8 {
+    match result {
+        Ok(value) => {
+            *into = value;
+            0
+        }
+        Err(refusal) => refusal,
+    }
+}
+
+pub struct Plain;
+
+impl Checker for Plain {
+    fn check(&mut self, plan: &[u8]) -> u8 {
+        read(plan).err().unwrap_or(0)
+    }
+
+    fn list(&mut self, plan: &[u8], list: usize, fields: &mut ListFields) -> u8 {
+        let found = read(plan).and_then(|plan| plan.list(list));
+        store(found.map(|(start, count)| ListFields { start: start as u64, count: count as u64 }), fields)
+    }
+
+    fn compare(&mut self, plan: &[u8], router: usize, pair: (usize, usize), better: &mut u8) -> u8 {
+        let compare = || {
+            let plan = read(plan)?;
+            let (at, e, f) = (plan.router(router)?, plan.router(pair.0)?, plan.router(pair.1)?);
+            Ok(if e == f {
+                0
+            } else if plan.better(at, e, f) {
+                1
+            } else {
+                2
+            })
+        };
+        store(compare(), better)
+    }
+
+    fn relies(&mut self, plan: &[u8], list: usize, pair: (usize, usize), relies: &mut u8) -> u8 {
+        let answer = || {
+            let plan = read(plan)?;
+            let listed = plan.listed(list)?;
+            let (u, v) = (plan.router(pair.0)?, plan.router(pair.1)?);
+            Ok(u8::from(plan.relies(&listed, &plan.best_clients(&listed), u, v)))
+        };
+        store(answer(), relies)
+    }
+
+    fn verdict(&mut self, plan: &[u8], list: usize, lent: VerdictBuffers, fields: &mut VerdictFields) -> u8 {
+        store(verdict(plan, list, lent), fields)
+    }
+
+    fn activate(&mut self, plan: &[u8], list: usize, router: usize, table: &mut [u8]) -> u8 {
+        let mut act = || {
+            let plan = read(plan)?;
+            let listed = plan.listed(list)?;
+            let router = plan.router(router)?;
+            plan.check_table(&listed, table)?;
+            plan.activate(&listed, table, router);
+            Ok(())
+        };
+        act().err().unwrap_or(0)
+    }
+
+    fn run(&mut self, plan: &[u8], list: usize, acts: Acts, table: &mut [u8], fields: &mut RunFields) -> u8 {
+        store(run(plan, list, acts, table), fields)
+    }
+}

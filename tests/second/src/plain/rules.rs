@@ -1,0 +1,139 @@
+//! Choosing, announcing and reliance in array code.
+
+use super::reader::{word, PlanView};
+use super::{MOST, NOTHING};
+
+impl PlanView<'_> {
+    fn distance(&self, u: usize, e: usize) -> usize {
+        word(self.distances, 2 * (u * self.n + e))
+    }
+
+    pub fn better(&self, at: usize, e: usize, f: usize) -> bool {
+        let (to_e, to_f) = (self.distance(at, e), self.distance(at, f));
+        to_e < to_f || (to_e == to_f && e < f)
+    }
+
+    /// Start in the plan and count of a list.
+    pub fn list(&self, list: usize) -> Result<(usize, usize), u8> {
+        if list >= usize::from(self.lists[0]) {
+            return Err(8);
+        }
+        let mut at = 1;
+        for _ in 0..list {
+            at += 1 + usize::from(self.lists[at]);
+        }
+        Ok((self.lists_at + at + 1, usize::from(self.lists[at])))
+    }
+
+    pub fn listed(&self, list: usize) -> Result<[bool; MOST], u8> {
+        let (start, count) = self.list(list)?;
+        let from = start - self.lists_at;
+        let mut listed = [false; MOST];
+        for &router in &self.lists[from..from + count] {
+            listed[usize::from(router)] = true;
+        }
+        Ok(listed)
+    }
+
+    pub fn router(&self, router: usize) -> Result<usize, u8> {
+        if router < self.n {
+            Ok(router)
+        } else {
+            Err(8)
+        }
+    }
+
+    pub fn best_client(&self, listed: &[bool; MOST], r: usize) -> Option<usize> {
+        let mut best = None;
+        for c in 0..self.n {
+            if self.neighbour[r][c] && !self.reflector[c] && listed[c] && best.is_none_or(|b| self.better(r, c, b)) {
+                best = Some(c);
+            }
+        }
+        best
+    }
+
+    pub fn best_clients(&self, listed: &[bool; MOST]) -> [Option<usize>; MOST] {
+        let mut best = [None; MOST];
+        for r in 0..self.n {
+            if self.reflector[r] {
+                best[r] = self.best_client(listed, r);
+            }
+        }
+        best
+    }
+
+    pub fn relies(&self, listed: &[bool; MOST], best: &[Option<usize>; MOST], u: usize, v: usize) -> bool {
+        if listed[u] || !self.neighbour[u][v] {
+            return false;
+        }
+        if !self.reflector[u] {
+            return self.reflector[v] || listed[v];
+        }
+        if !self.reflector[v] {
+            return best[u] == Some(v);
+        }
+        let offer = if listed[v] { Some(v) } else { best[v] };
+        match (offer, best[u]) {
+            (Some(offer), Some(own)) => self.better(u, offer, own),
+            (offer, None) => offer.is_some(),
+            (None, _) => false,
+        }
+    }
+
+    pub fn check_table(&self, listed: &[bool; MOST], table: &[u8]) -> Result<(), u8> {
+        if table.len() < 2 * self.n {
+            return Err(9);
+        }
+        for u in 0..self.n {
+            let (egress, sender) = (usize::from(table[2 * u]), usize::from(table[2 * u + 1]));
+            let sound = if listed[u] {
+                egress == u && sender == u
+            } else if egress == 255 && sender == 255 {
+                true
+            } else {
+                egress < self.n && sender < self.n && self.neighbour[u][sender]
+            };
+            if !sound {
+                return Err(10);
+            }
+        }
+        Ok(())
+    }
+
+    pub fn activate(&self, listed: &[bool; MOST], table: &mut [u8], w: usize) {
+        if listed[w] {
+            return;
+        }
+        let mut best: Option<(usize, usize)> = None;
+        for v in 0..self.n {
+            if !self.neighbour[w][v] {
+                continue;
+            }
+            let Some(egress) = self.announced(listed, table, v, w) else { continue };
+            let takes = match best {
+                None => true,
+                Some((held, _)) if held == egress => v == egress,
+                Some((held, _)) => self.better(w, egress, held),
+            };
+            if takes {
+                best = Some((egress, v));
+            }
+        }
+        let (egress, sender) = best.map_or((NOTHING, NOTHING), |(e, s)| (e as u8, s as u8));
+        table[2 * w] = egress;
+        table[2 * w + 1] = sender;
+    }
+
+    fn announced(&self, listed: &[bool; MOST], table: &[u8], from: usize, to: usize) -> Option<usize> {
+        if listed[from] {
+            return Some(from);
+        }
+        if !self.reflector[from] || table[2 * from] == NOTHING {
+            return None;
+        }
+        let sender = usize::from(table[2 * from + 1]);
+        let told = if self.reflector[sender] { !self.reflector[to] } else { sender != to };
+        told.then(|| usize::from(table[2 * from]))
+    }
+}

@@ -1,0 +1,162 @@
+//! Reads the bytes of a plan into sets; gives refusals 1 to 7.
+
+use std::collections::BTreeSet;
+
+/// A router's number: its place in the plan, from 0.
+pub type Router = usize;
+
+/// The routers an egress list names.
+pub type Listed = BTreeSet<Router>;
+
+pub const LONGEST_PLAN: usize = 16_731;
+pub const FIRST_BODY: usize = 26;
+pub const MOST_ROUTERS: usize = 64;
+pub const MOST_LISTS: usize = 64;
+pub const NO_DISTANCE: u16 = 65_535;
+
+/// An egress list, and where in the plan its router numbers start.
+pub struct EgressList {
+    pub start: usize,
+    pub listed: Listed,
+}
+
+pub struct Plan {
+    pub n: usize,
+    pub reflectors: BTreeSet<Router>,
+    pub neighbours: Vec<BTreeSet<Router>>,
+    pub distances: Vec<Vec<u16>>,
+    pub lists: Vec<EgressList>,
+    places: Vec<Vec<usize>>,
+}
+
+impl Plan {
+    pub fn is_reflector(&self, router: Router) -> bool {
+        self.reflectors.contains(&router)
+    }
+
+    pub fn are_neighbours(&self, one: Router, other: Router) -> bool {
+        self.neighbours[one].contains(&other)
+    }
+
+    /// The place of an egress router in the order of preference at `at`: all
+    /// routers sorted by distance, then by number. Place 0 is the best.
+    pub fn place(&self, at: Router, egress: Router) -> usize {
+        self.places[at][egress]
+    }
+}
+
+/// Reads a plan, or gives the number of its refusal.
+pub fn read(bytes: &[u8]) -> Result<Plan, u8> {
+    read_letters(bytes)?;
+    let n = read_router_count(bytes)?;
+    let [routers, sessions, distances, lists] = read_contents(bytes, n)?;
+    let reflectors = read_routers(routers)?;
+    let neighbours = read_sessions(sessions, n)?;
+    let distances = read_distances(distances, n)?;
+    let lists = read_lists(lists, bytes.len() - lists.len(), n)?;
+    let places = distances.iter().map(|row| order_of_preference(row)).collect();
+    Ok(Plan { n, reflectors, neighbours, distances, lists, places })
+}
+
+fn read_letters(bytes: &[u8]) -> Result<(), u8> {
+    let length_fits = (FIRST_BODY..=LONGEST_PLAN).contains(&bytes.len());
+    let sound = length_fits && bytes.starts_with(b"RRP1") && bytes[5] == 4;
+    sound.then_some(()).ok_or(1)
+}
+
+fn read_router_count(bytes: &[u8]) -> Result<usize, u8> {
+    let n = usize::from(bytes[4]);
+    (1..=MOST_ROUTERS).contains(&n).then_some(n).ok_or(2)
+}
+
+/// Cuts the plan into its four bodies, as the table of contents says.
+fn read_contents(bytes: &[u8], n: usize) -> Result<[&[u8]; 4], u8> {
+    let (head, mut rest) = bytes.split_at(FIRST_BODY);
+    let mut bodies: [&[u8]; 4] = [&[]; 4];
+    for (place, entry) in head[6..].chunks_exact(5).enumerate() {
+        let offset = usize::from(u16::from_le_bytes([entry[1], entry[2]]));
+        let length = usize::from(u16::from_le_bytes([entry[3], entry[4]]));
+        let kind_fits = usize::from(entry[0]) == place + 1;
+        let offset_fits = offset + rest.len() == bytes.len();
+        if !kind_fits || !offset_fits || length > rest.len() {
+            return Err(3);
+        }
+        (bodies[place], rest) = rest.split_at(length);
+    }
+    let lengths_fit = bodies[0].len() == 5 * n && bodies[1].len().is_multiple_of(2) && bodies[2].len() == 2 * n * n;
+    (rest.is_empty() && lengths_fit).then_some(bodies).ok_or(3)
+}
+
+/// A sequence rises strictly exactly if it equals its own sorted set.
+fn rises<T: Ord>(sequence: &[T]) -> bool {
+    sequence.iter().collect::<BTreeSet<_>>().into_iter().eq(sequence.iter())
+}
+
+fn read_routers(body: &[u8]) -> Result<BTreeSet<Router>, u8> {
+    let entries = body.chunks_exact(5);
+    let roles: Vec<u8> = entries.clone().map(|entry| entry[0]).collect();
+    let identifiers: Vec<u32> =
+        entries.map(|entry| entry[1..].iter().rev().fold(0, |sum, &byte| sum << 8 | u32::from(byte))).collect();
+    if !roles.iter().all(|role| [1, 2].contains(role)) || !rises(&identifiers) {
+        return Err(4);
+    }
+    Ok(roles.iter().enumerate().filter(|(_, &role)| role == 1).map(|(router, _)| router).collect())
+}
+
+fn read_sessions(body: &[u8], n: usize) -> Result<Vec<BTreeSet<Router>>, u8> {
+    let pairs: Vec<(Router, Router)> =
+        body.chunks_exact(2).map(|pair| (usize::from(pair[0]), usize::from(pair[1]))).collect();
+    if !rises(&pairs) || pairs.iter().any(|&(one, other)| one >= other || other >= n) {
+        return Err(5);
+    }
+    let mut neighbours = vec![BTreeSet::new(); n];
+    for (one, other) in pairs {
+        neighbours[one].insert(other);
+        neighbours[other].insert(one);
+    }
+    Ok(neighbours)
+}
+
+fn read_distances(body: &[u8], n: usize) -> Result<Vec<Vec<u16>>, u8> {
+    let all: Vec<u16> = body.chunks_exact(2).map(|pair| u16::from(pair[0]) + 256 * u16::from(pair[1])).collect();
+    let rows: Vec<Vec<u16>> = all.chunks_exact(n).map(<[u16]>::to_vec).collect();
+    let diagonal_is_nought = rows.iter().enumerate().all(|(router, row)| row[router] == 0);
+    (diagonal_is_nought && !all.contains(&NO_DISTANCE)).then_some(rows).ok_or(6)
+}
+
+fn read_lists(body: &[u8], body_start: usize, n: usize) -> Result<Vec<EgressList>, u8> {
+    let (&m, mut rest) = body.split_first().ok_or(7)?;
+    let m = usize::from(m);
+    if !(1..=MOST_LISTS).contains(&m) {
+        return Err(7);
+    }
+    let mut lists = Vec::new();
+    while lists.len() < m {
+        let (&count, after) = rest.split_first().ok_or(7)?;
+        let count = usize::from(count);
+        if count == 0 || count > n || count > after.len() {
+            return Err(7);
+        }
+        let start = body_start + body.len() - after.len();
+        let (numbers, remaining) = after.split_at(count);
+        lists.push(EgressList { start, listed: read_listed(numbers, n)? });
+        rest = remaining;
+    }
+    rest.is_empty().then_some(lists).ok_or(7)
+}
+
+fn read_listed(numbers: &[u8], n: usize) -> Result<Listed, u8> {
+    let listed: Listed = numbers.iter().map(|&number| usize::from(number)).collect();
+    let below = listed.last().is_none_or(|&highest| highest < n);
+    (below && rises(numbers)).then_some(listed).ok_or(7)
+}
+
+/// For each egress router its place among all, by distance and then number.
+fn order_of_preference(row: &[u16]) -> Vec<usize> {
+    let order: BTreeSet<(u16, Router)> = row.iter().copied().zip(0..).collect();
+    let mut places = vec![0; row.len()];
+    for (place, (_, egress)) in order.into_iter().enumerate() {
+        places[egress] = place;
+    }
+    places
+}

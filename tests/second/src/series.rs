@@ -1,0 +1,166 @@
+//! Series of act and run calls on one table, refused ones among them, until
+//! the rounds make the highest rank plus two; then the table is the verdict's.
+
+use crate::arguments;
+use crate::calls::Outcome;
+use crate::checker::{Answer, Call};
+use crate::compare::{hex, Comparison, Mismatch};
+use crate::plan::{self, Plan};
+use crate::random::Random;
+use crate::rules::Case;
+use crate::simulate::Rounds;
+
+/// How the acts of a series are drawn.
+#[derive(Clone, Copy)]
+enum Turns {
+    /// Always in the same turn.
+    Fixed,
+    /// Each round in a new order.
+    Shuffled,
+    /// Drawn singly, the same one as often as it falls.
+    Drawn,
+    /// One router acts seldom.
+    OneSeldom,
+}
+
+struct Series<'a> {
+    bytes: &'a [u8],
+    case: Case<'a>,
+    list: usize,
+    turns: Turns,
+    order: Vec<usize>,
+    place: usize,
+    table: Vec<u8>,
+    rounds: Rounds,
+    acts: u64,
+}
+
+/// Holds one series for a list whose verdict is stable.
+pub fn hold(
+    comparison: &mut Comparison,
+    random: &mut Random,
+    bytes: &[u8],
+    plan: &Plan,
+    list: usize,
+    verdict: &Answer,
+) -> Outcome {
+    let mut series = Series::new(random, bytes, plan, list);
+    let start = series.table.clone();
+    let needed = verdict.fields[1] + 2;
+    while series.rounds.whole < needed {
+        series.step(comparison, random)?;
+    }
+    let mut settled = verdict.buffers[2][..2 * plan.n].to_vec();
+    settled.extend(&start[2 * plan.n..]);
+    for more in 0..6 {
+        if series.table != settled {
+            return Err(series.unsettled(&start, &settled, more));
+        }
+        series.step(comparison, random)?;
+    }
+    comparison.counts.series += 1;
+    comparison.counts.acts_in_series += series.acts;
+    Ok(())
+}
+
+impl<'a> Series<'a> {
+    fn new(random: &mut Random, bytes: &'a [u8], plan: &'a Plan, list: usize) -> Self {
+        let case = Case { plan, listed: &plan.lists[list].listed };
+        let mut order: Vec<usize> = (0..plan.n).collect();
+        random.shuffle(&mut order);
+        Series {
+            bytes,
+            case,
+            list,
+            turns: random.pick(&[Turns::Fixed, Turns::Shuffled, Turns::Shuffled, Turns::Drawn, Turns::OneSeldom]),
+            order,
+            place: 0,
+            table: arguments::table_buffer(random, case),
+            rounds: Rounds::new(plan.n),
+            acts: 0,
+        }
+    }
+
+    fn next_router(&mut self, random: &mut Random) -> usize {
+        let n = self.order.len();
+        match self.turns {
+            Turns::Drawn => return random.below(n),
+            Turns::OneSeldom if n > 1 && random.below(2 * n) > 0 => return self.order[random.below(n - 1)],
+            Turns::OneSeldom => return self.order[n - 1],
+            Turns::Shuffled if self.place.is_multiple_of(n) => random.shuffle(&mut self.order),
+            _ => (),
+        }
+        self.place += 1;
+        self.order[(self.place - 1) % n]
+    }
+
+    /// One call: an act, a run, or one that is refused.
+    fn step(&mut self, comparison: &mut Comparison, random: &mut Random) -> Outcome {
+        match random.below(10) {
+            0..=2 => {
+                let router = self.next_router(random);
+                let call = Call::Activate { list: self.list, router, table: self.table.clone() };
+                self.apply(comparison, &call, &[router as u8])
+            }
+            3 => self.refused_step(comparison, random),
+            _ => {
+                let length = random.below(2 * self.order.len() + 2);
+                let sequence: Vec<u8> = (0..length).map(|_| self.next_router(random) as u8).collect();
+                let limit = if random.chance(70) { u64::MAX } else { arguments::limit(random, length) };
+                let applied = limit.min(length as u64) as usize;
+                let call =
+                    Call::Run { list: self.list, sequence: sequence.clone(), limit, table: self.table.clone() };
+                self.apply(comparison, &call, &sequence[..applied])
+            }
+        }
+    }
+
+    /// A call that is refused, and so adds no act and changes no byte.
+    fn refused_step(&mut self, comparison: &mut Comparison, random: &mut Random) -> Outcome {
+        let (n, m) = (self.case.plan.n, self.case.plan.lists.len());
+        let mut bytes = self.bytes.to_vec();
+        let mut table = self.table.clone();
+        let mut list = self.list;
+        let mut router = random.below(n);
+        let mut sequence = arguments::sequence(random, n);
+        match random.below(5) {
+            0 => list = arguments::past(random, m),
+            1 => (router, sequence) = (arguments::past(random, n), arguments::strange_sequence(random, n)),
+            2 => table.truncate(arguments::short(random, 2 * n)),
+            3 => bytes.truncate(random.below(bytes.len())),
+            _ => bytes[random.below(26)] ^= 1 << random.below(8),
+        }
+        if bytes != self.bytes && plan::read(&bytes).is_ok() {
+            return Ok(());
+        }
+        let limit = arguments::limit(random, sequence.len());
+        let call = match random.below(2) {
+            0 => Call::Activate { list, router, table },
+            _ => Call::Run { list, sequence, limit, table },
+        };
+        let answer = comparison.call(&bytes, &call)?;
+        let left = &answer.buffers[0];
+        self.table[..left.len()].copy_from_slice(left);
+        Ok(())
+    }
+
+    fn apply(&mut self, comparison: &mut Comparison, call: &Call, acts: &[u8]) -> Outcome {
+        let answer = comparison.call(self.bytes, call)?;
+        self.table.clone_from(&answer.buffers[0]);
+        self.acts += acts.len() as u64;
+        acts.iter().for_each(|&router| self.rounds.act(usize::from(router)));
+        Ok(())
+    }
+
+    fn unsettled(&self, start: &[u8], settled: &[u8], more: usize) -> Box<Mismatch> {
+        Box::new(Mismatch(format!(
+            "plan {}\nseries for list {} of {} acts and {} rounds, {more} calls after the last round needed\n\
+             first table {start:?}\nlast table  {:?}\nsettled     {settled:?}",
+            hex(self.bytes),
+            self.list,
+            self.acts,
+            self.rounds.whole,
+            self.table
+        )))
+    }
+}
