@@ -1,5 +1,6 @@
 -- Laws of `best`: it is the best candidate below the bound, and there is only one.
-use Prim.Native.Nat.{ℕ, zero, suc, _<_, _≤_}
+use Prim.Native.Nat.{ℕ, zero, suc, _+_, _<_, _≤_}
+use native.Mathlib.Numerals.{add-one}
 use native.Mathlib.Omega.{arith}
 use mathlib.Core.Path.{_≡_, refl, _∙_, sym, ap}
 use mathlib.Core.Bool.{Bool, true, false, not, cond}
@@ -95,6 +96,32 @@ module _ (before : ℕ → ℕ → Bool) (o : StrictOrder before) where
     best-unique n (some a) none g h = not-both (P a) (g .among) (h a (g .below))
     best-unique n (some a) (some b) g h =
         ap some (order-same a b (h .unbeaten a (g .below) (g .among)) (g .unbeaten b (h .below) (h .among)))
+
+-- one candidate more, case by case, as a loop meets it
+module _ (before : ℕ → ℕ → Bool) (k : ℕ) where
+  pub keep-none : (b : Option ℕ) → keepBest before false k b ≡ b
+  unfolding keepBest
+  keep-none b = refl
+
+  pub keep-only : keepBest before true k none ≡ some k
+  unfolding keepBest
+  keep-only = refl
+
+  pub keep-new : (b : ℕ) → before k b ≡ true → keepBest before true k (some b) ≡ some k
+  unfolding keepBest
+  keep-new b h = cc
+
+  pub keep-old : (b : ℕ) → before k b ≡ false → keepBest before true k (some b) ≡ some b
+  unfolding keepBest
+  keep-old b h = cc
+
+pub best-start : (before : ℕ → ℕ → Bool) (P : ℕ → Bool) → best before P 0 ≡ none
+unfolding best
+best-start before P = refl
+
+pub best-more : (before : ℕ → ℕ → Bool) (P : ℕ → Bool) (n : ℕ) → best before P (n + 1) ≡ keepBest before (P n) n (best before P n)
+unfolding best
+best-more before P n = ap (best before P) (add-one n)
 
 -- the order of the numbers themselves
 pub ltb-order : StrictOrder ltb

@@ -4,10 +4,10 @@ use native.Mathlib.Omega.{arith}
 use mathlib.Core.Path.{_≡_, _∙_, ap}
 use mathlib.Core.List.{List}
 use mathlib.Core.Logic.{_⊎_, inl, inr, ⊎-elim}
-use native.Mathlib.Nat.{zero-div, div-self, div-eq-of-lt}
+use native.Mathlib.Nat.{zero-div, div-self, div-eq-of-lt, lt-of-lt-of-le}
 use lib.ListN.{length, List·getD-eq-default}
 use lib.Bits.{bitOr, or-step, or-shr}
-use lib.Pow.{pow-pos, pow-lt, pow-add, shl-shr}
+use lib.Pow.{pow-pos, pow-lt, pow-mono, pow-add, shl-shr}
 use Rattle.base.specs.Bits.{bitN, bits}
 use Rattle.base.proofs.Numbers.{lt-or-le}
 
@@ -45,3 +45,7 @@ bit-in rows i j h =
     let e : bits rows i j ≡ 0 = ap (λ x. bitN x j) (List·getD-eq-default rows 0 l) ∙ ap (λ x. x % 2) (zero-div (2 ^ j)) in
     absurd (omega arith))
     (lt-or-le i (length rows))
+
+-- nor past the last bit of a word
+pub bit-past : (k x j : ℕ) → x < 2 ^ k → k ≤ j → bitN x j ≡ 0
+bit-past k x j h l = ap (λ y. y % 2) (div-eq-of-lt (lt-of-lt-of-le h (pow-mono l)))

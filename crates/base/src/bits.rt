@@ -3,6 +3,7 @@
 ghost use mathlib.Core.Path.{_≡_};
 ghost use Prim.Native.Nat.{_<_, _^_};
 ghost use lib.Bits.{bitOr};
+ghost use lib.Dec.{eqb};
 ghost use Rattle.base.specs.Bits.{bitN, withBit};
 
 // Bit j of x.
@@ -11,6 +12,14 @@ pub fn bit(x: u64, j: usize) -> u64
     ensures { λ r. ⌜ r ≡ bitN x j ⌝ }
 {
     (x >> j) % 2
+}
+
+// Whether bit j of x is set.
+pub fn has_bit(x: u64, j: usize) -> bool
+    requires { ⌜ j < 64 ⌝ }
+    ensures { λ r. ⌜ r ≡ eqb (bitN x j) 1 ⌝ }
+{
+    (x >> j) % 2 == 1
 }
 
 // x with bit j set.

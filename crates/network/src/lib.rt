@@ -1,5 +1,6 @@
 // A plan with one of its lists as the code holds it, read once from the plan's bytes.
 
+pub mod comparison;
 pub mod decode;
 
 // Bit v of a word stands for router v.

@@ -3,3 +3,4 @@ pub mod Activation
 pub mod Counting
 pub mod Rounds
 pub mod Reliance
+pub mod RouterBytes

@@ -12,15 +12,15 @@ use Rattle.routing.specs.Instance.{Instance}
 use Rattle.routing.specs.Preference.{prefers}
 
 module _ (I : Instance) (w : ℕ) where
-  prefers-nearer : (e f : ℕ) → I .dist w e < I .dist w f → prefers I w e f ≡ true
+  pub prefers-nearer : (e f : ℕ) → I .dist w e < I .dist w f → prefers I w e f ≡ true
   unfolding prefers
   prefers-nearer e f l = cc (lt-ltb (I .dist w e) (I .dist w f) l)
 
-  prefers-farther : (e f : ℕ) → I .dist w f < I .dist w e → prefers I w e f ≡ false
+  pub prefers-farther : (e f : ℕ) → I .dist w f < I .dist w e → prefers I w e f ≡ false
   unfolding prefers
   prefers-farther e f l = cc (le-ltb (I .dist w e) (I .dist w f) (omega arith), ne-eqb (I .dist w e) (I .dist w f) (omega arith))
 
-  prefers-tie : (e f : ℕ) → I .dist w e ≡ I .dist w f → prefers I w e f ≡ ltb e f
+  pub prefers-tie : (e f : ℕ) → I .dist w e ≡ I .dist w f → prefers I w e f ≡ ltb e f
   unfolding prefers
   prefers-tie e f q = cc (le-ltb (I .dist w e) (I .dist w f) (omega arith), eq-eqb (I .dist w e) (I .dist w f) q)
 

@@ -1,14 +1,17 @@
 -- What the best client is; the rules of reliance, pair by pair; no router relies on itself.
-use Prim.Native.Nat.{ℕ}
+use Prim.Native.Nat.{ℕ, _≤_, _<_}
+use native.Mathlib.Omega.{arith}
 use mathlib.Core.Path.{_≡_, refl, _∙_, sym, ap}
 use mathlib.Core.Bool.{Bool, true, false, not, _&&_, _||_, and-false, and-true, or-false}
 use mathlib.Core.Option.{Option, none, some}
 use borrow.Author.Tests.{ne-eqb, not-true}
 use Rattle.base.proofs.Numbers.{both-left, both-right, not-both}
+use Rattle.base.specs.Best.{best}
 use Rattle.base.proofs.Best.{BestIs, best-is}
 use Rattle.routing.specs.Instance.{Instance, isRouter}
 use Rattle.routing.specs.Preference.{prefers}
 use Rattle.routing.specs.Reliance.{listedClientOf, bestClient, offer, betterOffer, relies}
+use Rattle.routing.specs.RouterBytes.{RouterBelow}
 use Rattle.routing.proofs.Preference.{prefers-order}
 
 module _ (I : Instance) where
@@ -84,3 +87,67 @@ module _ (I : Instance) where
       go true p b q = relies-listed w w p
       go false p true q = relies-offer w w p q q ∙ cc (offer-unlisted w p, own-no-better w (bestClient I w), and-false (I .neighbour w w))
       go false p false q = relies-client w w p q ∙ cc (and-false (I .neighbour w w))
+
+  -- a listed client neighbour, as its three tests come one after the other
+  pub client-stranger : (v e : ℕ) → I .neighbour v e ≡ false → listedClientOf I v e ≡ false
+  unfolding listedClientOf
+  client-stranger v e p = cc
+
+  pub client-unlisted : (v e : ℕ) → I .listed e ≡ false → listedClientOf I v e ≡ false
+  unfolding listedClientOf
+  client-unlisted v e p = cc (and-false (I .neighbour v e))
+
+  pub client-role : (v e : ℕ) → I .neighbour v e ≡ true → I .listed e ≡ true → listedClientOf I v e ≡ not (I .reflector e)
+  unfolding listedClientOf
+  client-role v e p q = cc
+
+  pub better-none : (w : ℕ) (b : Option ℕ) → betterOffer I w none b ≡ false
+  unfolding betterOffer
+  better-none w b = refl
+
+  pub better-any : (w e : ℕ) → betterOffer I w (some e) none ≡ true
+  unfolding betterOffer
+  better-any w e = refl
+
+  pub better-both : (w e c : ℕ) → betterOffer I w (some e) (some c) ≡ prefers I w e c
+  unfolding betterOffer
+  better-both w e c = refl
+
+  -- the best client and the offer of a router are routers
+  pub clients-below : (v k : ℕ) → k ≤ I .n → RouterBelow (I .n) (best (prefers I v) (listedClientOf I v) k)
+  clients-below v k l = go (best (prefers I v) (listedClientOf I v) k) (best-is (prefers I v) (prefers-order I v) (listedClientOf I v) k)
+    where
+      go : (b : Option ℕ) → BestIs (prefers I v) (listedClientOf I v) k b → RouterBelow (I .n) b
+      go none h = tt
+      go (some c) h = omega (arith, h .below)
+
+  pub bestClient-below : (v : ℕ) → RouterBelow (I .n) (bestClient I v)
+  unfolding bestClient
+  bestClient-below v = clients-below v (I .n) (omega arith)
+
+  pub offer-below : (v : ℕ) → v < I .n → RouterBelow (I .n) (offer I v)
+  offer-below v l = go (I .listed v) refl
+    where
+      go : (b : Bool) → I .listed v ≡ b → RouterBelow (I .n) (offer I v)
+      go true p = rw (offer-listed v p) l
+      go false p = rw (offer-unlisted v p) (bestClient-below v)
+
+  -- the rules as the tests come one after the other: of an unlisted reflector on a reflector
+  module _ (w v : ℕ) (unlisted : I .listed w ≡ false) where
+    module _ (role : I .reflector w ≡ true) (other : I .reflector v ≡ true) where
+      pub offer-stranger : I .neighbour w v ≡ false → relies I w v ≡ false
+      offer-stranger p = relies-offer w v unlisted role other ∙ cc
+
+      pub offer-neighbour : I .neighbour w v ≡ true → relies I w v ≡ betterOffer I w (offer I v) (bestClient I w)
+      offer-neighbour p = relies-offer w v unlisted role other ∙ cc
+
+    -- of an unlisted client
+    module _ (role : I .reflector w ≡ false) where
+      pub client-on-stranger : I .neighbour w v ≡ false → relies I w v ≡ false
+      client-on-stranger p = relies-client w v unlisted role ∙ cc
+
+      pub client-on-reflector : I .neighbour w v ≡ true → I .reflector v ≡ true → relies I w v ≡ true
+      client-on-reflector p q = relies-client w v unlisted role ∙ cc
+
+      pub client-on-client : I .neighbour w v ≡ true → I .reflector v ≡ false → relies I w v ≡ I .listed v
+      client-on-client p q = relies-client w v unlisted role ∙ cc

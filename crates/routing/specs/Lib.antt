@@ -3,3 +3,4 @@ pub mod Preference
 pub mod Activation
 pub mod Rounds
 pub mod Reliance
+pub mod RouterBytes

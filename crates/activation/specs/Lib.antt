@@ -1,0 +1,3 @@
+pub mod TableBytes
+pub mod OnePass
+pub mod Tallied

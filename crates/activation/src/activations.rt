@@ -1,0 +1,153 @@
+// An activation on the caller's table: one pass over the router's neighbours.
+
+use crate::table::RouteBytes;
+use network::Network;
+ghost use mathlib.Core.Path.{_≡_};
+ghost use mathlib.Core.Bool.{true};
+ghost use mathlib.Core.List.{List};
+ghost use Prim.Native.Nat.{ℕ, _*_, _≤_, _<_};
+ghost use lib.ListN.{length};
+ghost use Rattle.bodies.specs.Distances.{distanceIn};
+ghost use Rattle.routing.specs.Instance.{Instance};
+ghost use Rattle.routing.specs.Preference.{prefers};
+ghost use Rattle.routing.specs.Activation.{reflects, advertises, tableOk};
+ghost use Rattle.network.specs.Decoded.{decoded};
+ghost use Rattle.activation.specs.TableBytes.{RouteBelow, routeAt, routeOf, tableOf, activateBytes};
+ghost use Rattle.routing.specs.RouterBytes.{asRouter, RouterBelow};
+ghost use Rattle.activation.specs.OnePass.{toldBy, keepRoute, keptHeard};
+ghost use Rattle.network.specs.WellFormed.{WellFormed};
+
+// What an unlisted reflector that holds a route passes on to w; 255 is nothing.
+fn reflected(net: Network, route: RouteBytes, w: usize) -> u8
+    requires { ⌜ (net .n ≤ 64) × (w < net .n) × RouteBelow (net .n) (routeOf route) ⌝ }
+    ensures { λ r. ⌜ ((rows distances : List ℕ) → asRouter r ≡ reflects (decoded net rows distances) (routeOf route) w) ⌝ }
+{
+    let egress = route.egress;
+    if egress == 255 {
+        return 255;
+    }
+    let sender = base::wide(route.sender);
+    if base::bits::has_bit(net.reflectors, sender) {
+        if base::bits::has_bit(net.reflectors, w) {
+            return 255;
+        }
+        return egress;
+    }
+    if sender == w {
+        return 255;
+    }
+    egress
+}
+
+// What router v, holding a route, advertises to its neighbour w; 255 is nothing.
+fn advertised(net: Network, v: usize, route: RouteBytes, w: usize) -> u8
+    requires { ⌜ (net .n ≤ 64) × (v < net .n) × (w < net .n) × RouteBelow (net .n) (routeOf route) ⌝ }
+    ensures { λ r. ⌜ ((rows distances : List ℕ) → asRouter r ≡ advertises (decoded net rows distances) v (routeOf route) w) ⌝ }
+{
+    if base::bits::has_bit(net.listed, v) {
+        return v as u8;
+    }
+    if base::bits::has_bit(net.reflectors, v) {
+        return reflected(net, route, w);
+    }
+    255
+}
+
+// Of the route kept so far and the egress that router v tells, which w keeps.
+fn keep(distances: &[u8], n: usize, w: usize, v: usize, told: u8, kept: RouteBytes) -> RouteBytes
+    requires { ⌜ (w < n) × (v < n) × (n ≤ 64) × (2 * (n * n) ≤ length (now distances)) × RouterBelow n (asRouter told) × RouteBelow n (routeOf kept) ⌝ }
+    ensures { λ r. ⌜ ((I : Instance) → I .dist ≡ distanceIn (now (distances .entry)) n → routeOf r ≡ keepRoute (prefers I w) v (asRouter told) (routeOf kept)) ⌝ }
+{
+    if told == 255 {
+        return kept;
+    }
+    let offered = RouteBytes {
+        egress: told,
+        sender: v as u8,
+    };
+    let old = kept.egress;
+    if old == 255 {
+        return offered;
+    }
+    if network::comparison::prefers(distances, n, w, base::wide(told), base::wide(old)) {
+        return offered;
+    }
+    if told != old {
+        return kept;
+    }
+    if base::wide(told) == v {
+        return offered;
+    }
+    kept
+}
+
+// The same of router v's entry: nothing is told but by a neighbour.
+fn hear(
+    net: Network,
+    rows: &[u64; 64],
+    distances: &[u8],
+    w: usize,
+    v: usize,
+    entry: RouteBytes,
+    kept: RouteBytes,
+) -> RouteBytes
+    requires { ⌜ WellFormed net (now rows) (now distances) × (w < net .n) × (v < net .n) × RouteBelow (net .n) (routeOf entry) × RouteBelow (net .n) (routeOf kept) ⌝ }
+    ensures { λ r. ⌜ routeOf r ≡ keepRoute (prefers (decoded net (now (rows .entry)) (now (distances .entry))) w) v (toldBy (decoded net (now (rows .entry)) (now (distances .entry))) w v (routeOf entry)) (routeOf kept) ⌝ }
+{
+    if !base::bits::has_bit(rows[w], v) {
+        return kept;
+    }
+    keep(distances, net.n, w, v, advertised(net, v, entry, w), kept)
+}
+
+// The best route advertised to w.
+fn best_heard(
+    net: Network,
+    rows: &[u64; 64],
+    distances: &[u8],
+    w: usize,
+    table: &[u8],
+) -> RouteBytes
+    requires { ⌜ WellFormed net (now rows) (now distances) × (w < net .n) × (2 * net .n ≤ length (now table)) × ((v : ℕ) → v < net .n → RouteBelow (net .n) (routeAt (now table) v)) ⌝ }
+    ensures { λ r. ⌜ routeOf r ≡ keptHeard (decoded net (now (rows .entry)) (now (distances .entry))) w (routeAt (now (table .entry))) (net .n) ⌝ }
+{
+    let n = net.n;
+    let mut kept = RouteBytes {
+        egress: 255,
+        sender: 255,
+    };
+    let mut v = 0;
+    while v < n {
+        kept = hear(
+            net,
+            rows,
+            distances,
+            w,
+            v,
+            crate::table::route_at(table, v),
+            kept,
+        );
+        v += 1;
+    }
+    kept
+}
+
+// The act of router w on a table that obeys its rule.
+pub fn activate(net: Network, rows: &[u64; 64], distances: &[u8], w: usize, table: &mut [u8])
+    requires { ⌜ WellFormed net (now rows) (now distances) × (w < net .n) × (2 * net .n ≤ length (now table)) × (tableOk (decoded net (now rows) (now distances)) (tableOf (now table) (net .n)) ≡ true) ⌝ }
+    ensures { λ _. ⌜ now (table .exit) ≡ activateBytes (decoded net (now (rows .entry)) (now (distances .entry))) w (now (table .entry)) ⌝ }
+{
+    if base::bits::has_bit(net.listed, w) {
+        crate::table::put_route(
+            table,
+            w,
+            RouteBytes {
+                egress: w as u8,
+                sender: w as u8,
+            },
+        );
+        return;
+    }
+    let best = best_heard(net, rows, distances, w, table);
+    crate::table::put_route(table, w, best);
+}

@@ -1,0 +1,35 @@
+-- The two distances compare as the rule says.
+use Prim.Native.Nat.{_≤_}
+use native.Mathlib.Omega.{arith}
+use mathlib.Core.Path.{_≡_, _∙_, sym, ap}
+use borrow.Author.Needs.{needs}
+use Rattle.bodies.specs.Distances.{distanceIn}
+use Rattle.routing.specs.Instance.{Instance}
+use Rattle.routing.proofs.Preference.{prefers-nearer, prefers-farther, prefers-tie}
+use Rattle.network.proofs.comparison.prefers.Statement.{statement}
+use Rattle.network.proofs.comparison.prefers.Tie as tie
+
+-- the distances read are the instance's
+abbrev Measured : tie.After-distance2 → Instance → Type 0
+Measured c I =
+    let a = c .before .before .before .args in
+    I .dist ≡ distanceIn (a .distances .now) (a .n)
+
+module _ (c : tie.After-distance2) (I : Instance) (q : Measured c I) where
+  first-is : let a = c .before .before .before .args in I .dist (a .w) (a .e) ≡ c .before .distance .result
+  first-is = let a = c .before .before .before .args in ap (λ d. d (a .w) (a .e)) q ∙ sym (c .before .distance .ensures .0)
+
+  second-is : let a = c .before .before .before .args in I .dist (a .w) (a .f) ≡ c .distance2 .result
+  second-is = let a = c .before .before .before .args in ap (λ d. d (a .w) (a .f)) q ∙ sym (c .distance2 .ensures .0)
+
+returns : tie.Need-returns
+returns c I q = sym (prefers-nearer I _ _ _ (omega (arith, first-is (c .before) I q, second-is (c .before) I q)))
+
+returns-2 : tie.Need-returns-2
+returns-2 c I q = sym (prefers-farther I _ _ _ (omega (arith, first-is (c .before .before) I q, second-is (c .before .before) I q)))
+
+returns-3 : tie.Need-returns-3
+returns-3 c I q = sym (prefers-tie I _ _ _ (omega (arith, first-is (c .before .before) I q, second-is (c .before .before) I q)))
+
+pub prefers-spec : {M : Type 1} → statement M
+prefers-spec = tie.close (tie.spec (λ c κs. search needs) (λ c κs. search needs) returns returns-2 returns-3)

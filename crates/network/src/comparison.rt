@@ -1,0 +1,24 @@
+// The one comparison of two routes.
+
+ghost use mathlib.Core.Path.{_≡_};
+ghost use Prim.Native.Nat.{_*_, _≤_, _<_};
+ghost use lib.ListN.{length};
+ghost use Rattle.bodies.specs.Distances.{distanceIn};
+ghost use Rattle.routing.specs.Instance.{Instance};
+ghost use Rattle.routing.specs.Preference.{prefers};
+
+// Whether w prefers e to f, in whatever network has these distances.
+pub fn prefers(distances: &[u8], n: usize, w: usize, e: usize, f: usize) -> bool
+    requires { ⌜ (w < n) × (e < n) × (f < n) × (n ≤ 64) × (2 * (n * n) ≤ length (now distances)) ⌝ }
+    ensures { λ r. ⌜ ((I : Instance) → I .dist ≡ distanceIn (now (distances .entry)) n → r ≡ prefers I w e f) ⌝ }
+{
+    let first = bodies::distances::distance(distances, n, w, e);
+    let second = bodies::distances::distance(distances, n, w, f);
+    if first < second {
+        return true;
+    }
+    if first != second {
+        return false;
+    }
+    e < f
+}

@@ -1,0 +1,147 @@
+// Best clients, offers and reliances. A router is a byte here, 255 for none.
+
+use network::Network;
+ghost use mathlib.Core.Path.{_≡_};
+ghost use mathlib.Core.Bool.{true, false, cond};
+ghost use mathlib.Core.List.{List};
+ghost use Prim.Native.Nat.{ℕ, _*_, _≤_, _<_, _^_};
+ghost use lib.Bits.{bitOr};
+ghost use lib.ListN.{length, getD};
+ghost use Rattle.base.specs.Best.{keepBest};
+ghost use Rattle.bodies.specs.Distances.{distanceIn};
+ghost use Rattle.routing.specs.Instance.{Instance};
+ghost use Rattle.routing.specs.Preference.{prefers};
+ghost use Rattle.routing.specs.Reliance.{listedClientOf, bestClient, offer, betterOffer, relies};
+ghost use Rattle.reliance.specs.RelianceRows.{RelianceRow, RelianceRows};
+ghost use Rattle.network.specs.Decoded.{decoded};
+ghost use Rattle.routing.specs.RouterBytes.{asRouter, RouterBelow};
+ghost use Rattle.network.specs.WellFormed.{WellFormed};
+
+// Whether e is a listed client that v neighbours.
+fn is_listed_client(net: Network, rows: &[u64; 64], v: usize, e: usize) -> bool
+    requires { ⌜ (v < 64) × (e < 64) ⌝ }
+    ensures { λ r. ⌜ ((distances : List ℕ) → r ≡ listedClientOf (decoded net (now (rows .entry)) distances) v e) ⌝ }
+{
+    if !base::bits::has_bit(rows[v], e) {
+        return false;
+    }
+    if !base::bits::has_bit(net.listed, e) {
+        return false;
+    }
+    !base::bits::has_bit(net.reflectors, e)
+}
+
+// Of the best client so far and e.
+fn keep_client(net: Network, rows: &[u64; 64], distances: &[u8], v: usize, e: usize, best: u8) -> u8
+    requires { ⌜ WellFormed net (now rows) (now distances) × (v < net .n) × (e < net .n) × RouterBelow (net .n) (asRouter best) ⌝ }
+    ensures { λ r. ⌜ asRouter r ≡ keepBest (prefers (decoded net (now (rows .entry)) (now (distances .entry))) v) (listedClientOf (decoded net (now (rows .entry)) (now (distances .entry))) v e) e (asRouter best) ⌝ }
+{
+    if !is_listed_client(net, rows, v, e) {
+        return best;
+    }
+    if best == 255 {
+        return e as u8;
+    }
+    if network::comparison::prefers(distances, net.n, v, e, base::wide(best)) {
+        return e as u8;
+    }
+    best
+}
+
+pub fn best_client(net: Network, rows: &[u64; 64], distances: &[u8], v: usize) -> u8
+    requires { ⌜ WellFormed net (now rows) (now distances) × (v < net .n) ⌝ }
+    ensures { λ r. ⌜ asRouter r ≡ bestClient (decoded net (now (rows .entry)) (now (distances .entry))) v ⌝ }
+{
+    let n = net.n;
+    let mut best: u8 = 255;
+    let mut e = 0;
+    while e < n {
+        best = keep_client(net, rows, distances, v, e, best);
+        e += 1;
+    }
+    best
+}
+
+// What v offers, where `own` is its best client.
+fn offered(net: Network, v: usize, own: u8) -> u8
+    requires { ⌜ (net .n ≤ 64) × (v < net .n) ⌝ }
+    ensures { λ r. ⌜ ((rows distances : List ℕ) → asRouter own ≡ bestClient (decoded net rows distances) v → asRouter r ≡ offer (decoded net rows distances) v) ⌝ }
+{
+    if base::bits::has_bit(net.listed, v) {
+        return v as u8;
+    }
+    own
+}
+
+fn better_offer(distances: &[u8], n: usize, w: usize, offer: u8, own: u8) -> bool
+    requires { ⌜ (w < n) × (n ≤ 64) × (2 * (n * n) ≤ length (now distances)) × RouterBelow n (asRouter offer) × RouterBelow n (asRouter own) ⌝ }
+    ensures { λ r. ⌜ ((I : Instance) → I .dist ≡ distanceIn (now (distances .entry)) n → r ≡ betterOffer I w (asRouter offer) (asRouter own)) ⌝ }
+{
+    if offer == 255 {
+        return false;
+    }
+    if own == 255 {
+        return true;
+    }
+    network::comparison::prefers(distances, n, w, base::wide(offer), base::wide(own))
+}
+
+// Rule 3, where `own` and `other` are the best clients of w and v.
+fn reflector_relies(
+    net: Network,
+    rows: &[u64; 64],
+    distances: &[u8],
+    w: usize,
+    v: usize,
+    own: u8,
+    other: u8,
+) -> bool
+    requires { ⌜ WellFormed net (now rows) (now distances) × (w < net .n) × (v < net .n) × (asRouter own ≡ bestClient (decoded net (now rows) (now distances)) w) × (asRouter other ≡ bestClient (decoded net (now rows) (now distances)) v) × (decoded net (now rows) (now distances) .listed w ≡ false) × (decoded net (now rows) (now distances) .reflector w ≡ true) ⌝ }
+    ensures { λ r. ⌜ r ≡ relies (decoded net (now (rows .entry)) (now (distances .entry))) w v ⌝ }
+{
+    if !base::bits::has_bit(net.reflectors, v) {
+        return base::wide(own) == v;
+    }
+    if !base::bits::has_bit(rows[w], v) {
+        return false;
+    }
+    better_offer(distances, net.n, w, offered(net, v, other), own)
+}
+
+// Whether w relies on v, where `own` and `other` are their best clients.
+fn relies_by(
+    net: Network,
+    rows: &[u64; 64],
+    distances: &[u8],
+    w: usize,
+    v: usize,
+    own: u8,
+    other: u8,
+) -> bool
+    requires { ⌜ WellFormed net (now rows) (now distances) × (w < net .n) × (v < net .n) × (asRouter own ≡ bestClient (decoded net (now rows) (now distances)) w) × (asRouter other ≡ bestClient (decoded net (now rows) (now distances)) v) ⌝ }
+    ensures { λ r. ⌜ r ≡ relies (decoded net (now (rows .entry)) (now (distances .entry))) w v ⌝ }
+{
+    if base::bits::has_bit(net.listed, w) {
+        return false;
+    }
+    if base::bits::has_bit(net.reflectors, w) {
+        return reflector_relies(net, rows, distances, w, v, own, other);
+    }
+    if !base::bits::has_bit(rows[w], v) {
+        return false;
+    }
+    if base::bits::has_bit(net.reflectors, v) {
+        return true;
+    }
+    base::bits::has_bit(net.listed, v)
+}
+
+// Whether w relies on v.
+pub fn relies(net: Network, rows: &[u64; 64], distances: &[u8], w: usize, v: usize) -> bool
+    requires { ⌜ WellFormed net (now rows) (now distances) × (w < net .n) × (v < net .n) ⌝ }
+    ensures { λ r. ⌜ r ≡ relies (decoded net (now (rows .entry)) (now (distances .entry))) w v ⌝ }
+{
+    let own = best_client(net, rows, distances, w);
+    let other = best_client(net, rows, distances, v);
+    relies_by(net, rows, distances, w, v, own, other)
+}
