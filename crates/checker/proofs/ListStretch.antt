@@ -8,7 +8,7 @@ use lib.Dec.{ltb}
 use Rattle.plan.specs.EgressLists.{listCount, listStart, listSize}
 use Rattle.plan.specs.Refusal.{refuse, planChecks, planRefusal}
 use Rattle.plan.proofs.Cascade.{plan-passes, plan-of-passed, refuse-passed}
-use Rattle.checker.specs.Refused.{unlessRefused}
+use Rattle.checker.proofs.Refused.{when-refused, when-given}
 use Rattle.checker.specs.EgressList.{egressListRefusal, egressListStart, egressListSize}
 
 pub record Allowed (plan : List ℕ) (k : ℕ) : Type 0 where
@@ -24,14 +24,6 @@ allowed plan k h =
       list-ok = ltb-true _ _ (refuse-passed (ltb k (listCount plan)) 7 0 (sym (plan-passes plan _ ok) ∙ h) .0);
     }
 
--- a field beside a refusal number is zero, and beside none it is itself
-pub field-refused : (number field : ℕ) → (number ≡ 0 → ⊥) → unlessRefused number field ≡ 0
-field-refused zero field h = absurd (h refl)
-field-refused (suc number) field h = refl
-
-pub field-given : (number field : ℕ) → number ≡ 0 → unlessRefused number field ≡ field
-field-given number field h = rw h
-
 module _ (plan : List ℕ) (k : ℕ) where
   pub record Stretch (start size : ℕ) : Type 0 where
     pub starts : egressListStart plan k ≡ start
@@ -39,8 +31,8 @@ module _ (plan : List ℕ) (k : ℕ) where
 
   pub stretch-refused : (egressListRefusal plan k ≡ 0 → ⊥) → Stretch 0 0
   unfolding egressListStart egressListSize
-  stretch-refused h = record { starts = field-refused _ _ h; sizes = field-refused _ _ h }
+  stretch-refused h = record { starts = when-refused _ _ _ h; sizes = when-refused _ _ _ h }
 
   pub stretch-given : egressListRefusal plan k ≡ 0 → Stretch (listStart plan k) (listSize plan k)
   unfolding egressListStart egressListSize
-  stretch-given h = record { starts = field-given _ _ h; sizes = field-given _ _ h }
+  stretch-given h = record { starts = when-given _ _ _ h; sizes = when-given _ _ _ h }

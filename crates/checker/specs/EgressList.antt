@@ -8,7 +8,7 @@ use lib.ListN.{take, drop}
 use denote.Ref.{RefT, ptr, now}
 use Rattle.plan.specs.EgressLists.{listCount, listStart, listSize}
 use Rattle.plan.specs.Refusal.{refuse, planChecks}
-use Rattle.checker.specs.Refused.{unlessRefused}
+use Rattle.checker.specs.Refused.{field}
 
 -- row 8: "the list asked for is m or more"
 unfoldable pub egressListRefusal : List ℕ → ℕ → ℕ
@@ -16,10 +16,10 @@ egressListRefusal plan k = planChecks plan (refuse (ltb k (listCount plan)) 8 0)
 
 -- where in the plan the stretch starts and how many bytes it has: none, at the plan's start, if refused
 unfoldable pub egressListStart : List ℕ → ℕ → ℕ
-egressListStart plan k = unlessRefused (egressListRefusal plan k) (listStart plan k)
+egressListStart plan k = field (egressListRefusal plan k) (listStart plan k)
 
 unfoldable pub egressListSize : List ℕ → ℕ → ℕ
-egressListSize plan k = unlessRefused (egressListRefusal plan k) (listSize plan k)
+egressListSize plan k = field (egressListRefusal plan k) (listSize plan k)
 
 -- an address is a block of memory and an offset in it: the one so many bytes on
 abbrev pub bytesOn : ℕ × ℕ → ℕ → ℕ × ℕ

@@ -1,2 +1,8 @@
 pub mod Refused
 pub mod EgressList
+pub mod Compare
+pub mod Relies
+pub mod Verdict
+pub mod Activate
+pub mod Run
+pub mod Series

@@ -1,39 +1,16 @@
 // The public calls. None has a `requires`: any bytes and numbers get a result or a refusal number.
 
+pub mod compare;
+pub mod lists;
+pub mod relies;
+pub mod verdict;
+
 ghost use mathlib.Core.Path.{_≡_};
 ghost use Rattle.plan.specs.Refusal.{planRefusal};
-ghost use Rattle.checker.specs.EgressList.{egressListRefusal, StretchOf};
 
 // The number that a plan is refused with, 1 to 7; 0 for none.
 pub fn check(plan: &[u8]) -> u8
     ensures { λ r. ⌜ r ≡ planRefusal (now (plan .entry)) ⌝ }
 {
     plan::refusal::refusal(plan)
-}
-
-// The number that `egress_list` is refused with, 1 to 8; 0 for none.
-pub fn egress_list_refusal(plan: &[u8], list: usize) -> u8
-    ensures { λ r. ⌜ r ≡ egressListRefusal (now (plan .entry)) list ⌝ }
-{
-    let refused = plan::refusal::refusal(plan);
-    if refused != 0 {
-        return refused;
-    }
-    if plan::lists::list_count(plan) <= list {
-        return 8;
-    }
-    0
-}
-
-// The numbers of a list as that part of the plan itself; empty if refused.
-pub fn egress_list(plan: &[u8], list: usize) -> &[u8]
-    ensures { λ r. ⌜ StretchOf (plan .entry) list r ⌝ }
-{
-    if egress_list_refusal(plan, list) != 0 {
-        return &plan[0..0];
-    }
-    let span = plan::lists::list_span(plan, list);
-    let start = span.start;
-    let stop = start + span.count;
-    &plan[start..stop]
 }

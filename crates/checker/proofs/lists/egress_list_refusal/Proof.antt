@@ -5,8 +5,8 @@ use borrow.Author.Tests.{lt-ltb, le-ltb}
 use Rattle.plan.specs.Refusal.{refuse}
 use Rattle.plan.proofs.Cascade.{plan-passes, plan-refused}
 use Rattle.checker.specs.EgressList.{egressListRefusal}
-use Rattle.checker.proofs.egress_list_refusal.Statement.{statement}
-use Rattle.checker.proofs.egress_list_refusal.Tie as tie
+use Rattle.checker.proofs.lists.egress_list_refusal.Statement.{statement}
+use Rattle.checker.proofs.lists.egress_list_refusal.Tie as tie
 
 returns : tie.Need-returns
 unfolding egressListRefusal

@@ -3,8 +3,8 @@ use native.Mathlib.Omega.{arith}
 use mathlib.Core.Path.{_≡_, _∙_, sym}
 use borrow.Author.Needs.{needs}
 use Rattle.checker.proofs.ListStretch.{allowed, stretch-refused, stretch-given}
-use Rattle.checker.proofs.egress_list.Statement.{statement}
-use Rattle.checker.proofs.egress_list.Tie as tie
+use Rattle.checker.proofs.lists.egress_list.Statement.{statement}
+use Rattle.checker.proofs.lists.egress_list.Tie as tie
 
 returns : tie.Need-returns
 returns c =

@@ -1,0 +1,39 @@
+-- Document 01: "A run applies a sequence of acts, at most a given limit of them."
+use Prim.Native.Nat.{ℕ, min}
+use mathlib.Core.List.{List}
+use mathlib.Core.Bool.{Bool, _&&_}
+use lib.Dec.{ltb}
+use lib.ListN.{length, getD, take}
+use Rattle.base.specs.Below.{allBelow}
+use Rattle.contents.specs.Header.{routerCount}
+use Rattle.plan.specs.EgressLists.{listCount}
+use Rattle.plan.specs.Refusal.{refuse, planChecks}
+use Rattle.routing.specs.Rounds.{rounds}
+use Rattle.network.specs.FromPlan.{instanceOf}
+use Rattle.activation.specs.TableBytes.{runBytes}
+use Rattle.checker.specs.Refused.{unlessRefused, field, flagField}
+use Rattle.checker.specs.Activate.{tableChecks}
+
+-- row 8: "a router .. named in a sequence of acts, is n or more": of the whole sequence, also past the limit
+unfoldable pub sequenceOk : List ℕ → ℕ → Bool
+sequenceOk acts n = allBelow (λ i. ltb (getD acts i 0) n) (length acts)
+
+unfoldable pub runRefusal : List ℕ → ℕ → List ℕ → List ℕ → ℕ
+runRefusal plan k acts table =
+    planChecks plan (refuse (ltb k (listCount plan) && sequenceOk acts (routerCount plan)) 8 (tableChecks plan k table))
+
+-- "It returns the acts applied (the smaller of limit and sequence length), the whole rounds in them, and 'spent' exactly if the sequence is
+-- longer than the limit." Spent is called exhausted here.
+unfoldable pub runApplied : ℕ → List ℕ → ℕ → ℕ
+runApplied number acts limit = field number (min limit (length acts))
+
+unfoldable pub runRounds : ℕ → List ℕ → List ℕ → ℕ → ℕ
+runRounds number plan acts limit = field number (rounds (routerCount plan) (take limit acts))
+
+unfoldable pub runExhausted : ℕ → List ℕ → ℕ → Bool
+runExhausted number acts limit = flagField number (ltb limit (length acts))
+
+-- every byte of the table after the call
+unfoldable pub runTable : List ℕ → ℕ → List ℕ → ℕ → List ℕ → List ℕ
+runTable plan k acts limit table =
+    unlessRefused (runRefusal plan k acts table) table (runBytes (instanceOf plan k) table (take limit acts))

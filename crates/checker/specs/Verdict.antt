@@ -1,0 +1,79 @@
+-- Document 01, "Reliance and verdict": the verdict call.
+use Prim.Native.Nat.{ℕ, _*_}
+use mathlib.Core.List.{List, _++_}
+use mathlib.Core.Bool.{Bool, cond, _&&_}
+use lib.Dec.{leb, ltb}
+use lib.ListN.{length, drop}
+use Rattle.base.specs.Seek.{flag}
+use Rattle.base.specs.Tab.{tab}
+use Rattle.contents.specs.Header.{routerCount}
+use Rattle.plan.specs.EgressLists.{listCount}
+use Rattle.plan.specs.Refusal.{refuse, planChecks}
+use Rattle.graph.specs.Closure.{Relation, closure}
+use Rattle.graph.specs.Groups.{label, stable}
+use Rattle.graph.specs.Rank.{rank, highestRank}
+use Rattle.graph.specs.Cycle.{cycle}
+use Rattle.routing.specs.Reliance.{relies}
+use Rattle.settling.specs.Settled.{settledTable}
+use Rattle.network.specs.FromPlan.{instanceOf}
+use Rattle.activation.specs.TableBytes.{tableBytes}
+use Rattle.checker.specs.declared.verdict.VerdictAnswer.{VerdictAnswer}
+use Rattle.checker.specs.declared.verdict.VerdictAnswer.the-variants.{Refused, Stable, Suspect}
+use Rattle.checker.specs.Refused.{unlessRefused}
+
+-- who relies on whom in the plan's network for list k, as a relation of the graph part
+abbrev pub reliance : List ℕ → ℕ → Relation
+reliance plan k w v = flag (relies (instanceOf plan k) w v)
+
+-- "Stable: every group has one router."
+unfoldable pub isStable : List ℕ → ℕ → Bool
+isStable plan k = stable (closure (reliance plan k) (routerCount plan)) (routerCount plan)
+
+unfoldable pub labelsOf : List ℕ → ℕ → List ℕ
+labelsOf plan k = let C = closure (reliance plan k) (routerCount plan) in tab (label C) (routerCount plan)
+
+unfoldable pub ranksOf : List ℕ → ℕ → List ℕ
+ranksOf plan k = tab (rank (reliance plan k) (routerCount plan)) (routerCount plan)
+
+unfoldable pub highestOf : List ℕ → ℕ → ℕ
+highestOf plan k = highestRank (reliance plan k) (routerCount plan)
+
+-- "The settled table is the one held-route table that no act changes", in bytes
+unfoldable pub settledBytes : List ℕ → ℕ → List ℕ
+settledBytes plan k = tableBytes (settledTable (instanceOf plan k) (highestOf plan k))
+
+-- the paper's ring
+unfoldable pub cycleOf : List ℕ → ℕ → List ℕ
+cycleOf plan k = cycle (reliance plan k) (routerCount plan)
+
+-- "The verdict call needs n bytes for labels, n for ranks, 2n for the settled table, n for the ring."
+unfoldable pub verdictRefusal : List ℕ → ℕ → List ℕ → List ℕ → List ℕ → List ℕ → ℕ
+verdictRefusal plan k labels ranks table ring =
+    let n = routerCount plan in
+    planChecks plan
+    (refuse (ltb k (listCount plan)) 8
+    (refuse (leb n (length labels) && leb n (length ranks) && leb (2 * n) (length table) && leb n (length ring)) 9 0))
+
+-- "Stable returns the highest rank .. suspect returns the ring's length"
+unfoldable pub verdictOf : List ℕ → ℕ → VerdictAnswer
+verdictOf plan k = cond (isStable plan k) (Stable (highestOf plan k)) (Suspect (length (cycleOf plan k)))
+
+-- `number` is the refusal of the call
+unfoldable pub verdictAnswer : ℕ → List ℕ → ℕ → VerdictAnswer
+verdictAnswer number plan k = unlessRefused number (Refused number) (verdictOf plan k)
+
+-- "Labels are written with either verdict. Stable .. writes ranks and table; suspect .. writes that many ring bytes. Other bytes are untouched."
+unfoldable pub labelsAfter : ℕ → List ℕ → ℕ → List ℕ → List ℕ
+labelsAfter number plan k labels = unlessRefused number labels (labelsOf plan k ++ drop (routerCount plan) labels)
+
+unfoldable pub ranksAfter : ℕ → List ℕ → ℕ → List ℕ → List ℕ
+ranksAfter number plan k ranks =
+    unlessRefused number ranks (cond (isStable plan k) (ranksOf plan k ++ drop (routerCount plan) ranks) ranks)
+
+unfoldable pub tableAfter : ℕ → List ℕ → ℕ → List ℕ → List ℕ
+tableAfter number plan k table =
+    unlessRefused number table (cond (isStable plan k) (settledBytes plan k ++ drop (2 * routerCount plan) table) table)
+
+unfoldable pub cycleAfter : ℕ → List ℕ → ℕ → List ℕ → List ℕ
+cycleAfter number plan k ring =
+    unlessRefused number ring (cond (isStable plan k) ring (cycleOf plan k ++ drop (length (cycleOf plan k)) ring))
