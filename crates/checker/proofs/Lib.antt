@@ -1,2 +1,4 @@
 pub mod Refused
+pub mod Asked
 pub mod ListStretch
+pub mod Comparing

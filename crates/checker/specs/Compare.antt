@@ -1,8 +1,8 @@
 -- Document 01: "two egress routers compared at a router (the first is better, the second, or neither if they are the same)".
-use Prim.Native.Nat.{ℕ, zero, suc}
+use Prim.Native.Nat.{ℕ}
 use mathlib.Core.List.{List}
 use mathlib.Core.Path.{_≡_}
-use mathlib.Core.Bool.{Bool, true, false, cond, _&&_}
+use mathlib.Core.Bool.{cond, _&&_}
 use lib.Dec.{ltb, eqb}
 use Rattle.contents.specs.Header.{routerCount}
 use Rattle.plan.specs.Refusal.{refuse, planChecks}
@@ -10,7 +10,7 @@ use Rattle.routing.specs.Preference.{prefers}
 use Rattle.network.specs.FromPlan.{instanceOf}
 use Rattle.checker.specs.declared.compare.CompareAnswer.{CompareAnswer}
 use Rattle.checker.specs.declared.compare.CompareAnswer.the-variants.{Refused, First, Second, Same}
-use Rattle.checker.specs.Refused.{unlessRefused}
+use Rattle.checker.specs.Refused.{unlessRefused, field}
 
 -- row 8: "a router asked for .. is n or more"; "Each router number handed over in these is a router asked for."
 unfoldable pub compareRefusal : List ℕ → ℕ → ℕ → ℕ → ℕ
@@ -18,9 +18,29 @@ compareRefusal plan w e f =
     let n = routerCount plan in
     planChecks plan (refuse (ltb w n && ltb e n && ltb f n) 8 0)
 
--- "A route is known by its egress router": the same router twice is the same route; of two others one is preferred, in the network of any list
+-- "the first is better, the second, or neither if they are the same": 1, 2, 0. A comparison reads only distances, which every list shares.
+unfoldable pub better : List ℕ → ℕ → ℕ → ℕ → ℕ
+better plan w e f = cond (eqb e f) 0 (cond (prefers (instanceOf plan 0) w e f) 1 2)
+
 unfoldable pub compared : List ℕ → ℕ → ℕ → ℕ → CompareAnswer
 compared plan w e f = cond (eqb e f) Same (cond (prefers (instanceOf plan 0) w e f) First Second)
 
-unfoldable pub compareAnswer : List ℕ → ℕ → ℕ → ℕ → CompareAnswer
-compareAnswer plan w e f = let number = compareRefusal plan w e f in unlessRefused number (Refused number) (compared plan w e f)
+-- the paper's refusal number and value for each case of the answer
+abbrev pub compareNumber : CompareAnswer → ℕ
+compareNumber (Refused number) = number
+compareNumber First = 0
+compareNumber Second = 0
+compareNumber Same = 0
+
+abbrev pub compareBetter : CompareAnswer → ℕ
+compareBetter (Refused number) = 0
+compareBetter First = 1
+compareBetter Second = 2
+compareBetter Same = 0
+
+-- the answer r of a comparison at w of e and f
+pub record Compares (plan : List ℕ) (w e f : ℕ) (r : CompareAnswer) : Type 0 where
+  pub answer :
+    r ≡ unlessRefused (compareRefusal plan w e f) (Refused (compareRefusal plan w e f)) (compared plan w e f)
+  pub number : compareNumber r ≡ compareRefusal plan w e f
+  pub value : compareBetter r ≡ field (compareRefusal plan w e f) (better plan w e f)

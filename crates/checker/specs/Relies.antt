@@ -1,7 +1,8 @@
 -- Document 01: "the reliance of one router on another answered for a list".
 use Prim.Native.Nat.{ℕ}
 use mathlib.Core.List.{List}
-use mathlib.Core.Bool.{Bool, cond, _&&_}
+use mathlib.Core.Path.{_≡_}
+use mathlib.Core.Bool.{Bool, true, false, cond, _&&_}
 use lib.Dec.{ltb}
 use Rattle.contents.specs.Header.{routerCount}
 use Rattle.plan.specs.EgressLists.{listCount}
@@ -10,7 +11,7 @@ use Rattle.routing.specs.Reliance.{relies}
 use Rattle.network.specs.FromPlan.{instanceOf}
 use Rattle.checker.specs.declared.relies.ReliesAnswer.{ReliesAnswer}
 use Rattle.checker.specs.declared.relies.ReliesAnswer.the-variants.{Refused, Yes, No}
-use Rattle.checker.specs.Refused.{unlessRefused}
+use Rattle.checker.specs.Refused.{unlessRefused, flagField}
 
 -- row 8: "the list asked for is m or more, or a router asked for .. is n or more"
 unfoldable pub reliesRefusal : List ℕ → ℕ → ℕ → ℕ → ℕ
@@ -18,7 +19,22 @@ reliesRefusal plan k w v =
     let n = routerCount plan in
     planChecks plan (refuse (ltb k (listCount plan) && ltb w n && ltb v n) 8 0)
 
-unfoldable pub reliesAnswer : List ℕ → ℕ → ℕ → ℕ → ReliesAnswer
-reliesAnswer plan k w v =
-    let number = reliesRefusal plan k w v in
-    unlessRefused number (Refused number) (cond (relies (instanceOf plan k) w v) Yes No)
+unfoldable pub relied : List ℕ → ℕ → ℕ → ℕ → ReliesAnswer
+relied plan k w v = cond (relies (instanceOf plan k) w v) Yes No
+
+-- the paper's refusal number and value for each case of the answer
+abbrev pub reliesNumber : ReliesAnswer → ℕ
+reliesNumber (Refused number) = number
+reliesNumber Yes = 0
+reliesNumber No = 0
+
+abbrev pub reliesFlag : ReliesAnswer → Bool
+reliesFlag (Refused number) = false
+reliesFlag Yes = true
+reliesFlag No = false
+
+-- the answer r to whether w relies on v for list k
+pub record Relied (plan : List ℕ) (k w v : ℕ) (r : ReliesAnswer) : Type 0 where
+  pub answer : r ≡ unlessRefused (reliesRefusal plan k w v) (Refused (reliesRefusal plan k w v)) (relied plan k w v)
+  pub number : reliesNumber r ≡ reliesRefusal plan k w v
+  pub value : reliesFlag r ≡ flagField (reliesRefusal plan k w v) (relies (instanceOf plan k) w v)
