@@ -1,16 +1,13 @@
 -- What a call that is not refused was handed.
-use Prim.Native.Nat.{ℕ, _*_, _≤_, _<_}
-use native.Mathlib.Omega.{arith}
+use Prim.Native.Nat.{ℕ, _≤_}
 use mathlib.Core.Path.{_≡_, _∙_, sym}
 use mathlib.Core.Bool.{Bool, true}
 use mathlib.Core.List.{List}
-use lib.Dec.{lit<}
 use lib.ListN.{length}
 use Rattle.contents.specs.Header.{routerCount}
-use Rattle.contents.specs.Contents.{distancesBody}
 use Rattle.plan.specs.Refusal.{refuse, planChecks, planRefusal}
 use Rattle.plan.proofs.Cascade.{plan-passes, plan-of-passed, refuse-passed}
-use Rattle.plan.proofs.Passed.{passed, part-length}
+use Rattle.plan.proofs.Passed.{passed}
 
 -- the plan passes, and so does the call's own first check
 pub record Granted (plan : List ℕ) (ok : Bool) (rest : ℕ) : Type 0 where
@@ -30,6 +27,3 @@ module _ (plan : List ℕ) (h : planRefusal plan ≡ 0) where
 
   pub few-routers : routerCount plan ≤ 64
   few-routers = passed plan h .count .most
-
-  pub distances-length : length (distancesBody plan) ≡ 2 * (routerCount plan * routerCount plan)
-  distances-length = part-length plan (passed plan h) 2 (lit< tt) ∙ passed plan h .contents .distancesSize

@@ -26,7 +26,8 @@ use Rattle.plan.proofs.Passed.{passed, part-length}
 use Rattle.plan.proofs.ListWithin.{span-within}
 use Rattle.network.specs.declared.Network.{Network}
 use Rattle.network.specs.Decoded.{decoded}
-use Rattle.network.specs.FromPlan.{pairs, inSession, named, instanceOf, Trusted}
+use Rattle.network.specs.FromPlan.{pairs, inSession, named, instanceOf, ReadFrom, Trusted}
+use Rattle.network.specs.WellFormed.{WellFormed}
 
 module _ (plan : List ℕ) (p : Passed plan) where
   pub routers-length : length (routersBody plan) ≡ 5 * routerCount plan
@@ -146,4 +147,19 @@ trusted plan k accepted l =
       distanceMost = p .distances .most;
       distanceOwn = p .distances .diagonal;
       roles = roles plan p;
+    }
+
+-- the body of kind 3 has a distance for every pair
+pub distances-length : (plan : List ℕ) → planRefusal plan ≡ 0 → length (distancesBody plan) ≡ 2 * (routerCount plan * routerCount plan)
+distances-length plan h = part-length plan (passed plan h) 2 (lit< tt) ∙ passed plan h .contents .distancesSize
+
+-- what is read from a plan is as the workers rely on
+pub well-formed : (plan : List ℕ) (k : ℕ) (net : Network) (rows : List ℕ) → planRefusal plan ≡ 0 → k < listCount plan
+    → ReadFrom plan k net rows → WellFormed net rows (distancesBody plan)
+well-formed plan k net rows h l r =
+    let t = trusted plan k h l in
+    record {
+      count = r .most;
+      neighbours = λ w v b. rw (r .count) (t .neighbourBelow w v (sym (ap (λ I. I .neighbour w v) (r .same)) ∙ eq-eqb _ 1 b));
+      pairs = rw (r .count, distances-length plan h) (omega arith);
     }

@@ -5,10 +5,11 @@ use lib.Dec.{lit<}
 use lib.ListN.{length}
 use Rattle.contents.specs.Header.{routerCount}
 use Rattle.bodies.specs.Distances.{distanceIn}
+use Rattle.network.proofs.FromPlan.{distances-length}
 use Rattle.network.specs.FromPlan.{instanceOf}
 use Rattle.routing.specs.Preference.{prefers}
 use Rattle.checker.specs.Compare.{compareRefusal}
-use Rattle.checker.proofs.Asked.{header-long, few-routers, distances-length}
+use Rattle.checker.proofs.Asked.{header-long, few-routers}
 use Rattle.checker.proofs.Comparing.{CompareAsked, compare-asked, compares-refused, compares-same, compares-first, compares-second}
 use Rattle.checker.proofs.compare.compare.Statement.{statement}
 use Rattle.checker.proofs.compare.compare.Tie as tie
