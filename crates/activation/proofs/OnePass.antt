@@ -7,18 +7,18 @@ use mathlib.Core.Bool.{Bool, true, false, not, cond, _&&_, _||_, and-false, or-t
 use mathlib.Core.Option.{Option, none, some}
 use mathlib.Core.Logic.{_⊎_, inl, inr, ⊎-elim}
 use lib.Dec.{eqb}
-use borrow.Author.Tests.{eqb-true, eqb-false, eq-eqb, ne-eqb}
+use borrow.Author.Tests.{eqb-true, eq-eqb, ne-eqb}
 use Rattle.base.proofs.Numbers.{both-left, both-right, not-both, eq-or-ne}
 use Rattle.base.proofs.Best.{StrictOrder, order-asym, order-not-trans}
 use Rattle.routing.specs.Instance.{Instance, Route, nothing, via, isRouter}
 use Rattle.routing.specs.Preference.{prefers}
-use Rattle.routing.specs.Activation.{reflects, advertises, hears, choice, choose}
+use Rattle.routing.specs.Activation.{reflects, advertises, hears, choose}
 use Rattle.activation.specs.TableBytes.{RouteBelow, readRoute}
 use Rattle.routing.specs.RouterBytes.{RouterBelow}
 use Rattle.activation.specs.OnePass.{toldBy, keepRoute, kept, keptHeard}
 use Rattle.activation.proofs.TableBytes.{read-via}
 use Rattle.routing.proofs.Preference.{prefers-order}
-use Rattle.routing.proofs.Activation.{isRouter-same, isRouter-some, IsChoice, ChoiceIs, choice-unique, choose-is, advertises-listed, advertises-client, advertises-reflector}
+use Rattle.routing.proofs.Activation.{isRouter-same, isRouter-some, ChoiceIs, choice-unique, choose-is, advertises-listed, advertises-client, advertises-reflector}
 
 -- a router is not none
 router-not-none : {A : Type 0} (o : Option ℕ) (e : ℕ) → o ≡ some e → o ≡ none → A

@@ -1,11 +1,10 @@
 -- Routing tables in bytes: an act on a buffer is the act on the table that it holds, and leaves every other byte.
 use Prim.Native.Nat.{ℕ, zero, suc, _+_, _*_, _≤_, _<_}
-use native.Mathlib.Nat.{mul-suc}
 use native.Mathlib.Numerals.{add-one}
 use native.Mathlib.Omega.{arith}
 use mathlib.Core.Path.{_≡_, refl, _∙_, sym, ap, ap₂}
 use mathlib.Core.Bool.{Bool, true, false, _&&_}
-use mathlib.Core.List.{List, [], _∷_, _++_, append-assoc}
+use mathlib.Core.List.{List, [], _∷_, _++_, append-assoc, foldl-append}
 use mathlib.Core.Logic.{_⊎_, inl, inr}
 use lib.Dec.{ltb, eqb}
 use lib.ListN.{length, getD, take, drop, set, length-set, take-append-drop}
@@ -20,7 +19,7 @@ use Rattle.routing.specs.Activation.{hears, choose, held, entryOk, tableOk, act
 use Rattle.routing.specs.Preference.{prefers}
 use Rattle.activation.specs.TableBytes.{readRoute, egressByte, senderByte, RouteBelow, routeAt, putRoute, tableOf, tableBytes, activateBytes, runBytes}
 use Rattle.routing.proofs.Preference.{prefers-order}
-use Rattle.routing.proofs.Activation.{ChoiceIs, IsChoice, choice-unique, choose-listed, choose-is, activate-length, activate-own, activate-other}
+use Rattle.routing.proofs.Activation.{ChoiceIs, choice-unique, choose-listed, choose-is, activate-length, activate-own, activate-other, activate-ok}
 use Rattle.routing.proofs.Rounds.{ActsBelow}
 
 -- two bytes as a route, and back
@@ -237,6 +236,11 @@ module _ (I : Instance) where
           (table-length (activateBytes I w buffer) (I .n) ∙ sym (activate-length I w (tableOf buffer (I .n)) ∙ table-length buffer (I .n)))
           (λ v m. act-entry v (omega (arith, table-length (activateBytes I w buffer) (I .n))) (eq-or-ne v w))
 
+  -- an act leaves a table that obeys its rule
+  pub act-ok : (w : ℕ) (buffer : List ℕ) → I .n ≤ 64 → w < I .n → 2 * I .n ≤ length buffer → tableOk I (tableOf buffer (I .n)) ≡ true
+      → tableOk I (tableOf (activateBytes I w buffer) (I .n)) ≡ true
+  act-ok w buffer small l h ok = ap (tableOk I) (act-table w buffer small l h) ∙ activate-ok I w (tableOf buffer (I .n)) ok
+
   pub run-bytes-length : (buffer acts : List ℕ) → length (runBytes I buffer acts) ≡ length buffer
   unfolding runBytes
   run-bytes-length buffer [] = refl
@@ -247,6 +251,11 @@ module _ (I : Instance) where
   run-bytes-rest buffer [] b = refl
   run-bytes-rest buffer (w ∷ acts) b =
       run-bytes-rest (activateBytes I w buffer) acts (λ i l. b (suc i) (omega arith)) ∙ act-rest w buffer (b 0 (omega arith))
+
+  -- two sequences run one after the other
+  pub run-bytes-append : (buffer acts more : List ℕ) → runBytes I buffer (acts ++ more) ≡ runBytes I (runBytes I buffer acts) more
+  unfolding runBytes
+  run-bytes-append buffer acts more = foldl-append (λ b w. activateBytes I w b) buffer acts more
 
   -- a run on a buffer is the run on the table that it holds
   pub run-table : (buffer acts : List ℕ) → I .n ≤ 64 → ActsBelow (I .n) acts → 2 * I .n ≤ length buffer

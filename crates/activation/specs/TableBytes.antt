@@ -1,6 +1,6 @@
 -- A routing table in bytes (document 01: "A held-route table has two bytes a router, egress and sender; 255 255 is nothing.").
 use Prim.Native.Nat.{ℕ, _+_, _*_, _<_}
-use mathlib.Core.Bool.{Bool, cond, _&&_}
+use mathlib.Core.Bool.{cond, _&&_}
 use mathlib.Core.List.{List, [], _∷_, foldl}
 use lib.Dec.{eqb}
 use lib.ListN.{getD, set}

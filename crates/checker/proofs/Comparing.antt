@@ -25,15 +25,15 @@ module _ (plan : List ℕ) (w e f : ℕ) where
   pub compare-asked : compareRefusal plan w e f ≡ 0 → CompareAsked
   unfolding compareRefusal
   compare-asked h =
-    let g = granted plan _ _ h in
-    let q : ((w < routerCount plan) × (e < routerCount plan)) × (f < routerCount plan) = simp facts at (g .callOk) in
-    record { planOk = g .planOk; router = q .0 .0; first = q .0 .1; second = q .1 }
+      let g = granted plan _ _ h in
+      let q : ((w < routerCount plan) × (e < routerCount plan)) × (f < routerCount plan) = simp facts at (g .callOk) in
+      record { planOk = g .planOk; router = q .0 .0; first = q .0 .1; second = q .1 }
 
   pub compares-refused : (number : ℕ) → number ≡ compareRefusal plan w e f → (number ≡ 0 → ⊥) → Compares plan w e f (Refused number)
   compares-refused number same h =
-    rw same
-    (let k : compareRefusal plan w e f ≡ 0 → ⊥ = λ z. h (same ∙ z) in
-    record { answer = sym (when-refused _ _ _ k); number = refl; value = sym (when-refused _ _ _ k) })
+      rw same
+      (let k : compareRefusal plan w e f ≡ 0 → ⊥ = λ z. h (same ∙ z) in
+      record { answer = sym (when-refused _ _ _ k); number = refl; value = sym (when-refused _ _ _ k) })
 
   module _ (given : compareRefusal plan w e f ≡ 0) where
     pub compares-same : e ≡ f → Compares plan w e f Same

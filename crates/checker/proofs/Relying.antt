@@ -24,15 +24,15 @@ module _ (plan : List ℕ) (k w v : ℕ) where
   pub relies-asked : reliesRefusal plan k w v ≡ 0 → ReliesAsked
   unfolding reliesRefusal
   relies-asked h =
-    let g = granted plan _ _ h in
-    let q : ((k < listCount plan) × (w < routerCount plan)) × (v < routerCount plan) = simp facts at (g .callOk) in
-    record { planOk = g .planOk; list = q .0 .0; router = q .0 .1; other = q .1 }
+      let g = granted plan _ _ h in
+      let q : ((k < listCount plan) × (w < routerCount plan)) × (v < routerCount plan) = simp facts at (g .callOk) in
+      record { planOk = g .planOk; list = q .0 .0; router = q .0 .1; other = q .1 }
 
   pub relied-refused : (number : ℕ) → number ≡ reliesRefusal plan k w v → (number ≡ 0 → ⊥) → Relied plan k w v (Refused number)
   relied-refused number same h =
-    rw same
-    (let n : reliesRefusal plan k w v ≡ 0 → ⊥ = λ z. h (same ∙ z) in
-    record { answer = sym (when-refused _ _ _ n); number = refl; value = sym (when-refused _ _ _ n) })
+      rw same
+      (let n : reliesRefusal plan k w v ≡ 0 → ⊥ = λ z. h (same ∙ z) in
+      record { answer = sym (when-refused _ _ _ n); number = refl; value = sym (when-refused _ _ _ n) })
 
   module _ (given : reliesRefusal plan k w v ≡ 0) where
     pub relied-yes : relies (instanceOf plan k) w v ≡ true → Relied plan k w v Yes

@@ -41,6 +41,6 @@ compareBetter Same = 0
 -- the answer r of a comparison at w of e and f
 pub record Compares (plan : List ℕ) (w e f : ℕ) (r : CompareAnswer) : Type 0 where
   pub answer :
-    r ≡ unlessRefused (compareRefusal plan w e f) (Refused (compareRefusal plan w e f)) (compared plan w e f)
+      r ≡ unlessRefused (compareRefusal plan w e f) (Refused (compareRefusal plan w e f)) (compared plan w e f)
   pub number : compareNumber r ≡ compareRefusal plan w e f
   pub value : compareBetter r ≡ field (compareRefusal plan w e f) (better plan w e f)

@@ -67,8 +67,9 @@ fn offered(net: Network, v: usize, own: u8) -> u8
     requires { ⌜ (net .n ≤ 64) × (v < net .n) ⌝ }
     ensures { λ r. ⌜ ((rows distances : List ℕ) → asRouter own ≡ bestClient (decoded net rows distances) v → asRouter r ≡ offer (decoded net rows distances) v) ⌝ }
 {
+    let itself = v as u8;
     if base::bits::has_bit(net.listed, v) {
-        return v as u8;
+        return itself;
     }
     own
 }
@@ -83,7 +84,9 @@ fn better_offer(distances: &[u8], n: usize, w: usize, offer: u8, own: u8) -> boo
     if own == 255 {
         return true;
     }
-    network::comparison::prefers(distances, n, w, base::wide(offer), base::wide(own))
+    let first = base::wide(offer);
+    let second = base::wide(own);
+    network::comparison::prefers(distances, n, w, first, second)
 }
 
 // Rule 3, where `own` and `other` are the best clients of w and v.
@@ -144,4 +147,60 @@ pub fn relies(net: Network, rows: &[u64; 64], distances: &[u8], w: usize, v: usi
     let own = best_client(net, rows, distances, w);
     let other = best_client(net, rows, distances, v);
     relies_by(net, rows, distances, w, v, own, other)
+}
+
+// The best client of every router.
+fn best_clients(net: Network, rows: &[u64; 64], distances: &[u8]) -> [u8; 64]
+    requires { ⌜ WellFormed net (now rows) (now distances) ⌝ }
+    ensures { λ r. ⌜ ((v : ℕ) → v < net .n → asRouter (getD r v 0) ≡ bestClient (decoded net (now (rows .entry)) (now (distances .entry))) v) ⌝ }
+{
+    let n = net.n;
+    let mut best = [255u8; 64];
+    let mut v = 0;
+    while v < n {
+        best[v] = best_client(net, rows, distances, v);
+        v += 1;
+    }
+    best
+}
+
+// A row with router v added if it is relied on.
+fn noted(row: u64, v: usize, relied: bool) -> u64
+    requires { ⌜ v < 64 ⌝ }
+    ensures { λ r. ⌜ r ≡ cond relied (bitOr row (2 ^ v)) row ⌝ }
+{
+    if relied {
+        return base::bits::with_bit(row, v);
+    }
+    row
+}
+
+// The routers that w relies on, where `best` has every router's best client.
+fn reliance_row(net: Network, rows: &[u64; 64], distances: &[u8], best: &[u8; 64], w: usize) -> u64
+    requires { ⌜ WellFormed net (now rows) (now distances) × (w < net .n) × ((v : ℕ) → v < net .n → asRouter (getD (now best) v 0) ≡ bestClient (decoded net (now rows) (now distances)) v) ⌝ }
+    ensures { λ r. ⌜ RelianceRow (decoded net (now (rows .entry)) (now (distances .entry))) w (net .n) r ⌝ }
+{
+    let n = net.n;
+    let own = best[w];
+    let mut row: u64 = 0;
+    let mut v = 0;
+    while v < n {
+        row = noted(row, v, relies_by(net, rows, distances, w, v, own, best[v]));
+        v += 1;
+    }
+    row
+}
+
+// The routers that each router relies on.
+pub fn reliance_rows(net: Network, rows: &[u64; 64], distances: &[u8], out: &mut [u64; 64])
+    requires { ⌜ WellFormed net (now rows) (now distances) × (length (now out) ≡ 64) ⌝ }
+    ensures { λ _. ⌜ RelianceRows (decoded net (now (rows .entry)) (now (distances .entry))) (now (out .entry)) (now (out .exit)) ⌝ }
+{
+    let n = net.n;
+    let best = best_clients(net, rows, distances);
+    let mut w = 0;
+    while w < n {
+        out[w] = reliance_row(net, rows, distances, &best, w);
+        w += 1;
+    }
 }

@@ -1,5 +1,5 @@
 -- The tally counts the rounds as they are defined, over one sequence or over several.
-use Prim.Native.Nat.{ℕ, zero, suc, _+_, _%_, _^_, _<_}
+use Prim.Native.Nat.{ℕ, zero, suc, _+_, _%_, _^_, _≤_, _<_}
 use native.Mathlib.Omega.{arith}
 use native.Mathlib.Nat.{div-eq-of-lt}
 use mathlib.Core.Path.{_≡_, refl, _∙_, sym, ap}
@@ -173,3 +173,23 @@ tally-counts n acts b = omega (arith, tally-from n (freshTally n) [] 0 acts (rou
 pub tally-append : (n : ℕ) (t : Tally) (acts more : List ℕ) → tallyActs n t (acts ++ more) ≡ tallyActs n (tallyActs n t acts) more
 unfolding tallyActs
 tally-append n t acts more = foldl-append (tallyAct n) t acts more
+
+-- a tally always waits for some router, and an act ends one round at most
+module _ (n : ℕ) (t : Tally) (a : ℕ) where
+  pub tally-waits : 0 < n → 0 < t .missing → 0 < tallyAct n t a .missing
+  unfolding tallyAct
+  tally-waits l m = go (eqb (bitN (t .seen) a) 1) refl (eq-or-ne (t .missing) 1)
+    where
+      go : (b : Bool) → eqb (bitN (t .seen) a) 1 ≡ b → (t .missing ≡ 1) ⊎ (t .missing ≡ 1 → ⊥) → 0 < tallyAct n t a .missing
+      go true p q = rw p m
+      go false p (inl q) = rw (p, eq-eqb (t .missing) 1 q) l
+      go false p (inr q) = rw (p, ne-eqb (t .missing) 1 q) (omega arith)
+
+  pub tally-at-most : tallyAct n t a .ended ≤ t .ended + 1
+  unfolding tallyAct
+  tally-at-most = go (eqb (bitN (t .seen) a) 1) refl (eqb (t .missing) 1) refl
+    where
+      go : (b : Bool) → eqb (bitN (t .seen) a) 1 ≡ b → (d : Bool) → eqb (t .missing) 1 ≡ d → tallyAct n t a .ended ≤ t .ended + 1
+      go true p d q = rw p (omega arith)
+      go false p true q = rw (p, q) (omega arith)
+      go false p false q = rw (p, q) (omega arith)

@@ -1,6 +1,4 @@
-use native.Mathlib.Omega.{arith}
-use mathlib.Core.Path.{_≡_, refl, _∙_, sym, ap}
-use mathlib.Core.Bool.{true, not}
+use mathlib.Core.Path.{refl, _∙_, sym, ap}
 use borrow.Author.Needs.{needs}
 use Rattle.base.proofs.Numbers.{yes, no}
 use Rattle.routing.specs.Instance.{Instance}

@@ -1,7 +1,7 @@
 -- Each way is a case of what is kept.
-use Prim.Native.Nat.{ℕ, _<_}
+use Prim.Native.Nat.{ℕ}
 use native.Mathlib.Omega.{arith}
-use mathlib.Core.Path.{_≡_, refl, _∙_, sym, ap, ap₂}
+use mathlib.Core.Path.{_≡_, _∙_, sym, ap, ap₂}
 use mathlib.Core.Bool.{Bool}
 use mathlib.Core.Option.{some}
 use borrow.Author.Needs.{needs}

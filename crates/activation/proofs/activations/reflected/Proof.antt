@@ -6,7 +6,7 @@ use mathlib.Core.Bool.{Bool}
 use mathlib.Core.List.{List}
 use mathlib.Core.Option.{Option}
 use borrow.Author.Needs.{needs}
-use Rattle.routing.specs.Instance.{Instance, Route, via}
+use Rattle.routing.specs.Instance.{Instance, via}
 use Rattle.routing.specs.Activation.{reflects}
 use Rattle.network.specs.Decoded.{decoded}
 use Rattle.activation.specs.TableBytes.{routeOf}

@@ -31,14 +31,22 @@ returns-3 c =
 returns-4 : tie.Need-returns-4
 unfolding compareRefusal refuse
 returns-4 c =
-    rw (plan-passes _ _ (passes (c .before .before .before .before)), lt-ltb _ _ (c .before .before .if2 .left),
-    lt-ltb _ _ (c .before .if3 .left), le-ltb _ _ (c .if4 .taken))
+    rw (
+      plan-passes _ _ (passes (c .before .before .before .before)),
+      lt-ltb _ _ (c .before .before .if2 .left),
+      lt-ltb _ _ (c .before .if3 .left),
+      le-ltb _ _ (c .if4 .taken),
+    )
 
 returns-5 : tie.Need-returns-5
 unfolding compareRefusal refuse
 returns-5 c =
-    rw (plan-passes _ _ (passes (c .before .before .before .before)), lt-ltb _ _ (c .before .before .if2 .left),
-    lt-ltb _ _ (c .before .if3 .left), lt-ltb _ _ (c .if4 .left))
+    rw (
+      plan-passes _ _ (passes (c .before .before .before .before)),
+      lt-ltb _ _ (c .before .before .if2 .left),
+      lt-ltb _ _ (c .before .if3 .left),
+      lt-ltb _ _ (c .if4 .left),
+    )
 
 pub compare-refusal-spec : {M : Type 1} → statement M
 compare-refusal-spec =

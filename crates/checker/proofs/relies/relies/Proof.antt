@@ -25,10 +25,11 @@ guard c = c .before .before .before .before
 relies-requires : tie.Need-relies-requires
 relies-requires c κs =
     let q = asked (guard c) in
-    let read = c .before .before .decode .ensures in
-    (rw (c .part .ensures) (well-formed _ _ _ _ (q .planOk) (q .list) read),
-    rw (read .count) (q .router),
-    rw (read .count) (q .other))
+    let read = c .before .before .decode .ensures in (
+      rw (c .part .ensures) (well-formed _ _ _ _ (q .planOk) (q .list) read),
+      rw (read .count) (q .router),
+      rw (read .count) (q .other),
+    )
 
 -- the reliance found is that of the plan's network
 judged : (c : tie.After-relies) → let a = guard (c .before) .before .before .before .args in

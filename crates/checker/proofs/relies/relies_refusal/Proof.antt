@@ -35,15 +35,25 @@ returns-4 : tie.Need-returns-4
 unfolding reliesRefusal refuse
 returns-4 c =
     let d = c .before .before .before in
-    rw (plan-passes _ _ (passes (d .before .before)), ← (d .before .list-count .ensures), lt-ltb _ _ (d .if2 .left),
-    lt-ltb _ _ (c .before .if3 .left), le-ltb _ _ (c .if4 .taken))
+    rw (
+      plan-passes _ _ (passes (d .before .before)),
+      ← (d .before .list-count .ensures),
+      lt-ltb _ _ (d .if2 .left),
+      lt-ltb _ _ (c .before .if3 .left),
+      le-ltb _ _ (c .if4 .taken),
+    )
 
 returns-5 : tie.Need-returns-5
 unfolding reliesRefusal refuse
 returns-5 c =
     let d = c .before .before .before in
-    rw (plan-passes _ _ (passes (d .before .before)), ← (d .before .list-count .ensures), lt-ltb _ _ (d .if2 .left),
-    lt-ltb _ _ (c .before .if3 .left), lt-ltb _ _ (c .if4 .left))
+    rw (
+      plan-passes _ _ (passes (d .before .before)),
+      ← (d .before .list-count .ensures),
+      lt-ltb _ _ (d .if2 .left),
+      lt-ltb _ _ (c .before .if3 .left),
+      lt-ltb _ _ (c .if4 .left),
+    )
 
 pub relies-refusal-spec : {M : Type 1} → statement M
 relies-refusal-spec =

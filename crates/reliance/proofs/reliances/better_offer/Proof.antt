@@ -23,10 +23,12 @@ prefers-requires : tie.Need-prefers-requires
 prefers-requires c κs =
     let e = c .before .before in
     let d = e .before .before .before in
-    let p = d .pre in (
+    let p = d .pre in
+    let first = router-below _ (d .args .offer) (e .before .if1 .left) (p .3) in
+    let second = router-below _ (d .args .own) (e .if2 .left) (p .4) in (
       p .0,
-      omega (arith, c .before .wide .ensures .0, router-below _ (d .args .offer) (e .before .if1 .left) (p .3)),
-      omega (arith, c .wide2 .ensures .0, router-below _ (d .args .own) (e .if2 .left) (p .4)),
+      omega (arith, c .before .wide .ensures .0, c .wide2 .ensures .0, first, second),
+      omega (arith, c .before .wide .ensures .0, c .wide2 .ensures .0, first, second),
       p .1,
       p .2,
     )

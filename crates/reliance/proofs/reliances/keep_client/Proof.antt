@@ -1,7 +1,7 @@
 -- Each way is a case of `keepBest`.
 use Prim.Native.Nat.{ℕ, _<_}
 use native.Mathlib.Omega.{arith}
-use mathlib.Core.Path.{_≡_, refl, _∙_, sym, ap, ap₂}
+use mathlib.Core.Path.{_≡_, refl, _∙_, sym, ap}
 use mathlib.Core.Bool.{Bool, true}
 use mathlib.Core.Option.{Option, some}
 use borrow.Author.Needs.{needs}
@@ -52,7 +52,7 @@ best-below c = router-below _ _ (c .if2 .left) (c .before .before .before .befor
 prefers-requires : tie.Need-prefers-requires
 prefers-requires c κs =
     let p = c .before .before .before .before .before .pre in
-    (p .1, p .2, omega (arith, c .wide .ensures .0, best-below (c .before)), p .0 .count, p .0 .pairs)
+    (omega (arith, p .1), p .2, omega (arith, c .wide .ensures .0, best-below (c .before)), p .0 .count, p .0 .pairs)
 
 -- there is a best client so far, and it is compared with e
 module _ (c : tie.After-prefers) where

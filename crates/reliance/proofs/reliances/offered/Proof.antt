@@ -18,4 +18,4 @@ returns-2 c rows distances own =
     own ∙ sym (offer-unlisted (decoded (a .net) rows distances) _ (sym (c .before .has-bit .ensures) ∙ c .if1 .left))
 
 pub offered-spec : {M : Type 1} → statement M
-offered-spec = tie.close (tie.spec (λ c κs. search needs) (λ c. search needs) returns returns-2)
+offered-spec = tie.close (tie.spec (λ c. search needs) (λ c κs. search needs) returns returns-2)

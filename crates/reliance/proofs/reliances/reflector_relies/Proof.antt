@@ -1,5 +1,4 @@
 -- Each way is a case of rule 3.
-use Prim.Native.Nat.{ℕ}
 use native.Mathlib.Omega.{arith}
 use mathlib.Core.Path.{_≡_, refl, _∙_, sym, ap, ap₂}
 use borrow.Author.Needs.{needs}

@@ -1,5 +1,4 @@
 -- Each way is a case of the three rules.
-use native.Mathlib.Omega.{arith}
 use mathlib.Core.Path.{_≡_, _∙_, sym}
 use mathlib.Core.Bool.{false}
 use borrow.Author.Needs.{needs}
