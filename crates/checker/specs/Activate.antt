@@ -1,6 +1,7 @@
 -- Document 01: one act, here an activation, of a router on the caller's table.
 use Prim.Native.Nat.{ℕ, _*_}
 use mathlib.Core.List.{List}
+use mathlib.Core.Path.{_≡_}
 use mathlib.Core.Bool.{_&&_}
 use lib.Dec.{leb, ltb}
 use lib.ListN.{length}
@@ -27,3 +28,8 @@ activateRefusal plan k w table =
 unfoldable pub activateTable : List ℕ → ℕ → ℕ → List ℕ → List ℕ
 activateTable plan k w table =
     unlessRefused (activateRefusal plan k w table) table (activateBytes (instanceOf plan k) w table)
+
+-- an activation of w returns r and leaves the table `after`
+pub record Activates (plan : List ℕ) (k w : ℕ) (table : List ℕ) (r : ℕ) (after : List ℕ) : Type 0 where
+  pub number : r ≡ activateRefusal plan k w table
+  pub bytes : after ≡ activateTable plan k w table

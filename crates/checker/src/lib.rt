@@ -1,5 +1,6 @@
 // The public calls. None has a `requires`: any bytes and numbers get a result or a refusal number.
 
+pub mod activate;
 pub mod compare;
 pub mod lists;
 pub mod relies;

@@ -1,7 +1,7 @@
 -- The laws of a cascade of checks, and of the plan's own.
 use Prim.Native.Nat.{ℕ, suc}
 use native.Mathlib.Omega.{arith}
-use mathlib.Core.Path.{_≡_, refl, _∙_, sym}
+use mathlib.Core.Path.{_≡_, refl, _∙_, sym, ap}
 use mathlib.Core.Bool.{Bool, true, false}
 use mathlib.Core.List.{List}
 use mathlib.Core.Logic.{⊎-elim}
@@ -39,6 +39,26 @@ refuse-true ok number rest h = rw h
 pub refuse-false : (ok : Bool) (number rest : ℕ) → ok ≡ false → refuse ok number rest ≡ number
 unfolding refuse
 refuse-false ok number rest h = rw h
+
+-- checks after checks
+compose : {first more : ℕ → ℕ} → Cascade first → Cascade more → Cascade (λ rest. first (more rest))
+compose {first} {more} f g =
+    record {
+      passed = λ e rest. let z = opens e in f .passed z _ ∙ g .passed (sym (f .passed z _) ∙ e) rest;
+      refused =
+          λ ne rest.
+          ⊎-elim
+          (λ (z : first 0 ≡ 0). ap first (g .refused (λ w. ne (f .passed z _ ∙ w)) rest))
+          (λ (z : first 0 ≡ 0 → ⊥). f .refused z _ ∙ sym (f .refused z _))
+          (eq-or-ne (first 0) 0);
+    }
+  where
+    opens : first (more 0) ≡ 0 → first 0 ≡ 0
+    opens e = ⊎-elim (λ z. z) (λ (z : first 0 ≡ 0 → ⊥). sym (f .refused z _) ∙ e) (eq-or-ne (first 0) 0)
+
+-- the plan's checks and row 8, before those of a table
+pub call-cascade : (plan : List ℕ) (ok : Bool) → Cascade (λ rest. planChecks plan (refuse ok 8 rest))
+call-cascade plan ok = compose (plan-cascade plan) (one-more ok 7 no-checks)
 
 -- a call's own checks decide exactly where the plan's pass
 pub plan-passes : (plan : List ℕ) (rest : ℕ) → planRefusal plan ≡ 0 → planChecks plan rest ≡ rest
