@@ -1,2 +1,3 @@
 pub mod TableBytes
 pub mod OnePass
+pub mod Running

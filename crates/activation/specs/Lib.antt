@@ -1,3 +1,4 @@
 pub mod TableBytes
 pub mod OnePass
 pub mod Tallied
+pub mod Applied

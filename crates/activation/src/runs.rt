@@ -1,0 +1,57 @@
+// A sequence of activations on the caller's table, at most a given limit of them.
+
+use crate::tally::RoundTally;
+use network::Network;
+ghost use mathlib.Core.Path.{_≡_};
+ghost use mathlib.Core.Bool.{true};
+ghost use Prim.Native.Nat.{ℕ, _*_, _≤_, _<_};
+ghost use lib.ListN.{length, getD};
+ghost use Rattle.routing.specs.Activation.{tableOk};
+ghost use Rattle.network.specs.Decoded.{decoded};
+ghost use Rattle.network.specs.WellFormed.{WellFormed};
+ghost use Rattle.activation.specs.TableBytes.{tableOf};
+ghost use Rattle.activation.specs.Applied.{RunLeaves};
+
+// The acts applied, the whole rounds in them, and whether acts were left when the limit was reached.
+pub struct Applied {
+    pub acts: usize,
+    pub rounds: usize,
+    pub exhausted: bool,
+}
+
+// Applies a sequence; `left` is the budget of acts left.
+pub fn apply(
+    net: Network,
+    rows: &[u64; 64],
+    distances: &[u8],
+    sequence: &[u8],
+    limit: usize,
+    table: &mut [u8],
+) -> Applied
+    requires { ⌜ WellFormed net (now rows) (now distances) × (0 < net .n) × (2 * net .n ≤ length (now table)) × (tableOk (decoded net (now rows) (now distances)) (tableOf (now table) (net .n)) ≡ true) × ((i : ℕ) → i < length (now sequence) → getD (now sequence) i 0 < net .n) ⌝ }
+    ensures { λ r. ⌜ RunLeaves (decoded net (now (rows .entry)) (now (distances .entry))) (now (sequence .entry)) limit (now (table .entry)) r (now (table .exit)) ⌝ }
+{
+    let n = net.n;
+    let mut tally = RoundTally::new(n);
+    let mut left = limit;
+    let mut i = 0;
+    while i < sequence.len() {
+        if left == 0 {
+            return Applied {
+                acts: i,
+                rounds: tally.ended,
+                exhausted: true,
+            };
+        }
+        let router = base::wide(sequence[i]);
+        crate::activations::activate(net, rows, distances, router, table);
+        tally = tally.act(n, router);
+        left -= 1;
+        i += 1;
+    }
+    Applied {
+        acts: i,
+        rounds: tally.ended,
+        exhausted: false,
+    }
+}
