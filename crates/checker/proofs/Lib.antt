@@ -4,3 +4,4 @@ pub mod ListStretch
 pub mod Comparing
 pub mod Relying
 pub mod Acting
+pub mod Sequences

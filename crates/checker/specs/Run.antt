@@ -1,6 +1,7 @@
 -- Document 01: "A run applies a sequence of acts, at most a given limit of them."
 use Prim.Native.Nat.{ℕ, min}
 use mathlib.Core.List.{List}
+use mathlib.Core.Path.{_≡_}
 use mathlib.Core.Bool.{Bool, _&&_}
 use lib.Dec.{ltb}
 use lib.ListN.{length, getD, take}
@@ -11,6 +12,7 @@ use Rattle.plan.specs.Refusal.{refuse, planChecks}
 use Rattle.routing.specs.Rounds.{rounds}
 use Rattle.network.specs.FromPlan.{instanceOf}
 use Rattle.activation.specs.TableBytes.{runBytes}
+use Rattle.checker.specs.declared.run.RunAnswer.{RunAnswer}
 use Rattle.checker.specs.Refused.{unlessRefused, field, flagField}
 use Rattle.checker.specs.Activate.{tableChecks}
 
@@ -37,3 +39,11 @@ runExhausted number acts limit = flagField number (ltb limit (length acts))
 unfoldable pub runTable : List ℕ → ℕ → List ℕ → ℕ → List ℕ → List ℕ
 runTable plan k acts limit table =
     unlessRefused (runRefusal plan k acts table) table (runBytes (instanceOf plan k) table (take limit acts))
+
+-- a run returns r and leaves the table `after`; `number` in the fields is the refusal that r states
+pub record Runs (plan : List ℕ) (k : ℕ) (acts : List ℕ) (limit : ℕ) (table : List ℕ) (r : RunAnswer) (after : List ℕ) : Type 0 where
+  pub number : r .refused ≡ runRefusal plan k acts table
+  pub applied : r .applied ≡ runApplied (runRefusal plan k acts table) acts limit
+  pub whole : r .rounds ≡ runRounds (runRefusal plan k acts table) plan acts limit
+  pub spent : r .exhausted ≡ runExhausted (runRefusal plan k acts table) acts limit
+  pub bytes : after ≡ runTable plan k acts limit table

@@ -4,6 +4,7 @@ pub mod activate;
 pub mod compare;
 pub mod lists;
 pub mod relies;
+pub mod run;
 pub mod verdict;
 
 ghost use mathlib.Core.Path.{_≡_};
