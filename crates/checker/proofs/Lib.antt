@@ -1,2 +1,4 @@
 pub mod Refused
 pub mod ListStretch
+pub mod Settled
+pub mod Series
