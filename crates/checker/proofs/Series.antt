@@ -52,10 +52,11 @@ append-below n acts more a b i h =
     ⊎-elim (λ (l : i < length acts). omega (arith, List·getD-append acts more 0 i l, a i l))
     (λ (l : length acts ≤ i).
     let e : i ≡ length acts + (i - length acts) = omega arith in
-    omega
-    (arith,
-    ap (λ j. getD (acts ++ more) j 0) e ∙ getD-append-add acts more (i - length acts) 0,
-    b (i - length acts) (omega (arith, length-append acts more))))
+    omega (
+      arith,
+      ap (λ j. getD (acts ++ more) j 0) e ∙ getD-append-add acts more (i - length acts) 0,
+      b (i - length acts) (omega (arith, length-append acts more)),
+    ))
     (lt-or-le i (length acts))
 
 -- what acts, all of routers below n, make of a buffer
