@@ -1,5 +1,5 @@
 pub mod Refused
 pub mod ListStretch
-pub mod Settled
+pub mod VerdictMeaning
 pub mod Series
 pub mod SmallPlans

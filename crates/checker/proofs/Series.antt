@@ -33,7 +33,7 @@ use Rattle.checker.specs.Activate.{activateRefusal, activateTable}
 use Rattle.checker.specs.Run.{sequenceOk, runRefusal, runTable}
 use Rattle.checker.specs.Series.{Call, activateCall, runCall, callPlan, callList, callRefusal, bufferAfter, callActs, seriesBuffer, seriesActs, ForThis, Enough, EverySeriesSettles}
 use Rattle.checker.proofs.Refused.{when-refused, when-given}
-use Rattle.checker.proofs.Settled.{ranked, settled-alone}
+use Rattle.checker.proofs.VerdictMeaning.{ranked, settled-alone}
 
 -- acts of routers below n: one act, a part of a sequence, two sequences one after the other
 one-below : (n w : ℕ) → w < n → ActsBelow n (w ∷ [])
