@@ -1,11 +1,11 @@
--- Demand 3: every series of calls on a table of a stable list settles.
+-- Demand 3: every series of calls on a table of a stable list settles; and every series can go on.
 use Prim.Native.Nat.{ℕ, zero, suc, _+_, _-_, _*_, _≤_, _<_}
 use native.Mathlib.Omega.{arith}
 use mathlib.Core.Path.{_≡_, refl, _∙_, sym, ap, ap₂}
 use mathlib.Core.Bool.{Bool, true}
 use mathlib.Core.List.{List, [], _∷_, _++_, foldl-append}
 use mathlib.Core.Logic.{_⊎_, ⊎-elim}
-use borrow.Author.Tests.{ltb-true}
+use borrow.Author.Tests.{ltb-true, le-leb}
 use lib.Dec.{ltb}
 use lib.ListN.{length, getD, take, drop, length-append, length-take, List·getD-append}
 use lib.Seq.{getD-take, getD-append-add}
@@ -14,24 +14,25 @@ use Rattle.base.proofs.Below.{all-at}
 use Rattle.contents.specs.Header.{routerCount}
 use Rattle.plan.specs.EgressLists.{listCount}
 use Rattle.plan.specs.Refusal.{refuse, planChecks}
-use Rattle.plan.proofs.Cascade.{refuse-passed, plan-passes, plan-of-passed}
+use Rattle.plan.proofs.Cascade.{refuse-passed, refuse-true, plan-passes, plan-of-passed}
 use Rattle.plan.proofs.Passed.{passed}
-use Rattle.graph.specs.Rank.{rank}
-use Rattle.routing.specs.Instance.{Instance}
-use Rattle.routing.specs.Activation.{runActs}
+use Rattle.routing.specs.Instance.{Instance, Route}
+use Rattle.routing.specs.Activation.{tableOk, activate, runActs}
+use Rattle.routing.proofs.Activation.{activate-ok}
 use Rattle.routing.proofs.Rounds.{ActsBelow}
 use Rattle.settling.specs.Settled.{settledTable}
-use Rattle.settling.specs.Claims.{OneSteadyTable}
+use Rattle.settling.specs.Claims.{IsTable, Steady}
 use Rattle.settling.proofs.Existence.{steady-stays}
 use Rattle.settling.proofs.Settling.{settles}
 use Rattle.network.specs.FromPlan.{instanceOf}
 use Rattle.activation.specs.TableBytes.{tableOf, tableBytes, activateBytes, runBytes}
 use Rattle.activation.proofs.TableBytes.{table-length, table-front, table-bytes, run-bytes-length, run-bytes-rest, run-table}
 use Rattle.checker.specs.Refused.{unlessRefused}
-use Rattle.checker.specs.Verdict.{reliance, highestOf, settledBytes}
-use Rattle.checker.specs.Activate.{activateRefusal, activateTable}
+use Rattle.checker.specs.Verdict.{highestOf, settledBytes}
+use Rattle.checker.specs.VerdictMeaning.{rankIn}
+use Rattle.checker.specs.Activate.{tableChecks, activateRefusal, activateTable}
 use Rattle.checker.specs.Run.{sequenceOk, runRefusal, runTable}
-use Rattle.checker.specs.Series.{Call, activateCall, runCall, callPlan, callList, callRefusal, bufferAfter, callActs, seriesBuffer, seriesActs, ForThis, Enough, EverySeriesSettles}
+use Rattle.checker.specs.Series.{Call, activateCall, runCall, callPlan, callList, callRefusal, bufferAfter, callActs, seriesBuffer, seriesActs, ForThis, Enough, EverySeriesSettles, EverySeriesGoesOn}
 use Rattle.checker.proofs.Refused.{when-refused, when-given}
 use Rattle.checker.proofs.VerdictMeaning.{ranked, settled-alone}
 
@@ -130,37 +131,31 @@ module _ (plan : List ℕ) (k : ℕ) where
 same-buffer : (n : ℕ) (a b : List ℕ) → 2 * n ≤ length a → 2 * n ≤ length b → tableOf a n ≡ tableOf b n → drop (2 * n) a ≡ drop (2 * n) b → a ≡ b
 same-buffer n a b l m t d = table-bytes a n l ∙ ap₂ (λ x y. tableBytes x ++ y) t d ∙ sym (table-bytes b n m)
 
--- what such acts leave where the settled table is the one that no act changes
-module _ (I : Instance) (R : ℕ) (one : OneSteadyTable I R) (small : I .n ≤ 64) where
-  module _ (acts before after : List ℕ) (long : 2 * I .n ≤ length before) (a : Applied I acts before after) where
-    applied-length : length after ≡ length before
-    applied-length = ap length (a .is) ∙ run-bytes-length I before acts
+module _ (I : Instance) (small : I .n ≤ 64) (acts before after : List ℕ) (long : 2 * I .n ≤ length before) (a : Applied I acts before after) where
+  applied-long : 2 * I .n ≤ length after
+  applied-long = omega (arith, ap length (a .is) ∙ run-bytes-length I before acts)
 
-    applied-rest : drop (2 * I .n) after ≡ drop (2 * I .n) before
-    applied-rest = ap (drop (2 * I .n)) (a .is) ∙ run-bytes-rest I before acts (a .below)
+  applied-rest : drop (2 * I .n) after ≡ drop (2 * I .n) before
+  applied-rest = ap (drop (2 * I .n)) (a .is) ∙ run-bytes-rest I before acts (a .below)
 
-    applied-table : tableOf after (I .n) ≡ runActs I (tableOf before (I .n)) acts
-    applied-table = ap (λ b. tableOf b (I .n)) (a .is) ∙ run-table I before acts small (a .below) long
+  applied-table : tableOf after (I .n) ≡ runActs I (tableOf before (I .n)) acts
+  applied-table = ap (λ b. tableOf b (I .n)) (a .is) ∙ run-table I before acts small (a .below) long
 
-    -- a buffer that holds it keeps every byte
-    applied-stays : tableOf before (I .n) ≡ settledTable I R → after ≡ before
-    applied-stays settled =
-        same-buffer (I .n) after before (omega (arith, applied-length)) long
-        (applied-table ∙ ap (λ t. runActs I t acts) settled ∙ steady-stays I (settledTable I R) (one .table) (one .steady) acts ∙ sym settled)
-        applied-rest
+  -- a buffer whose table no act changes keeps every byte
+  applied-stays : (t : List Route) → IsTable I t → Steady I t → tableOf before (I .n) ≡ t → after ≡ before
+  applied-stays t e steady holds =
+      same-buffer (I .n) after before applied-long long
+      (applied-table ∙ ap (λ u. runActs I u acts) holds ∙ steady-stays I t e steady acts ∙ sym holds)
+      applied-rest
 
 pub every-series-settles : EverySeriesSettles
 unfolding settledBytes
 every-series-settles plan k start s calls this =
     record {
       settled = λ enough. table-front after n long ∙ ap tableBytes (reached enough);
-      steady =
-          λ enough w l.
-          applied-stays I R one small (w ∷ []) after (activateBytes I w after) long (one-act I w after l) (reached enough);
-      kept =
-          λ enough more that.
-          applied-stays I R one small (seriesActs more after) after (seriesBuffer more after) long (series-applies plan k more after that) (reached enough);
-      rest = applied-rest I R one small acts start after (s .long) applied;
+      steady = λ enough w l. stays enough (w ∷ []) (activateBytes I w after) (one-act I w after l);
+      kept = λ enough more that. stays enough (seriesActs more after) (seriesBuffer more after) (series-applies plan k more after that);
+      rest = applied-rest I small acts start after (s .long) applied;
     }
   where
     n : ℕ
@@ -168,12 +163,6 @@ every-series-settles plan k start s calls this =
 
     I : Instance
     I = instanceOf plan k
-
-    R : ℕ
-    R = highestOf plan k
-
-    one : OneSteadyTable I R
-    one = settled-alone plan k (s .stableList)
 
     small : n ≤ 64
     small = passed plan (s .planOk) .count .most
@@ -188,9 +177,34 @@ every-series-settles plan k start s calls this =
     applied = series-applies plan k calls start this
 
     long : 2 * n ≤ length after
-    long = omega (arith, s .long, applied-length I R one small acts start after (s .long) applied)
+    long = applied-long I small acts start after (s .long) applied
 
-    reached : Enough plan k calls start → tableOf after n ≡ settledTable I R
+    settled : List Route
+    settled = settledTable I (highestOf plan k)
+
+    reached : Enough plan k calls start → tableOf after n ≡ settled
     reached enough =
-        applied-table I R one small acts start after (s .long) applied
-        ∙ settles I (rank (reliance plan k) n) R (ranked plan k (s .stableList)) (tableOf start n) (table-length start n) acts enough .reached
+        applied-table I small acts start after (s .long) applied
+        ∙ settles I (rankIn plan k) (highestOf plan k) (ranked plan k (s .stableList)) (tableOf start n) (table-length start n) acts enough .reached
+
+    stays : Enough plan k calls start → (more later : List ℕ) → Applied I more after later → later ≡ after
+    stays enough more later a =
+        let one = settled-alone plan k (s .stableList) in
+        applied-stays I small more after later long a settled (one .table) (one .steady) (reached enough)
+
+run-ok : (I : Instance) (t : List Route) (acts : List ℕ) → tableOk I t ≡ true → tableOk I (runActs I t acts) ≡ true
+unfolding runActs
+run-ok I t [] h = h
+run-ok I t (w ∷ acts) h = run-ok I (activate I w t) acts (activate-ok I w t h)
+
+pub every-series-goes-on : EverySeriesGoesOn
+unfolding tableChecks
+every-series-goes-on plan k start s calls this =
+    let I = instanceOf plan k in
+    let acts = seriesActs calls start in
+    let after = seriesBuffer calls start in
+    let small = passed plan (s .planOk) .count .most in
+    let applied = series-applies plan k calls start this in
+    refuse-true _ 9 _ (le-leb (2 * routerCount plan) (length after) (applied-long I small acts start after (s .long) applied))
+    ∙ refuse-true _ 10 _
+    (ap (tableOk I) (applied-table I small acts start after (s .long) applied) ∙ run-ok I (tableOf start (routerCount plan)) acts (s .table))

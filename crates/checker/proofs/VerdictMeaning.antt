@@ -45,9 +45,10 @@ module _ (plan : List ℕ) (k : ℕ) where
     together-shares h =
         ⊎-elim (λ (e : w ≡ v). inl e)
         (λ (c : (1 ≤ closure (reliance plan k) (routerCount plan) w v) × (1 ≤ closure (reliance plan k) (routerCount plan) v w)).
-        inr
-        (closure-is (reliance plan k) (routerCount plan) w v l m .0 (c .0),
-        closure-is (reliance plan k) (routerCount plan) v w m l .0 (c .1)))
+        inr (
+          closure-is (reliance plan k) (routerCount plan) w v l m .0 (c .0),
+          closure-is (reliance plan k) (routerCount plan) v w m l .0 (c .1),
+        ))
         (together-cases (closure (reliance plan k) (routerCount plan)) w v h)
 
   module _ (stableList : isStable plan k ≡ true) where
@@ -87,9 +88,10 @@ module _ (plan : List ℕ) (k : ℕ) where
             (label-shares (closure (reliance plan k) (routerCount plan)) w);
         labelLowest = λ w v l m h. label-lowest (closure (reliance plan k) (routerCount plan)) w v (shares-together w v l m h);
         stableGroups =
-            let groups = stable-groups (closure (reliance plan k) (routerCount plan)) (routerCount plan) in
-            (λ h w v l m s. groups .0 h w v l m (shares-together w v l m s),
-            λ h. groups .1 (λ w v l m s. h w v l m (together-shares w v l m s)));
+            let groups = stable-groups (closure (reliance plan k) (routerCount plan)) (routerCount plan) in (
+              λ h w v l m s. groups .0 h w v l m (shares-together w v l m s),
+              λ h. groups .1 (λ w v l m s. h w v l m (together-shares w v l m s)),
+            );
         stableChains = stable-chains (reliance plan k) (routerCount plan) relies-irreflexive;
         ring = cycle-is (reliance plan k) (routerCount plan);
         rankNone = λ s w l h. rank-none (reliance plan k) (routerCount plan) (acyclic s) w l (λ v m. ap flag (h v m));
