@@ -26,11 +26,11 @@ use Rattle.activation.specs.TableBytes.{readRoute, tableOf, tableBytes, activat
 use Rattle.checker.specs.Verdict.{isStable, labelsOf, ranksOf, highestOf, settledBytes, cycleOf, verdictRefusal, verdictOf, verdictAnswer, labelsAfter, ranksAfter, tableAfter, cycleAfter}
 use Rattle.checker.specs.Activate.{tableChecks}
 use Rattle.checker.specs.Run.{sequenceOk, runRefusal, runApplied, runRounds, runExhausted, runTable}
-use Rattle.checker.specs.SmallPlans.{smallRouters, smallSessions, smallDistances, smallLists, smallPlan, answerTo, nearPlan, ringPlan, emptyTable, M1, M2, M3, M4, M5, M6, M7, M8, M9, smallPlans, SmallPlansHold}
+use Rattle.checker.specs.SmallPlans.{smallRouters, smallSessions, smallDistances, smallLists, smallPlan, answerTo, bothClients, cyclePlan, emptyTable, M1, M2, M3, M4, M5, M6, M7, M8, M9, smallPlans, SmallPlansHold}
 
 pub small-plans : SmallPlansHold
 unfolding
-    smallRouters smallSessions smallDistances smallLists smallPlan answerTo nearPlan ringPlan emptyTable M1 M2 M3 M4 M5 M6 M7 M8 M9 smallPlans
+    smallRouters smallSessions smallDistances smallLists smallPlan answerTo bothClients cyclePlan emptyTable M1 M2 M3 M4 M5 M6 M7 M8 M9 smallPlans
     isStable labelsOf ranksOf highestOf settledBytes cycleOf verdictRefusal verdictOf verdictAnswer labelsAfter ranksAfter tableAfter cycleAfter
     tableChecks sequenceOk runRefusal runApplied runRounds runExhausted runTable
     readRoute tableOf tableBytes activateBytes runBytes chooseAll chosenAfter settledTable start next walk second first lap cycleIn cycle

@@ -93,7 +93,7 @@ module _ (plan : List ℕ) (k : ℕ) where
               λ h. groups .1 (λ w v l m s. h w v l m (together-shares w v l m s)),
             );
         stableChains = stable-chains (reliance plan k) (routerCount plan) relies-irreflexive;
-        ring = cycle-is (reliance plan k) (routerCount plan);
+        showsCycle = cycle-is (reliance plan k) (routerCount plan);
         rankNone = λ s w l h. rank-none (reliance plan k) (routerCount plan) (acyclic s) w l (λ v m. ap flag (h v m));
         rankSome = highest-below;
         settled = settled-alone;

@@ -63,33 +63,33 @@ pub data Question : Type 0 where
 
 -- what is answered: all that the call returns, and every byte of the buffers it is lent
 pub data Answer : Type 0 where
-  verdictIs : (verdict : VerdictAnswer) (labels ranks table ring : List ℕ) → Answer
+  verdictIs : (verdict : VerdictAnswer) (labels ranks table cycle : List ℕ) → Answer
   runIs : (refusal applied rounds : ℕ) (exhausted : Bool) (table : List ℕ) → Answer
 
--- the verdict call is lent as much as it needs for four routers, all bytes 255
-abbrev pub lent : ℕ → List ℕ
-lent count = replicate count 255
+-- the verdict call is lent as many bytes as it needs for four routers, all 255
+abbrev pub blank : ℕ → List ℕ
+blank count = replicate count 255
 
 -- the answer, by the definitions that the contracts of `verdict` and `run` cite
 unfoldable pub answerTo : List ℕ → ℕ → Question → Answer
 answerTo plan k verdictAsked =
-    let number = verdictRefusal plan k (lent 4) (lent 4) (lent 8) (lent 4) in
-    verdictIs (verdictAnswer number plan k) (labelsAfter number plan k (lent 4)) (ranksAfter number plan k (lent 4))
-    (tableAfter number plan k (lent 8))
-    (cycleAfter number plan k (lent 4))
+    let number = verdictRefusal plan k (blank 4) (blank 4) (blank 8) (blank 4) in
+    verdictIs (verdictAnswer number plan k) (labelsAfter number plan k (blank 4)) (ranksAfter number plan k (blank 4))
+    (tableAfter number plan k (blank 8))
+    (cycleAfter number plan k (blank 4))
 answerTo plan k (runAsked table acts) =
     let limit = length acts in
     let number = runRefusal plan k acts (tableBytes table) in
     runIs number (runApplied number acts limit) (runRounds number plan acts limit) (runExhausted number acts limit)
     (runTable plan k acts limit (tableBytes table))
 
--- a stable verdict: each router is its own group, and the ring's bytes are as they were
+-- a stable verdict: each router is its own group, and the cycle's bytes are as they were
 abbrev pub stableIs : (highest : ℕ) (ranks : List ℕ) (settled : List Route) → Answer
-stableIs highest ranks settled = verdictIs (Stable highest) (0 ∷ 1 ∷ 2 ∷ 3 ∷ []) ranks (tableBytes settled) (lent 4)
+stableIs highest ranks settled = verdictIs (Stable highest) (0 ∷ 1 ∷ 2 ∷ 3 ∷ []) ranks (tableBytes settled) (blank 4)
 
--- a suspect one: the bytes of ranks and table, and those after the ring, are as they were
-abbrev pub suspectIs : (labels ring : List ℕ) → Answer
-suspectIs labels ring = verdictIs (Suspect (length ring)) labels (lent 4) (lent 8) (ring ++ lent (4 - length ring))
+-- a suspect one: the bytes of ranks and table, and those after the cycle (the paper's ring), are as they were
+abbrev pub suspectIs : (labels cycle : List ℕ) → Answer
+suspectIs labels cycle = verdictIs (Suspect (length cycle)) labels (blank 4) (blank 8) (cycle ++ blank (4 - length cycle))
 
 -- the acts 0 to 3 in some order, all applied: so many rounds, and the table they leave
 abbrev pub ranFour : (rounds : ℕ) (table : List Route) → Answer
@@ -109,11 +109,11 @@ abbrev pub runCase : List ℕ → ℕ → List Route → List ℕ → Answer →
 runCase plan k table acts answer = record { plan = plan; list = k; question = runAsked table acts; answer = answer }
 
 -- the plan with list 2,3; and M3's plan, with lists 3 and 0 besides
-unfoldable pub nearPlan : ℕ → ℕ → List ℕ
-nearPlan p q = smallPlan p q ((2 ∷ 3 ∷ []) ∷ [])
+unfoldable pub bothClients : ℕ → ℕ → List ℕ
+bothClients p q = smallPlan p q ((2 ∷ 3 ∷ []) ∷ [])
 
-unfoldable pub ringPlan : List ℕ
-ringPlan = smallPlan 6 6 ((2 ∷ 3 ∷ []) ∷ (3 ∷ []) ∷ (0 ∷ []) ∷ [])
+unfoldable pub cyclePlan : List ℕ
+cyclePlan = smallPlan 6 6 ((2 ∷ 3 ∷ []) ∷ (3 ∷ []) ∷ (0 ∷ []) ∷ [])
 
 -- "unlisted hold nothing", of list 2,3
 unfoldable pub emptyTable : List Route
@@ -121,39 +121,39 @@ emptyTable = nothing ∷ nothing ∷ via 2 2 ∷ via 3 3 ∷ []
 
 -- "M1 (M1 to M5 have list 2,3): p = q = 14: stable, ranks 1 1 0 0, each holds the near client."
 unfoldable pub M1 : Case
-M1 = verdictCase (nearPlan 14 14) 0 (stableIs 1 (1 ∷ 1 ∷ 0 ∷ 0 ∷ []) (via 2 2 ∷ via 3 3 ∷ via 2 2 ∷ via 3 3 ∷ []))
+M1 = verdictCase (bothClients 14 14) 0 (stableIs 1 (1 ∷ 1 ∷ 0 ∷ 0 ∷ []) (via 2 2 ∷ via 3 3 ∷ via 2 2 ∷ via 3 3 ∷ []))
 
 -- "M2: p = 6, q = 14: ranks 2 1 0 0; router 0 holds 3 from 1."
 unfoldable pub M2 : Case
-M2 = verdictCase (nearPlan 6 14) 0 (stableIs 2 (2 ∷ 1 ∷ 0 ∷ 0 ∷ []) (via 3 1 ∷ via 3 3 ∷ via 2 2 ∷ via 3 3 ∷ []))
+M2 = verdictCase (bothClients 6 14) 0 (stableIs 2 (2 ∷ 1 ∷ 0 ∷ 0 ∷ []) (via 3 1 ∷ via 3 3 ∷ via 2 2 ∷ via 3 3 ∷ []))
 
 -- "M3: p = q = 6: suspect, labels 0 0 2 3, ring 0 1."
 unfoldable pub M3 : Case
-M3 = verdictCase ringPlan 0 (suspectIs (0 ∷ 0 ∷ 2 ∷ 3 ∷ []) (0 ∷ 1 ∷ []))
+M3 = verdictCase cyclePlan 0 (suspectIs (0 ∷ 0 ∷ 2 ∷ 3 ∷ []) (0 ∷ 1 ∷ []))
 
 -- "M4: p = q = 10: ranks 1 2 0 0; router 1 holds 2 from 0."
 unfoldable pub M4 : Case
-M4 = verdictCase (nearPlan 10 10) 0 (stableIs 2 (1 ∷ 2 ∷ 0 ∷ 0 ∷ []) (via 2 2 ∷ via 2 0 ∷ via 2 2 ∷ via 3 3 ∷ []))
+M4 = verdictCase (bothClients 10 10) 0 (stableIs 2 (1 ∷ 2 ∷ 0 ∷ 0 ∷ []) (via 2 2 ∷ via 2 0 ∷ via 2 2 ∷ via 3 3 ∷ []))
 
 -- "M5: p = 9, q = 10: suspect, ring 0 1."
 unfoldable pub M5 : Case
-M5 = verdictCase (nearPlan 9 10) 0 (suspectIs (0 ∷ 0 ∷ 2 ∷ 3 ∷ []) (0 ∷ 1 ∷ []))
+M5 = verdictCase (bothClients 9 10) 0 (suspectIs (0 ∷ 0 ∷ 2 ∷ 3 ∷ []) (0 ∷ 1 ∷ []))
 
 -- "M6: M3's distances, list 3: ranks 2 1 3 0; router 2 holds 3 from 0."
 unfoldable pub M6 : Case
-M6 = verdictCase ringPlan 1 (stableIs 3 (2 ∷ 1 ∷ 3 ∷ 0 ∷ []) (via 3 1 ∷ via 3 3 ∷ via 3 0 ∷ via 3 3 ∷ []))
+M6 = verdictCase cyclePlan 1 (stableIs 3 (2 ∷ 1 ∷ 3 ∷ 0 ∷ []) (via 3 1 ∷ via 3 3 ∷ via 3 0 ∷ via 3 3 ∷ []))
 
 -- "M7: M3's distances, list 0: ranks 0 1 1 2; router 3 holds 0 from 1."
 unfoldable pub M7 : Case
-M7 = verdictCase ringPlan 2 (stableIs 2 (0 ∷ 1 ∷ 1 ∷ 2 ∷ []) (via 0 0 ∷ via 0 0 ∷ via 0 0 ∷ via 0 1 ∷ []))
+M7 = verdictCase cyclePlan 2 (stableIs 2 (0 ∷ 1 ∷ 1 ∷ 2 ∷ []) (via 0 0 ∷ via 0 0 ∷ via 0 0 ∷ via 0 1 ∷ []))
 
 -- "M8: M3's plan, list 2,3, unlisted hold nothing, acts 0 1 2 3: router 0 holds 2 from 2, 1 holds 2 from 0; one round."
 unfoldable pub M8 : Case
-M8 = runCase ringPlan 0 emptyTable (0 ∷ 1 ∷ 2 ∷ 3 ∷ []) (ranFour 1 (via 2 2 ∷ via 2 0 ∷ via 2 2 ∷ via 3 3 ∷ []))
+M8 = runCase cyclePlan 0 emptyTable (0 ∷ 1 ∷ 2 ∷ 3 ∷ []) (ranFour 1 (via 2 2 ∷ via 2 0 ∷ via 2 2 ∷ via 3 3 ∷ []))
 
 -- "M9: the same, acts 1 0 2 3: 1 holds 3 from 3, 0 holds 3 from 1."
 unfoldable pub M9 : Case
-M9 = runCase ringPlan 0 emptyTable (1 ∷ 0 ∷ 2 ∷ 3 ∷ []) (ranFour 1 (via 3 1 ∷ via 3 3 ∷ via 2 2 ∷ via 3 3 ∷ []))
+M9 = runCase cyclePlan 0 emptyTable (1 ∷ 0 ∷ 2 ∷ 3 ∷ []) (ranFour 1 (via 3 1 ∷ via 3 3 ∷ via 2 2 ∷ via 3 3 ∷ []))
 
 unfoldable pub smallPlans : List Case
 smallPlans = M1 ∷ M2 ∷ M3 ∷ M4 ∷ M5 ∷ M6 ∷ M7 ∷ M8 ∷ M9 ∷ []
