@@ -5,3 +5,6 @@ pub mod Comparing
 pub mod Relying
 pub mod Acting
 pub mod Sequences
+pub mod VerdictMeaning
+pub mod Series
+pub mod SmallPlans

@@ -13,7 +13,7 @@ use Rattle.network.specs.FromPlan.{instanceOf}
 use Rattle.activation.specs.TableBytes.{tableOf, activateBytes}
 use Rattle.checker.specs.Refused.{unlessRefused}
 use Rattle.checker.specs.Verdict.{isStable, highestOf, settledBytes}
-use Rattle.checker.specs.Activate.{activateRefusal, activateTable}
+use Rattle.checker.specs.Activate.{tableChecks, activateRefusal, activateTable}
 use Rattle.checker.specs.Run.{runRefusal, runTable}
 
 -- "any number of act and run calls, mixed in any order": what such a call is handed beside the buffer, which may be anything
@@ -72,7 +72,7 @@ pub record Start (plan : List ℕ) (k : ℕ) (buffer : List ℕ) : Type 0 where
 abbrev pub Enough : List ℕ → ℕ → List Call → List ℕ → Type 0
 Enough plan k calls start = highestOf plan k + 2 ≤ rounds (routerCount plan) (seriesActs calls start)
 
--- "Take the point after any call of the series."
+-- "Take the point after any call of the series.": `calls` are the calls up to there
 pub record SettledAfter (plan : List ℕ) (k : ℕ) (start : List ℕ) (calls : List Call) : Type 0 where
   -- "the first 2n bytes then equal, byte for byte, the settled table that the verdict call writes for this plan and list"
   pub settled : Enough plan k calls start → take (2 * routerCount plan) (seriesBuffer calls start) ≡ settledBytes plan k
@@ -90,3 +90,9 @@ abbrev pub EverySeriesSettles : Type 0
 EverySeriesSettles =
     (plan : List ℕ) (k : ℕ) (start : List ℕ) → Start plan k start → (calls : List Call) → ForThis plan k calls start
     → SettledAfter plan k start calls
+
+-- A series can always go on: the buffer stays one that no call for this plan and list is refused for.
+abbrev pub EverySeriesGoesOn : Type 0
+EverySeriesGoesOn =
+    (plan : List ℕ) (k : ℕ) (start : List ℕ) → Start plan k start → (calls : List Call) → ForThis plan k calls start
+    → tableChecks plan k (seriesBuffer calls start) ≡ 0
