@@ -1,5 +1,5 @@
 -- Bytes written into a caller's buffer.
-use Prim.Native.Nat.{ℕ, _+_}
+use Prim.Native.Nat.{ℕ, _+_, _≤_}
 use mathlib.Core.Path.{_≡_}
 use mathlib.Core.List.{List, _++_}
 use lib.ListN.{length, take, drop}
@@ -8,8 +8,9 @@ use lib.ListN.{length, take, drop}
 unfoldable pub written : List ℕ → ℕ → List ℕ → List ℕ
 written buffer at bytes = take at buffer ++ bytes ++ drop (at + length bytes) buffer
 
--- bytes were written from `at` on, and `next` is the place after them
+-- bytes were written from `at` on, within the buffer, and `next` is the place after them
 pub record Put (buffer : List ℕ) (at : ℕ) (bytes after : List ℕ) (next : ℕ) : Type 0 where
+  pub within : at + length bytes ≤ length buffer
   pub place : next ≡ at + length bytes
   pub is : after ≡ written buffer at bytes
 

@@ -3,17 +3,19 @@
 pub mod parts;
 
 use base::wide;
+use crate::parts::LINE_END;
 use crate::parts::put_byte;
 use crate::parts::put_bytes;
+use crate::parts::put_last_number;
+use crate::parts::put_next_bytes;
 use crate::parts::put_next_number;
 use crate::parts::put_next_numbers;
 use crate::parts::put_number;
-ghost use Prim.Native.Nat.{_≤_, _<_};
+ghost use mathlib.Core.List.{_∷_, _++_};
+ghost use Prim.Native.Nat.{_+_, _≤_, _<_};
 ghost use lib.ListN.{length};
-ghost use Rattle.report.specs.Buffer.{LineAtFront, lineRoom};
-ghost use Rattle.report.specs.Text.{headLine, refusedLine, stableLine, suspectLine};
-
-const LINE_END: u8 = 10;
+ghost use Rattle.report.specs.Buffer.{Put, LineAtFront, lineRoom};
+ghost use Rattle.report.specs.Text.{decimal, headLine, refusedLine, stableLine, suspectLine};
 
 // The first line: the plan has n routers and m lists.
 pub fn head_line(out: &mut [u8], n: usize, m: usize) -> usize
@@ -22,9 +24,8 @@ pub fn head_line(out: &mut [u8], n: usize, m: usize) -> usize
 {
     let first = put_bytes(out, 0, b"routers");
     let second = put_next_number(out, first, n);
-    let third = put_bytes(out, second, b" lists");
-    let fourth = put_next_number(out, third, m);
-    put_byte(out, fourth, LINE_END)
+    let third = put_next_bytes(out, second, b"lists");
+    put_last_number(out, third, m)
 }
 
 // The single line of a refused plan.
@@ -32,9 +33,17 @@ pub fn refused_line(out: &mut [u8], number: u8) -> usize
     requires { ⌜ lineRoom ≤ length (now out) ⌝ }
     ensures { λ r. ⌜ LineAtFront (now (out .entry)) (refusedLine number) (now (out .exit)) r ⌝ }
 {
-    let word = put_bytes(out, 0, b"refused");
-    let last = put_next_number(out, word, wide(number));
-    put_byte(out, last, LINE_END)
+    let next = put_bytes(out, 0, b"refused");
+    put_last_number(out, next, wide(number))
+}
+
+// The first two fields of a list's line: its number and its verdict.
+fn put_verdict(out: &mut [u8], list: usize, verdict: &[u8]) -> usize
+    requires { ⌜ (4 + length (now verdict) ≤ length (now out)) × (list < 1000) ⌝ }
+    ensures { λ r. ⌜ Put (now (out .entry)) 0 (decimal list ++ (32 ∷ now (verdict .entry))) (now (out .exit)) r ⌝ }
+{
+    let next = put_number(out, 0, list);
+    put_next_bytes(out, next, verdict)
 }
 
 // The line of a stable list.
@@ -42,10 +51,8 @@ pub fn stable_line(out: &mut [u8], list: usize, highest: usize) -> usize
     requires { ⌜ (lineRoom ≤ length (now out)) × (list < 1000) × (highest < 1000) ⌝ }
     ensures { λ r. ⌜ LineAtFront (now (out .entry)) (stableLine list highest) (now (out .exit)) r ⌝ }
 {
-    let number = put_number(out, 0, list);
-    let word = put_bytes(out, number, b" stable");
-    let last = put_next_number(out, word, highest);
-    put_byte(out, last, LINE_END)
+    let next = put_verdict(out, list, b"stable");
+    put_last_number(out, next, highest)
 }
 
 // The line of a suspect list.
@@ -53,9 +60,8 @@ pub fn suspect_line(out: &mut [u8], list: usize, cycle: &[u8]) -> usize
     requires { ⌜ (lineRoom ≤ length (now out)) × (list < 1000) × (length (now cycle) ≤ 64) ⌝ }
     ensures { λ r. ⌜ LineAtFront (now (out .entry)) (suspectLine list (now (cycle .entry))) (now (out .exit)) r ⌝ }
 {
-    let number = put_number(out, 0, list);
-    let word = put_bytes(out, number, b" suspect");
-    let size = put_next_number(out, word, cycle.len());
-    let last = put_next_numbers(out, size, cycle);
+    let size = put_verdict(out, list, b"suspect");
+    let members = put_next_number(out, size, cycle.len());
+    let last = put_next_numbers(out, members, cycle);
     put_byte(out, last, LINE_END)
 }

@@ -1,11 +1,13 @@
 // The parts of a line: each is written from a place on, and the place after it is returned.
 
 use base::wide;
-ghost use mathlib.Core.List.{[], _∷_, map};
+ghost use mathlib.Core.List.{[], _∷_, _++_, map};
 ghost use Prim.Native.Nat.{_+_, _*_, _≤_, _<_};
 ghost use lib.ListN.{length};
 ghost use Rattle.report.specs.Buffer.{Put};
 ghost use Rattle.report.specs.Text.{digit, decimal, spaced};
+
+pub const LINE_END: u8 = 10;
 
 // Writes one byte.
 pub fn put_byte(out: &mut [u8], at: usize, byte: u8) -> usize
@@ -55,6 +57,15 @@ pub fn put_number(out: &mut [u8], at: usize, x: usize) -> usize
     put_digit(out, third, x % 10)
 }
 
+// Writes bytes as a field after another.
+pub fn put_next_bytes(out: &mut [u8], at: usize, bytes: &[u8]) -> usize
+    requires { ⌜ at + 1 + length (now bytes) ≤ length (now out) ⌝ }
+    ensures { λ r. ⌜ Put (now (out .entry)) at (32 ∷ now (bytes .entry)) (now (out .exit)) r ⌝ }
+{
+    let next = put_byte(out, at, b' ');
+    put_bytes(out, next, bytes)
+}
+
 // Writes a number as a field after another.
 pub fn put_next_number(out: &mut [u8], at: usize, x: usize) -> usize
     requires { ⌜ (at + 4 ≤ length (now out)) × (x < 1000) ⌝ }
@@ -76,4 +87,13 @@ pub fn put_next_numbers(out: &mut [u8], at: usize, numbers: &[u8]) -> usize
         i += 1;
     }
     next
+}
+
+// Writes a number as the last field of a line.
+pub fn put_last_number(out: &mut [u8], at: usize, x: usize) -> usize
+    requires { ⌜ (at + 5 ≤ length (now out)) × (x < 1000) ⌝ }
+    ensures { λ r. ⌜ Put (now (out .entry)) at ((32 ∷ decimal x) ++ (10 ∷ [])) (now (out .exit)) r ⌝ }
+{
+    let next = put_next_number(out, at, x);
+    put_byte(out, next, LINE_END)
 }

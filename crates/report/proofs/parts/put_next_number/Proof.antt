@@ -1,4 +1,3 @@
-use native.Mathlib.Omega.{arith}
 use borrow.Author.Needs.{needs}
 use Rattle.report.proofs.Writing.{put-then}
 use Rattle.report.proofs.parts.put_next_number.Statement.{statement}
@@ -7,7 +6,7 @@ use Rattle.report.proofs.parts.put_next_number.Tie as tie
 returns : tie.Need-returns
 returns c =
     let space = c .before .before .before .before .before .before in
-    put-then _ _ (omega arith) (space .put-byte .ensures) (c .before .before .put-number .ensures)
+    put-then (space .put-byte .ensures) (c .before .before .put-number .ensures)
 
 pub put-next-number-spec : {M : Type 1} → statement M
 put-next-number-spec =

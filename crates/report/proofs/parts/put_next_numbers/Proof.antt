@@ -8,7 +8,7 @@ use lib.ListN.{length, take}
 use lib.Seq.{take-length, length-take-le}
 use Rattle.report.specs.Text.{decimal, spaced}
 use Rattle.report.proofs.Digits.{spaced-short, spaced-more}
-use Rattle.report.proofs.Writing.{Putting, putting-start, putting-more, putting-done}
+use Rattle.report.proofs.Writing.{put-length, Putting, putting-start, putting-more, putting-done}
 use Rattle.report.proofs.parts.put_next_numbers.Statement.{statement}
 use Rattle.report.proofs.parts.put_next_numbers.Tie as tie
 
@@ -32,7 +32,7 @@ put-next-number-requires : tie.Need-put-next-number-requires Inv-loop μ-loop
 put-next-number-requires c κs =
     let u = c .before .before .before .before in
     let w = u .loop .inv in
-    omega (arith, w .put .place, short u)
+    omega (arith, w .put .place, put-length (w .put), short u)
 
 loop-again : tie.Need-loop-again Inv-loop μ-loop
 unfolding spaced
@@ -41,17 +41,15 @@ loop-again c =
     let u = t .before in
     let s = u .before .before .before .args .numbers .now in
     let i = u .loop .i in
-    putting-more _ _ _ _ (u .loop .inv) (t .loop-test .taken)
-    (omega (arith, short u))
+    putting-more (u .loop .inv) (t .loop-test .taken)
     (spaced-more s i (t .loop-test .taken)
     ∙ ap (λ x. spaced (map decimal (take i s)) ++ (32 ∷ decimal x)) (sym (c .before .before .before .wide .ensures .0)))
-    (search needs)
     (c .before .before .put-next-number .ensures)
 
 returns : tie.Need-returns Inv-loop μ-loop
 returns c =
     let s = c .before .before .before .before .args .numbers .now in
-    rw (ap (λ t. spaced (map decimal t)) (take-length s)) at (putting-done _ _ _ _ (c .before .loop .inv) (c .loop-test .left))
+    rw (ap (λ t. spaced (map decimal t)) (take-length s)) at (putting-done (c .before .loop .inv) (c .loop-test .left))
 
 pub put-next-numbers-spec : {M : Type 1} → statement M
 unfolding spaced
@@ -60,12 +58,12 @@ put-next-numbers-spec =
     (tie.spec
     Inv-loop
     μ-loop
-    (λ c. putting-start _ _ _ _ refl)
+    (λ c. putting-start refl (search needs))
     (λ c. search needs)
     (λ c κs. search needs)
     put-next-number-requires
     (λ c. search needs)
     (λ c. search needs)
     loop-again
-    (λ c. c .before .loop .inv .kept)
+    (λ c. put-length (c .before .loop .inv .put))
     returns)

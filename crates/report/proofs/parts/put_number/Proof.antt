@@ -1,7 +1,4 @@
 -- `report::parts::put_number`: each return writes the digits of its case.
-use Prim.Native.Nat.{_+_, _≤_}
-use native.Mathlib.Omega.{arith}
-use mathlib.Core.Path.{_≡_, ap, sym}
 use borrow.Author.Needs.{needs}
 use borrow.Author.Tests.{lt-ltb, le-ltb}
 use Rattle.report.specs.Text.{decimal}
@@ -19,7 +16,7 @@ returns-2 c =
     let first = c .before .before .before .before .before .before in
     let tests = first .before .before in
     rw (le-ltb _ _ (tests .before .if1 .left), lt-ltb _ _ (tests .if2 .taken))
-    (put-then _ _ (omega arith) (first .put-digit2 .ensures) (c .before .before .put-digit3 .ensures))
+    (put-then (first .put-digit2 .ensures) (c .before .before .put-digit3 .ensures))
 
 returns-3 : tie.Need-returns-3
 unfolding decimal
@@ -29,7 +26,7 @@ returns-3 c =
     let first = second .before .before .before .before in
     let tests = first .before .before in
     rw (le-ltb _ _ (tests .before .if1 .left), le-ltb _ _ (tests .if2 .left))
-    (put-then _ _ (omega arith) (put-then _ _ (omega arith) (first .put-digit4 .ensures) (second .put-digit5 .ensures)) (third .put-digit6 .ensures))
+    (put-then (put-then (first .put-digit4 .ensures) (second .put-digit5 .ensures)) (third .put-digit6 .ensures))
 
 pub put-number-spec : {M : Type 1} → statement M
 put-number-spec =
