@@ -8,7 +8,7 @@ use mathlib.Core.List.{List, [], _∷_, _++_, append-assoc, append-nil, map, map
 use lib.Dec.{ltb}
 use lib.ListN.{length, getD, take, length-append}
 use lib.Seq.{take-suc}
-use Rattle.report.specs.Text.{digit, decimal, spaced}
+use Rattle.report.specs.Text.{digit, decimal, spaced, line, routersWord, listsWord, refusedWord, stableWord, suspectWord, headLine, refusedLine, stableLine, suspectLine}
 
 -- a number has at most three digits
 pub decimal-short : (x : ℕ) → length (decimal x) ≤ 3
@@ -43,3 +43,44 @@ pub spaced-more :
 unfolding spaced
 spaced-more s i h =
     rw (add-one, take-suc s i 0 h, map-append, spaced-append) (ap (λ t. spaced (map decimal (take i s)) ++ t) (append-nil (32 ∷ decimal (getD s i 0))))
+
+-- a field more before the others
+line-next : (first field : List ℕ) (fields : List (List ℕ)) → line (first ++ (32 ∷ field)) fields ≡ line first (field ∷ fields)
+unfolding spaced
+line-next first field fields = ap (λ t. t ++ (10 ∷ [])) (append-assoc first (32 ∷ field) (spaced fields))
+
+-- the last field, with the line's end
+line-last : (first field : List ℕ) → first ++ ((32 ∷ field) ++ (10 ∷ [])) ≡ line first (field ∷ [])
+unfolding spaced
+line-last first field =
+    sym (append-assoc first (32 ∷ field) (10 ∷ [])) ∙ ap (λ t. first ++ t ++ (10 ∷ [])) (sym (append-nil (32 ∷ field)))
+
+-- each line, as its parts are written one after the other
+pub head-parts :
+    (n m : ℕ) →
+    routersWord ++ (32 ∷ decimal n) ++ (32 ∷ listsWord) ++ ((32 ∷ decimal m) ++ (10 ∷ [])) ≡ headLine n m
+unfolding headLine
+head-parts n m =
+    line-last (routersWord ++ (32 ∷ decimal n) ++ (32 ∷ listsWord)) (decimal m)
+    ∙ line-next (routersWord ++ (32 ∷ decimal n)) listsWord (decimal m ∷ [])
+    ∙ line-next routersWord (decimal n) (listsWord ∷ decimal m ∷ [])
+
+pub refused-parts : (number : ℕ) → refusedWord ++ ((32 ∷ decimal number) ++ (10 ∷ [])) ≡ refusedLine number
+unfolding refusedLine
+refused-parts number = line-last refusedWord (decimal number)
+
+pub stable-parts :
+    (list highest : ℕ) →
+    decimal list ++ (32 ∷ stableWord) ++ ((32 ∷ decimal highest) ++ (10 ∷ [])) ≡ stableLine list highest
+unfolding stableLine
+stable-parts list highest =
+    line-last (decimal list ++ (32 ∷ stableWord)) (decimal highest) ∙ line-next (decimal list) stableWord (decimal highest ∷ [])
+
+pub suspect-parts :
+    (list : ℕ) (cycle : List ℕ) →
+    decimal list ++ (32 ∷ suspectWord) ++ (32 ∷ decimal (length cycle)) ++ spaced (map decimal cycle) ++ (10 ∷ [])
+    ≡ suspectLine list cycle
+unfolding suspectLine
+suspect-parts list cycle =
+    line-next (decimal list ++ (32 ∷ suspectWord)) (decimal (length cycle)) (map decimal cycle)
+    ∙ line-next (decimal list) suspectWord (decimal (length cycle) ∷ map decimal cycle)

@@ -84,7 +84,9 @@ module _ {text : ℕ → List ℕ} {n : ℕ} {d : List ℕ} {at : ℕ} where
   putting-done {i = i} w h = let e : i ≡ n = omega (arith, w .upto) in rw e at (w .put)
 
 -- a line that is written from the front on
-pub line-at-front : {d s l : List ℕ} {r : ℕ} → Put d 0 s l r → LineAtFront d s l r
+pub line-at-front : {d s t l : List ℕ} {r : ℕ} → Put d 0 s l r → s ≡ t → LineAtFront d t l r
 unfolding written
-line-at-front {d} {s} p =
-    record { long = p .place ∙ zero-add (length s); is = p .is ∙ ap (λ n. s ++ drop n d) (sym (p .place)) }
+line-at-front {d} {s} p e = record {
+  long = p .place ∙ zero-add (length s) ∙ ap length e;
+  is = p .is ∙ ap₂ (λ x n. x ++ drop n d) e (sym (p .place));
+}
