@@ -1,6 +1,6 @@
 use native.Mathlib.Omega.{arith}
 use borrow.Author.Needs.{needs}
-use Rattle.report.proofs.Digits.{decimal-short, head-parts}
+use Rattle.report.proofs.Text.{decimal-short, head-parts}
 use Rattle.report.proofs.Writing.{put-then, line-at-front}
 use Rattle.report.proofs.head_line.Statement.{statement}
 use Rattle.report.proofs.head_line.Tie as tie

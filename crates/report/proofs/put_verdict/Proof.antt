@@ -1,6 +1,6 @@
 use native.Mathlib.Omega.{arith}
 use borrow.Author.Needs.{needs}
-use Rattle.report.proofs.Digits.{decimal-short}
+use Rattle.report.proofs.Text.{decimal-short}
 use Rattle.report.proofs.Writing.{put-then}
 use Rattle.report.proofs.put_verdict.Statement.{statement}
 use Rattle.report.proofs.put_verdict.Tie as tie

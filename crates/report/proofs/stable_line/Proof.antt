@@ -3,7 +3,7 @@ use mathlib.Core.List.{_∷_}
 use borrow.Author.Needs.{needs}
 use lib.ListN.{length-append}
 use Rattle.report.specs.Text.{decimal, stableWord}
-use Rattle.report.proofs.Digits.{decimal-short, stable-parts}
+use Rattle.report.proofs.Text.{decimal-short, stable-parts}
 use Rattle.report.proofs.Writing.{put-then, line-at-front}
 use Rattle.report.proofs.stable_line.Statement.{statement}
 use Rattle.report.proofs.stable_line.Tie as tie

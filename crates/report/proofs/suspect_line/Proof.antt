@@ -4,7 +4,7 @@ use mathlib.Core.List.{_∷_}
 use borrow.Author.Needs.{needs}
 use lib.ListN.{length, length-append}
 use Rattle.report.specs.Text.{decimal, suspectWord}
-use Rattle.report.proofs.Digits.{decimal-short, spaced-short, suspect-parts}
+use Rattle.report.proofs.Text.{decimal-short, spaced-short, suspect-parts}
 use Rattle.report.proofs.Writing.{put-then, line-at-front}
 use Rattle.report.proofs.suspect_line.Statement.{statement}
 use Rattle.report.proofs.suspect_line.Tie as tie

@@ -1,6 +1,6 @@
 use native.Mathlib.Omega.{arith}
 use borrow.Author.Needs.{needs}
-use Rattle.report.proofs.Digits.{decimal-short}
+use Rattle.report.proofs.Text.{decimal-short}
 use Rattle.report.proofs.Writing.{put-then}
 use Rattle.report.proofs.parts.put_last_number.Statement.{statement}
 use Rattle.report.proofs.parts.put_last_number.Tie as tie

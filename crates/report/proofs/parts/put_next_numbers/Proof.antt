@@ -7,7 +7,7 @@ use borrow.Author.Needs.{needs}
 use lib.ListN.{length, take}
 use lib.Seq.{take-length, length-take-le}
 use Rattle.report.specs.Text.{decimal, spaced}
-use Rattle.report.proofs.Digits.{spaced-short, spaced-more}
+use Rattle.report.proofs.Text.{spaced-short, spaced-more}
 use Rattle.report.proofs.Writing.{put-length, Putting, putting-start, putting-more, putting-done}
 use Rattle.report.proofs.parts.put_next_numbers.Statement.{statement}
 use Rattle.report.proofs.parts.put_next_numbers.Tie as tie
