@@ -18,8 +18,8 @@ decimal-short x = go (ltb x 10) (ltb x 100)
     go :
         (a b : Bool) →
         length
-            (cond a (digit x ∷ [])
-            (cond b (digit (x / 10) ∷ digit (x % 10) ∷ []) (digit (x / 100) ∷ digit (x / 10 % 10) ∷ digit (x % 10) ∷ [])))
+        (cond a (digit x ∷ [])
+        (cond b (digit (x / 10) ∷ digit (x % 10) ∷ []) (digit (x / 100) ∷ digit (x / 10 % 10) ∷ digit (x % 10) ∷ [])))
         ≤ 3
     go true b = omega arith
     go false true = omega arith

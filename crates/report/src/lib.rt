@@ -2,7 +2,6 @@
 
 pub mod parts;
 
-use base::wide;
 use crate::parts::LINE_END;
 use crate::parts::put_byte;
 use crate::parts::put_bytes;
@@ -11,6 +10,7 @@ use crate::parts::put_next_bytes;
 use crate::parts::put_next_number;
 use crate::parts::put_next_numbers;
 use crate::parts::put_number;
+use base::wide;
 ghost use mathlib.Core.List.{_∷_, _++_};
 ghost use Prim.Native.Nat.{_+_, _≤_, _<_};
 ghost use lib.ListN.{length};

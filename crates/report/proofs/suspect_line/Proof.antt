@@ -31,13 +31,14 @@ put-byte-requires c κs =
     let size = members .before .before .before .before in
     let verdict = size .before .before .before .before in
     let cycle = verdict .before .before .before .before .before .args .cycle .now in
-    omega
-    (arith,
-    after-verdict verdict,
-    size .put-next-number .ensures .place,
-    members .put-next-numbers .ensures .place,
-    decimal-short (length cycle),
-    spaced-short cycle)
+    omega (
+      arith,
+      after-verdict verdict,
+      size .put-next-number .ensures .place,
+      members .put-next-numbers .ensures .place,
+      decimal-short (length cycle),
+      spaced-short cycle,
+    )
 
 returns : tie.Need-returns
 returns c =
