@@ -11,7 +11,9 @@ unfolding headLine spaced decimal
 routers-4-lists-2 = refl
 
 -- "0 suspect 2 0 1"
-list-0-suspect : suspectLine 0 (0 ∷ 1 ∷ []) ≡ 48 ∷ 32 ∷ 115 ∷ 117 ∷ 115 ∷ 112 ∷ 101 ∷ 99 ∷ 116 ∷ 32 ∷ 50 ∷ 32 ∷ 48 ∷ 32 ∷ 49 ∷ 10 ∷ []
+list-0-suspect :
+    suspectLine 0 (0 ∷ 1 ∷ [])
+    ≡ 48 ∷ 32 ∷ 115 ∷ 117 ∷ 115 ∷ 112 ∷ 101 ∷ 99 ∷ 116 ∷ 32 ∷ 50 ∷ 32 ∷ 48 ∷ 32 ∷ 49 ∷ 10 ∷ []
 unfolding suspectLine spaced decimal
 list-0-suspect = refl
 

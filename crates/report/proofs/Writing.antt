@@ -5,8 +5,8 @@ use native.Mathlib.Nat.{zero-add, add-zero}
 use native.Mathlib.Omega.{arith}
 use mathlib.Core.Path.{_≡_, refl, _∙_, sym, ap, ap₂}
 use mathlib.Core.List.{List, [], _∷_, _++_, append-assoc, append-nil}
-use lib.ListN.{length, getD, take, drop, set, length-append, length-drop, take-append-drop}
-use lib.Seq.{set-split, append-snoc, take-at, drop-at, drop-drop, drop-append-add, length-take-le, take-suc, take-all}
+use lib.ListN.{length, take, drop, set, length-append, length-drop, take-append-drop}
+use lib.Seq.{set-split, append-snoc, take-at, drop-drop, drop-append-add, length-take-le}
 use Rattle.report.specs.Buffer.{written, Put, LineAtFront}
 
 module _ (d : List ℕ) (at : ℕ) (s : List ℕ) (h : at + length s ≤ length d) where

@@ -16,8 +16,13 @@ put-last-number-requires c κs =
     let lists = c .before .before .before in
     let routers = lists .before .before .before .before .before in
     let word = routers .before .before .before .before in
-    omega
-    (arith, lists .put-next-bytes .ensures .place, routers .put-next-number .ensures .place, word .put-bytes .ensures .place, decimal-short (word .before .before .before .before .args .n))
+    omega (
+      arith,
+      lists .put-next-bytes .ensures .place,
+      routers .put-next-number .ensures .place,
+      word .put-bytes .ensures .place,
+      decimal-short (word .before .before .before .before .args .n),
+    )
 
 returns : tie.Need-returns
 returns c =

@@ -22,8 +22,8 @@ put-next-numbers-requires : tie.Need-put-next-numbers-requires
 put-next-numbers-requires c κs =
     let size = c .before .before .before in
     let verdict = size .before .before .before .before in
-    omega
-    (arith, after-verdict verdict, size .put-next-number .ensures .place, decimal-short (length (verdict .before .before .before .before .before .args .cycle .now)))
+    let cycle = verdict .before .before .before .before .before .args .cycle .now in
+    omega (arith, after-verdict verdict, size .put-next-number .ensures .place, decimal-short (length cycle))
 
 put-byte-requires : tie.Need-put-byte-requires
 put-byte-requires c κs =

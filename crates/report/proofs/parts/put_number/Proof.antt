@@ -1,4 +1,5 @@
 -- `report::parts::put_number`: each return writes the digits of its case.
+use native.Mathlib.Omega.{arith}
 use borrow.Author.Needs.{needs}
 use borrow.Author.Tests.{lt-ltb, le-ltb}
 use Rattle.report.specs.Text.{decimal}
@@ -8,14 +9,17 @@ use Rattle.report.proofs.parts.put_number.Tie as tie
 
 returns : tie.Need-returns
 unfolding decimal
-returns c = rw (lt-ltb _ _ (c .before .before .before .before .if1 .taken)) (c .before .before .put-digit .ensures)
+returns c =
+    let x = c .before .before .before .before .before .before .args .x in
+    rw (lt-ltb x 10 (omega arith)) (c .before .before .put-digit .ensures)
 
 returns-2 : tie.Need-returns-2
 unfolding decimal
 returns-2 c =
     let first = c .before .before .before .before .before .before in
     let tests = first .before .before in
-    rw (le-ltb _ _ (tests .before .if1 .left), lt-ltb _ _ (tests .if2 .taken))
+    let x = tests .before .before .before .args .x in
+    rw (le-ltb x 10 (omega arith), lt-ltb x 100 (omega arith))
     (put-then (first .put-digit2 .ensures) (c .before .before .put-digit3 .ensures))
 
 returns-3 : tie.Need-returns-3
@@ -25,7 +29,8 @@ returns-3 c =
     let second = third .before .before .before .before in
     let first = second .before .before .before .before in
     let tests = first .before .before in
-    rw (le-ltb _ _ (tests .before .if1 .left), le-ltb _ _ (tests .if2 .left))
+    let x = tests .before .before .before .args .x in
+    rw (le-ltb x 10 (omega arith), le-ltb x 100 (omega arith))
     (put-then (put-then (first .put-digit4 .ensures) (second .put-digit5 .ensures)) (third .put-digit6 .ensures))
 
 pub put-number-spec : {M : Type 1} → statement M
