@@ -1,0 +1,57 @@
+-- The lines of the verdict program's report (document 01, "Small plans").
+use Prim.Native.Nat.{ℕ, _+_, _/_, _%_}
+use mathlib.Core.Bool.{cond}
+use mathlib.Core.List.{List, [], _∷_, _++_, map}
+use lib.Dec.{ltb}
+use lib.ListN.{length}
+
+-- the byte of a digit
+abbrev pub digit : ℕ → ℕ
+digit d = 48 + d
+
+-- a number below 1000 in decimal digits, without leading zeros
+unfoldable pub decimal : ℕ → List ℕ
+decimal x =
+    cond (ltb x 10) (digit x ∷ [])
+    (cond (ltb x 100) (digit (x / 10) ∷ digit (x % 10) ∷ []) (digit (x / 100) ∷ digit (x / 10 % 10) ∷ digit (x % 10) ∷ []))
+
+-- fields after another: "One space parts two fields." 32 is the space
+unfoldable pub spaced : List (List ℕ) → List ℕ
+spaced [] = []
+spaced (field ∷ fields) = (32 ∷ field) ++ spaced fields
+
+-- a line of a first field and others, "each line ended by byte 10"
+abbrev pub line : List ℕ → List (List ℕ) → List ℕ
+line first others = first ++ spaced others ++ (10 ∷ [])
+
+-- the words of a line, letter by letter
+abbrev pub routersWord : List ℕ
+routersWord = 114 ∷ 111 ∷ 117 ∷ 116 ∷ 101 ∷ 114 ∷ 115 ∷ []
+
+abbrev pub listsWord : List ℕ
+listsWord = 108 ∷ 105 ∷ 115 ∷ 116 ∷ 115 ∷ []
+
+abbrev pub refusedWord : List ℕ
+refusedWord = 114 ∷ 101 ∷ 102 ∷ 117 ∷ 115 ∷ 101 ∷ 100 ∷ []
+
+abbrev pub stableWord : List ℕ
+stableWord = 115 ∷ 116 ∷ 97 ∷ 98 ∷ 108 ∷ 101 ∷ []
+
+abbrev pub suspectWord : List ℕ
+suspectWord = 115 ∷ 117 ∷ 115 ∷ 112 ∷ 101 ∷ 99 ∷ 116 ∷ []
+
+-- "The first line gives n and m after their words."
+unfoldable pub headLine : ℕ → ℕ → List ℕ
+headLine n m = line routersWord (decimal n ∷ listsWord ∷ decimal m ∷ [])
+
+-- "A refused plan gives the single line `refused`, a space and its number."
+unfoldable pub refusedLine : ℕ → List ℕ
+refusedLine number = line refusedWord (decimal number ∷ [])
+
+-- "In each later line the fields are list number, verdict, then .. highest rank."
+unfoldable pub stableLine : ℕ → ℕ → List ℕ
+stableLine list highest = line (decimal list) (stableWord ∷ decimal highest ∷ [])
+
+-- "In each later line the fields are list number, verdict, then ring length and ring". Here the ring is a cycle.
+unfoldable pub suspectLine : ℕ → List ℕ → List ℕ
+suspectLine list cycle = line (decimal list) (suspectWord ∷ decimal (length cycle) ∷ map decimal cycle)

@@ -1,0 +1,99 @@
+// The parts of a line: each is written from a place on, and the place after it is returned.
+
+use base::wide;
+ghost use mathlib.Core.List.{[], _∷_, _++_, map};
+ghost use Prim.Native.Nat.{_+_, _*_, _≤_, _<_};
+ghost use lib.ListN.{length};
+ghost use Rattle.report.specs.Buffer.{Put};
+ghost use Rattle.report.specs.Text.{digit, decimal, spaced};
+
+pub const LINE_END: u8 = 10;
+
+// Writes one byte.
+pub fn put_byte(out: &mut [u8], at: usize, byte: u8) -> usize
+    requires { ⌜ at < length (now out) ⌝ }
+    ensures { λ r. ⌜ Put (now (out .entry)) at (byte ∷ []) (now (out .exit)) r ⌝ }
+{
+    out[at] = byte;
+    at + 1
+}
+
+// Writes bytes, such as a word.
+pub fn put_bytes(out: &mut [u8], at: usize, bytes: &[u8]) -> usize
+    requires { ⌜ at + length (now bytes) ≤ length (now out) ⌝ }
+    ensures { λ r. ⌜ Put (now (out .entry)) at (now (bytes .entry)) (now (out .exit)) r ⌝ }
+{
+    let mut next = at;
+    let mut i = 0;
+    while i < bytes.len() {
+        next = put_byte(out, next, bytes[i]);
+        i += 1;
+    }
+    next
+}
+
+// Writes a decimal digit.
+fn put_digit(out: &mut [u8], at: usize, d: usize) -> usize
+    requires { ⌜ (at < length (now out)) × (d < 10) ⌝ }
+    ensures { λ r. ⌜ Put (now (out .entry)) at (digit d ∷ []) (now (out .exit)) r ⌝ }
+{
+    put_byte(out, at, 48 + d as u8)
+}
+
+// Writes a number in decimal.
+pub fn put_number(out: &mut [u8], at: usize, x: usize) -> usize
+    requires { ⌜ (at + 3 ≤ length (now out)) × (x < 1000) ⌝ }
+    ensures { λ r. ⌜ Put (now (out .entry)) at (decimal x) (now (out .exit)) r ⌝ }
+{
+    if x < 10 {
+        return put_digit(out, at, x);
+    }
+    if x < 100 {
+        let second = put_digit(out, at, x / 10);
+        return put_digit(out, second, x % 10);
+    }
+    let second = put_digit(out, at, x / 100);
+    let third = put_digit(out, second, x / 10 % 10);
+    put_digit(out, third, x % 10)
+}
+
+// Writes bytes as a field after another.
+pub fn put_next_bytes(out: &mut [u8], at: usize, bytes: &[u8]) -> usize
+    requires { ⌜ at + 1 + length (now bytes) ≤ length (now out) ⌝ }
+    ensures { λ r. ⌜ Put (now (out .entry)) at (32 ∷ now (bytes .entry)) (now (out .exit)) r ⌝ }
+{
+    let next = put_byte(out, at, b' ');
+    put_bytes(out, next, bytes)
+}
+
+// Writes a number as a field after another.
+pub fn put_next_number(out: &mut [u8], at: usize, x: usize) -> usize
+    requires { ⌜ (at + 4 ≤ length (now out)) × (x < 1000) ⌝ }
+    ensures { λ r. ⌜ Put (now (out .entry)) at (32 ∷ decimal x) (now (out .exit)) r ⌝ }
+{
+    let next = put_byte(out, at, b' ');
+    put_number(out, next, x)
+}
+
+// Writes numbers as fields after another.
+pub fn put_next_numbers(out: &mut [u8], at: usize, numbers: &[u8]) -> usize
+    requires { ⌜ at + 4 * length (now numbers) ≤ length (now out) ⌝ }
+    ensures { λ r. ⌜ Put (now (out .entry)) at (spaced (map decimal (now (numbers .entry)))) (now (out .exit)) r ⌝ }
+{
+    let mut next = at;
+    let mut i = 0;
+    while i < numbers.len() {
+        next = put_next_number(out, next, wide(numbers[i]));
+        i += 1;
+    }
+    next
+}
+
+// Writes a number as the last field of a line.
+pub fn put_last_number(out: &mut [u8], at: usize, x: usize) -> usize
+    requires { ⌜ (at + 5 ≤ length (now out)) × (x < 1000) ⌝ }
+    ensures { λ r. ⌜ Put (now (out .entry)) at ((32 ∷ decimal x) ++ (10 ∷ [])) (now (out .exit)) r ⌝ }
+{
+    let next = put_next_number(out, at, x);
+    put_byte(out, next, LINE_END)
+}
