@@ -3,3 +3,4 @@ pub mod Asked
 pub mod ListStretch
 pub mod Comparing
 pub mod Relying
+pub mod Judging
