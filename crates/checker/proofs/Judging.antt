@@ -13,17 +13,11 @@ use Rattle.network.specs.FromPlan.{instanceOf}
 use Rattle.assessment.specs.declared.Assessment.{Assessment}
 use Rattle.assessment.specs.declared.Assessment.the-variants.{Stable, Suspect}
 use Rattle.assessment.specs.Assessed.{Assessed}
-use Rattle.checker.specs.declared.verdict.VerdictAnswer.{VerdictAnswer}
 use Rattle.checker.specs.declared.verdict.VerdictAnswer.the-variants as answers
 use Rattle.checker.specs.Verdict.{isStable, labelsOf, ranksOf, highestOf, settledBytes, cycleOf, verdictRefusal, verdictOf, verdictAnswer}
-use Rattle.checker.specs.Verdict.{labelsAfter, ranksAfter, tableAfter, cycleAfter, verdictNumber, verdictIsStable, verdictSize, sizeOf, VerdictCall}
+use Rattle.checker.specs.Verdict.{labelsAfter, ranksAfter, tableAfter, cycleAfter, verdictNumber, verdictIsStable, verdictSize, sizeOf, answerOf, VerdictCall}
 use Rattle.checker.proofs.Asked.{granted}
 use Rattle.checker.proofs.Refused.{when-refused, when-given}
-
--- the answer of the call for an assessment
-abbrev pub answerOf : Assessment → VerdictAnswer
-answerOf (Stable highest) = answers.Stable highest
-answerOf (Suspect count) = answers.Suspect count
 
 not-refused : (a : Assessment) → verdictNumber (answerOf a) ≡ 0
 not-refused (Stable highest) = refl
@@ -77,17 +71,20 @@ module _ (plan : List ℕ) (k : ℕ) (labels ranks table ring : List ℕ) where
       → VerdictCall plan k (answerOf a) labels labels′ ranks ranks′ table table′ ring ring′
   unfolding verdictAnswer verdictOf sizeOf isStable labelsOf ranksOf highestOf settledBytes cycleOf labelsAfter ranksAfter tableAfter cycleAfter
   verdict-given a labels′ ranks′ table′ ring′ given f =
+      let s : Bool = isStable plan k in
+      let x : Assessment = Stable (highestOf plan k) in
+      let y : Assessment = Suspect (length (cycleOf plan k)) in
       record {
-        answer = ap answerOf (f .verdict) ∙ cond-case answerOf _ _ _ ∙ sym (when-given _ _ _ given);
+        answer = ap answerOf (f .verdict) ∙ cond-case answerOf s x y ∙ sym (when-given _ _ _ given);
         numbered = not-refused a ∙ sym given;
         stable =
             ap (λ x. verdictIsStable (answerOf x)) (f .verdict)
-            ∙ cond-case (λ x. verdictIsStable (answerOf x)) _ _ _
-            ∙ cond-itself _
+            ∙ cond-case (λ x. verdictIsStable (answerOf x)) s x y
+            ∙ cond-itself s
             ∙ sym (when-given _ _ _ given);
         size =
             ap (λ x. verdictSize (answerOf x)) (f .verdict)
-            ∙ cond-case (λ x. verdictSize (answerOf x)) _ _ _
+            ∙ cond-case (λ x. verdictSize (answerOf x)) s x y
             ∙ sym (when-given _ _ _ given);
         labelled = f .labelled ∙ sym (when-given _ _ _ given);
         ranked = f .ranked ∙ sym (when-given _ _ _ given);

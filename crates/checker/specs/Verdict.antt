@@ -20,6 +20,8 @@ use Rattle.network.specs.FromPlan.{instanceOf}
 use Rattle.activation.specs.TableBytes.{tableBytes}
 use Rattle.checker.specs.declared.verdict.VerdictAnswer.{VerdictAnswer}
 use Rattle.checker.specs.declared.verdict.VerdictAnswer.the-variants.{Refused, Stable, Suspect}
+use Rattle.assessment.specs.declared.Assessment.{Assessment}
+use Rattle.assessment.specs.declared.Assessment.the-variants as assessments
 use Rattle.checker.specs.Refused.{unlessRefused, field, flagField}
 
 -- who relies on whom in the plan's network for list k, as a relation of the graph part
@@ -98,6 +100,11 @@ verdictSize (Suspect count) = count
 
 unfoldable pub sizeOf : List ℕ → ℕ → ℕ
 sizeOf plan k = cond (isStable plan k) (highestOf plan k) (length (cycleOf plan k))
+
+-- the answer of a call that found this for the network
+abbrev pub answerOf : Assessment → VerdictAnswer
+answerOf (assessments.Stable highest) = Stable highest
+answerOf (assessments.Suspect count) = Suspect count
 
 -- the answer r of a call whose refusal is `number`, and each buffer at entry and at exit
 pub record VerdictGiven (number : ℕ) (plan : List ℕ) (k : ℕ) (r : VerdictAnswer) (labels labels′ ranks ranks′ table table′ ring ring′ : List ℕ) : Type 0 where

@@ -2,7 +2,7 @@
 
 use assessment::Assessment;
 ghost use mathlib.Core.Path.{_≡_};
-ghost use Rattle.checker.specs.Verdict.{verdictRefusal, VerdictCall};
+ghost use Rattle.checker.specs.Verdict.{verdictRefusal, answerOf, VerdictCall};
 
 // Its refusal number; or stable, with the highest rank; or suspect, with the cycle's length.
 pub enum VerdictAnswer {
@@ -44,6 +44,15 @@ fn verdict_refusal(
     0
 }
 
+fn answer(found: Assessment) -> VerdictAnswer
+    ensures { λ r. ⌜ r ≡ answerOf found ⌝ }
+{
+    match found {
+        Assessment::Stable(highest) => VerdictAnswer::Stable(highest),
+        Assessment::Suspect(length) => VerdictAnswer::Suspect(length),
+    }
+}
+
 // The verdict of a plan for a list. Writes the labels; if stable, the ranks and the settled table, and else the cycle.
 pub fn verdict(
     plan: &[u8],
@@ -62,8 +71,5 @@ pub fn verdict(
     let mut rows = [0u64; 64];
     let net = network::decode::decode(plan, list, &mut rows);
     let distances = plan::parts::part(plan, 2);
-    match assessment::assess(net, &rows, distances, labels, ranks, table, cycle) {
-        Assessment::Stable(highest) => VerdictAnswer::Stable(highest),
-        Assessment::Suspect(length) => VerdictAnswer::Suspect(length),
-    }
+    answer(assessment::assess(net, &rows, distances, labels, ranks, table, cycle))
 }
