@@ -1,88 +1,79 @@
 -- `assessment::assess`: the rows state the network's reliances, and what is written from them is the network's.
-use Prim.Native.Nat.{_≤_}
 use native.Mathlib.Omega.{arith}
 use mathlib.Core.Path.{_≡_, _∙_, sym}
-use mathlib.Core.Bool.{true, false}
+use mathlib.Core.Bool.{true}
 use borrow.Author.Needs.{needs}
+use Rattle.routing.specs.Instance.{Instance}
 use Rattle.network.specs.Decoded.{decoded}
 use Rattle.assessment.specs.Assessed.{isStable}
 use Rattle.assessment.proofs.Relations.{rows-acyclic, highest-is, highest-same, ranks-fall, stable-is, cycle-asked, stable-assessed, suspect-assessed}
 use Rattle.assessment.proofs.assess.Statement.{statement}
 use Rattle.assessment.proofs.assess.Tie as tie
 
+-- from the test: where the relation was closed, where its rows were filled, and where the call starts
+abbrev closing : tie.After-is-stable → tie.After-close
+closing c = c .before .before .before .before .before .before .before
+
+abbrev rows : tie.After-is-stable → tie.After-reliance-rows
+rows c = closing c .before .before
+
+abbrev entry : tie.After-is-stable → tie.Start
+entry c = rows c .before .before .before .before .before .before .before
+
+abbrev network : tie.After-is-stable → Instance
+network c = let a = entry c .args in decoded (a .net) (a .rows .now) (a .distances .now)
+
+-- the test is the network's
+tested : (c : tie.After-is-stable) → c .is-stable .result ≡ isStable (network c)
+tested c =
+    c .is-stable .ensures
+    ∙ stable-is (network c) _ _ (rows c .reliance-rows .ensures) (closing c .close .last .0) (closing c .close .ensures)
+
 ranks-requires : tie.Need-ranks-requires
 ranks-requires c κs =
-    let test = c .before .before in
-    let closing = test .before .before .before .before .before .before .before .before in
-    let rows = closing .before .before in
-    let d = rows .before .before .before .before .before .before .before in
-    let I = decoded (d .args .net) (d .args .rows .now) (d .args .distances .now) in
-    let h = rows .reliance-rows .ensures in
-    let s : isStable I ≡ true
-    = sym (stable-is I _ _ h (closing .close .last .0) (closing .close .ensures)) ∙ sym (test .before .is-stable .ensures) ∙ test .if1 .taken in
-    (d .pre .0 .count, d .pre .2, rows-acyclic I _ _ h s)
+    let t = c .before .before .before in
+    let p = entry t .pre in
+    (p .0 .count, p .2, rows-acyclic (network t) _ _ (rows t .reliance-rows .ensures) (sym (tested t) ∙ c .before .before .if1 .taken))
 
 settle-requires : tie.Need-settle-requires
 settle-requires c κs =
     let ranked = c .before .before .before .before in
-    let test = ranked .before .before .before in
-    let closing = test .before .before .before .before .before .before .before .before in
-    let rows = closing .before .before in
-    let d = rows .before .before .before .before .before .before .before in
-    let I = decoded (d .args .net) (d .args .rows .now) (d .args .distances .now) in
-    let h = rows .reliance-rows .ensures in
-    let s : isStable I ≡ true
-    = sym (stable-is I _ _ h (closing .close .last .0) (closing .close .ensures)) ∙ sym (test .before .is-stable .ensures) ∙ test .if1 .taken in
+    let t = ranked .before .before .before .before in
+    let p = entry t .pre in
+    let h = rows t .reliance-rows .ensures in
+    let s : isStable (network t) ≡ true = sym (tested t) ∙ ranked .before .before .before .if1 .taken in
     let k = ranked .ranks .ensures in (
       record {
-        formed = d .pre .0;
-        each = omega (arith, d .pre .2, ranked .ranks .kept .1 .1 .0);
-        long = d .pre .3;
-        falls = ranks-fall I _ _ h s _ _ (k .1);
+        formed = p .0;
+        each = omega (arith, p .2, ranked .ranks .kept .1 .1 .0);
+        long = p .3;
+        falls = ranks-fall (network t) _ _ h s _ _ (k .1);
       },
-      k .0 ∙ highest-same I _ _ h ∙ sym (highest-is I _ _ h s _ _ (k .1)),
+      k .0 ∙ highest-same (network t) _ _ h ∙ sym (highest-is (network t) _ _ h s _ _ (k .1)),
     )
 
 returns : tie.Need-returns
 returns c =
     let ranked = c .before .before .before .before .before .before .before in
-    let test = ranked .before .before .before in
-    let labelled = test .before .before .before .before .before in
-    let closing = labelled .before .before .before in
-    let rows = closing .before .before in
-    let d = rows .before .before .before .before .before .before .before in
-    let I = decoded (d .args .net) (d .args .rows .now) (d .args .distances .now) in
-    let h = rows .reliance-rows .ensures in
-    let s : isStable I ≡ true
-    = sym (stable-is I _ _ h (closing .close .last .0) (closing .close .ensures)) ∙ sym (test .before .is-stable .ensures) ∙ test .if1 .taken in
+    let t = ranked .before .before .before .before in
     let k = ranked .ranks .ensures in
-    stable-assessed I _ _ h (closing .close .last .0) (closing .close .ensures) _ _ _ _ _ _ (labelled .labels .ensures) _ _ s (k .0) (k .1) (c .before .before .settle .ensures)
+    stable-assessed (network t) _ _ (rows t .reliance-rows .ensures) (closing t .close .last .0) (closing t .close .ensures) _ _ _ _ _ _
+    (t .before .before .before .before .labels .ensures) _ _ (sym (tested t) ∙ ranked .before .before .before .if1 .taken) (k .0) (k .1)
+    (c .before .before .settle .ensures)
 
 cycle-requires : tie.Need-cycle-requires
 cycle-requires c κs =
-    let test = c .before .before .before in
-    let closing = test .before .before .before .before .before .before .before .before in
-    let rows = closing .before .before in
-    let d = rows .before .before .before .before .before .before .before in
-    let I = decoded (d .args .net) (d .args .rows .now) (d .args .distances .now) in
-    let h = rows .reliance-rows .ensures in
-    let s : isStable I ≡ false
-    = sym (stable-is I _ _ h (closing .close .last .0) (closing .close .ensures)) ∙ sym (test .before .is-stable .ensures) ∙ test .if1 .left in
-    cycle-asked I _ _ h (closing .close .last .0) (closing .close .ensures) s _ (d .pre .0 .count) (d .pre .4)
+    let t = c .before .before .before .before in
+    let p = entry t .pre in
+    cycle-asked (network t) _ _ (rows t .reliance-rows .ensures) (closing t .close .last .0) (closing t .close .ensures)
+    (sym (tested t) ∙ c .before .before .before .if1 .left) _ (p .0 .count) (p .4)
 
 returns-2 : tie.Need-returns-2
 returns-2 c =
-    let test = c .before .before .before .before .before .before in
-    let labelled = test .before .before .before .before .before in
-    let closing = labelled .before .before .before in
-    let rows = closing .before .before in
-    let d = rows .before .before .before .before .before .before .before in
-    let I = decoded (d .args .net) (d .args .rows .now) (d .args .distances .now) in
-    let h = rows .reliance-rows .ensures in
-    let s : isStable I ≡ false
-    = sym (stable-is I _ _ h (closing .close .last .0) (closing .close .ensures)) ∙ sym (test .before .is-stable .ensures) ∙ test .if1 .left in
+    let t = c .before .before .before .before .before .before .before in
     let k = c .before .before .cycle .ensures in
-    suspect-assessed I _ _ h (closing .close .last .0) (closing .close .ensures) _ _ _ _ _ _ (labelled .labels .ensures) _ s (k .0) (k .1)
+    suspect-assessed (network t) _ _ (rows t .reliance-rows .ensures) (closing t .close .last .0) (closing t .close .ensures) _ _ _ _ _ _
+    (t .before .before .before .before .labels .ensures) _ (sym (tested t) ∙ c .before .before .before .before .before .before .if1 .left) (k .0) (k .1)
 
 pub assess-spec : {M : Type 1} → statement M
 assess-spec =
