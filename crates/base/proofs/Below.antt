@@ -3,10 +3,10 @@ use Prim.Native.Nat.{ℕ, zero, suc, _+_, _≤_, _<_}
 use native.Mathlib.Numerals.{add-one}
 use native.Mathlib.Omega.{arith}
 use mathlib.Core.Path.{_≡_, refl, _∙_, sym, ap}
-use mathlib.Core.Bool.{Bool, true, false, _&&_, _||_, or-true, and-false}
+use mathlib.Core.Bool.{Bool, true, false, not, _&&_, _||_, or-true}
 use mathlib.Core.Logic.{_⊎_, inl, inr, ⊎-elim}
 use Rattle.base.specs.Below.{allBelow, anyBelow}
-use Rattle.base.proofs.Numbers.{both, both-left, both-right, eq-or-ne, not-both}
+use Rattle.base.proofs.Numbers.{both, both-left, both-right, eq-or-ne, not-both, yes, no}
 
 pub all-none : (p : ℕ → Bool) → allBelow p 0 ≡ true
 unfolding allBelow
@@ -41,6 +41,25 @@ all-fail p n i l q = go (allBelow p n) refl
 pub all-done : (p : ℕ → Bool) (n i : ℕ) → i ≤ n → n ≤ i → allBelow p i ≡ true → allBelow p n ≡ true
 all-done p n i h l q = let e : i ≡ n = omega arith in rw e at q
 
+-- a loop that returns no at the first number below n at which p fails, and yes at its end: p holds of every number below i.
+-- `r` is the answer to p, on whose negation the loop branches.
+pub record HeldSoFar (p : ℕ → Bool) (n i : ℕ) : Type 0 where
+  pub upto : i ≤ n
+  pub held : allBelow p i ≡ true
+
+module _ (p : ℕ → Bool) (n : ℕ) where
+  pub held-start : HeldSoFar p n 0
+  held-start = record { upto = omega arith; held = all-none p }
+
+  pub held-fail : (i : ℕ) → i < n → (r : Bool) → r ≡ p i → not r ≡ true → false ≡ allBelow p n
+  held-fail i l r e h = sym (all-fail p n i l (no r e h))
+
+  pub held-more : (i : ℕ) → HeldSoFar p n i → i < n → (r : Bool) → r ≡ p i → not r ≡ false → HeldSoFar p n (i + 1)
+  held-more i w l r e h = record { upto = omega arith; held = all-more p i (w .held) (yes r e h) }
+
+  pub held-done : (i : ℕ) → HeldSoFar p n i → n ≤ i → true ≡ allBelow p n
+  held-done i w l = sym (all-done p n i (w .upto) l (w .held))
+
 pub any-none : (p : ℕ → Bool) → anyBelow p 0 ≡ false
 unfolding anyBelow
 any-none p = refl
@@ -51,9 +70,6 @@ any-suc p i = refl
 
 pub any-next : (p : ℕ → Bool) (i : ℕ) → anyBelow p (i + 1) ≡ (anyBelow p i || p i)
 any-next p i = ap (anyBelow p) (add-one i) ∙ any-suc p i
-
-pub any-more : (p : ℕ → Bool) (i : ℕ) → anyBelow p i ≡ false → p i ≡ false → anyBelow p (i + 1) ≡ false
-any-more p i h q = ap (anyBelow p) (add-one i) ∙ any-suc p i ∙ cc
 
 -- some number below n at which p holds
 pub record Witness (p : ℕ → Bool) (n : ℕ) : Type 0 where
@@ -82,6 +98,3 @@ any-refuted p (suc n) f =
     let h : anyBelow p n ≡ false = any-refuted p n (λ i l. f i (omega arith)) in
     let g : p n ≡ false = f n (omega arith) in
     any-suc p n ∙ cc
-
-pub any-done : (p : ℕ → Bool) (n i : ℕ) → i ≤ n → n ≤ i → anyBelow p i ≡ false → anyBelow p n ≡ false
-any-done p n i h l q = let e : i ≡ n = omega arith in rw e at q

@@ -7,6 +7,7 @@ use lib.ListN.{length, getD}
 use Rattle.base.specs.Below.{allBelow}
 use Rattle.bodies.specs.Rising.{risesAt}
 
+-- m, the number of lists
 abbrev pub listCountIn : List ℕ → ℕ
 listCountIn s = getD s 0 0
 

@@ -16,6 +16,7 @@ entryAt plan at =
 abbrev pub contentsOf : List ℕ → List Entry
 contentsOf plan = entryAt plan 6 ∷ entryAt plan 11 ∷ entryAt plan 16 ∷ entryAt plan 21 ∷ []
 
+-- what `getD` gives past the table's end; no entry of a table of four is read there
 abbrev pub noEntry : Entry
 noEntry = record { kind = 0; offset = 0; size = 0 }
 

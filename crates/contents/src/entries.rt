@@ -1,4 +1,4 @@
-// The table of contents, read once into four entries by value: refusal 3, and the bodies as parts of the plan.
+// The table of contents, read into four entries by value: refusal 3, and the bodies as parts of the plan.
 
 ghost use mathlib.Core.Path.{_≡_};
 ghost use Prim.Native.Nat.{_+_, _≤_};

@@ -7,23 +7,21 @@ use mathlib.Core.List.{List}
 use mathlib.Core.Logic.{_⊎_, inl, inr, ⊎-elim}
 use borrow.Author.Tests.{eq-eqb, ne-eqb, eqb-true}
 use lib.Dec.{eqb, lit<}
-use lib.ListN.{length, getD, take, drop, length-take, length-drop}
-use lib.Seq.{getD-take, getD-drop}
+use lib.ListN.{length, getD, take, drop}
 use Rattle.base.specs.Below.{anyBelow}
 use Rattle.base.specs.Bits.{bitN, bits}
 use Rattle.base.proofs.Below.{Witness, any-at}
 use Rattle.base.proofs.Numbers.{facts, eq-or-ne}
 use Rattle.contents.specs.Header.{routerCount}
-use Rattle.contents.specs.Contents.{contentsOf, listsEntry, routersBody, sessionsBody, distancesBody, listsBody}
+use Rattle.contents.specs.Contents.{routersBody, sessionsBody, distancesBody}
 use Rattle.bodies.specs.Routers.{role}
 use Rattle.bodies.specs.Sessions.{sessionCount, sessionFirst, sessionSecond}
 use Rattle.bodies.specs.Distances.{distanceIn}
-use Rattle.bodies.specs.Lists.{listPlace, member}
-use Rattle.plan.specs.EgressLists.{listCount, listStart, listSize, listNumbers, SpanOf}
+use Rattle.plan.specs.EgressLists.{listCount, listSize, listNumbers, SpanOf}
 use Rattle.plan.specs.Refusal.{planRefusal}
 use Rattle.plan.specs.Passed.{Passed}
 use Rattle.plan.proofs.Passed.{passed, part-length}
-use Rattle.plan.proofs.ListWithin.{span-within}
+use Rattle.plan.proofs.ListWithin.{numbers-of}
 use Rattle.network.specs.declared.Network.{Network}
 use Rattle.network.specs.Decoded.{decoded}
 use Rattle.network.specs.FromPlan.{pairs, inSession, named, instanceOf, ReadFrom, Trusted}
@@ -36,25 +34,10 @@ module _ (plan : List ℕ) (p : Passed plan) where
   pub session-below : (j : ℕ) → j < sessionCount (sessionsBody plan) → (sessionFirst (sessionsBody plan) j < 64) × (sessionSecond (sessionsBody plan) j < 64)
   session-below j l = omega (arith, p .sessions .below j l, p .sessions .ordered j l, p .count .most)
 
-  numbers-length : (k : ℕ) → k < listCount plan → length (listNumbers plan k) ≡ listSize plan k
-  numbers-length k l = simp (length-take, length-drop) (omega (arith, span-within plan p k l))
-
-  -- a list's numbers as they stand in the plan are those that stand in the body of kind 4
-  number-is : (k : ℕ) → k < listCount plan → (j : ℕ) → j < listSize plan k
-      → getD (listNumbers plan k) j 0 ≡ member (listsBody plan) (listPlace (listsBody plan) k) j
-  number-is k l j h =
-      let e = listsEntry (contentsOf plan) in
-      let place = listPlace (listsBody plan) k in
-      let inside : place + 1 + j < e .size = omega (arith, p .lists .lists k l .within, part-length plan p 3 (lit< tt)) in
-      getD-take (listSize plan k) (drop (listStart plan k) plan) j 0 h
-      ∙ getD-drop (listStart plan k) plan j 0
-      ∙ ap (λ i. getD plan i 0) (omega arith)
-      ∙ sym (getD-take (e .size) (drop (e .offset) plan) (place + 1 + j) 0 inside ∙ getD-drop (e .offset) plan (place + 1 + j) 0)
-
   pub number-below : (k : ℕ) → k < listCount plan → (j : ℕ) → j < length (listNumbers plan k) → getD (listNumbers plan k) j 0 < routerCount plan
   number-below k l j h =
-      let g : j < listSize plan k = omega (arith, numbers-length k l) in
-      omega (arith, number-is k l j g, p .lists .lists k l .below j g)
+      let numbers = numbers-of plan p k l in
+      numbers .below j (omega (arith, numbers .count))
 
 -- the stretch of the plan that is read for list k
 pub span-numbers : (plan : List ℕ) (k start count : ℕ) → SpanOf plan k start count

@@ -32,14 +32,6 @@ unfolding refuse
 refuse-passed true number rest h = (refl, h)
 refuse-passed false number rest h = absurd (omega arith)
 
-pub refuse-true : (ok : Bool) (number rest : ℕ) → ok ≡ true → refuse ok number rest ≡ rest
-unfolding refuse
-refuse-true ok number rest h = rw h
-
-pub refuse-false : (ok : Bool) (number rest : ℕ) → ok ≡ false → refuse ok number rest ≡ number
-unfolding refuse
-refuse-false ok number rest h = rw h
-
 -- checks after checks
 compose : {first more : ℕ → ℕ} → Cascade first → Cascade more → Cascade (λ rest. first (more rest))
 compose {first} {more} f g =

@@ -1,3 +1,4 @@
 pub mod Cascade
+pub mod Table
 pub mod Passed
 pub mod ListWithin

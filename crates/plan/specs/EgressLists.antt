@@ -1,10 +1,11 @@
 -- Document 01, "Kind 4": the lists of a plan.
-use Prim.Native.Nat.{ℕ, _+_, _≤_}
+use Prim.Native.Nat.{ℕ, _+_, _≤_, _<_}
 use mathlib.Core.List.{List}
 use mathlib.Core.Path.{_≡_}
-use lib.ListN.{length, take, drop}
+use lib.ListN.{length, getD, take, drop}
+use Rattle.contents.specs.Header.{routerCount}
 use Rattle.contents.specs.Contents.{contentsOf, listsEntry, listsBody}
-use Rattle.bodies.specs.Lists.{listCountIn, listPlace, memberCount}
+use Rattle.bodies.specs.Lists.{listCountIn, listPlace, memberCount, member}
 
 -- of a plan: m, where the numbers of list k stand, how many they are, and they themselves, "that stretch of the plan itself"
 abbrev pub listCount : List ℕ → ℕ
@@ -24,3 +25,13 @@ pub record SpanOf (plan : List ℕ) (k start count : ℕ) : Type 0 where
   pub starts : start ≡ listStart plan k
   pub counts : count ≡ listSize plan k
   pub within : start + count ≤ length plan
+
+-- "the numbers of list k": those after its count byte, as many as it says, "below n, rising strictly".
+-- The theorem `numbers-of` says that `listNumbers` are these, of a plan that is not refused.
+pub record NumbersOf (plan : List ℕ) (k : ℕ) (numbers : List ℕ) : Type 0 where
+  pub count : length numbers ≡ listSize plan k
+  pub are :
+      (j : ℕ) → j < listSize plan k →
+      getD numbers j 0 ≡ member (listsBody plan) (listPlace (listsBody plan) k) j
+  pub below : (j : ℕ) → j < listSize plan k → getD numbers j 0 < routerCount plan
+  pub rising : (i j : ℕ) → i < j → j < listSize plan k → getD numbers i 0 < getD numbers j 0

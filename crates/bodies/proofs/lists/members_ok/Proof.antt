@@ -1,33 +1,15 @@
-use Prim.Native.Nat.{ℕ, _≤_, _-_}
-use native.Mathlib.Omega.{arith}
-use mathlib.Core.Path.{_≡_, sym}
-use mathlib.Core.Bool.{true}
+use Prim.Native.Nat.{_-_}
 use borrow.Author.Needs.{needs}
-use Rattle.base.specs.Below.{allBelow}
-use Rattle.base.proofs.Below.{all-none, all-more, all-fail, all-done}
-use Rattle.base.proofs.Numbers.{yes, no}
+use Rattle.base.proofs.Below.{HeldSoFar, held-start, held-more, held-fail, held-done}
 use Rattle.bodies.specs.Lists.{memberOk}
 use Rattle.bodies.proofs.lists.members_ok.Statement.{statement}
 use Rattle.bodies.proofs.lists.members_ok.Tie as tie
 
 abbrev Inv-loop : tie.InvT-loop
-Inv-loop s n place count j₀ j = (j ≤ count) × (allBelow (memberOk s n place) j ≡ true)
+Inv-loop s n place count j₀ j = HeldSoFar (memberOk s n place) count j
 
 abbrev μ-loop : tie.MeasureT-loop
 μ-loop s n place count j₀ j = count - j
-
-returns : tie.Need-returns Inv-loop μ-loop
-returns c =
-    sym (all-fail _ _ _ (c .before .before .loop-test .taken) (no _ (c .before .member-ok .ensures) (c .if1 .taken)))
-
-loop-again : tie.Need-loop-again Inv-loop μ-loop
-loop-again c = (
-  omega arith,
-  all-more _ _ (c .before .before .before .loop .inv .1) (yes _ (c .before .member-ok .ensures) (c .if1 .left)),
-)
-
-returns-2 : tie.Need-returns-2 Inv-loop μ-loop
-returns-2 c = sym (all-done _ _ _ (c .before .loop .inv .0) (c .loop-test .left) (c .before .loop .inv .1))
 
 pub members-ok-spec : {M : Type 1} → statement M
 members-ok-spec =
@@ -35,10 +17,10 @@ members-ok-spec =
     (tie.spec
     Inv-loop
     μ-loop
-    (λ c. (omega arith, all-none _))
+    (λ c. held-start _ _)
     (λ c κs. search needs)
-    returns
+    (λ c. held-fail _ _ _ (c .before .before .loop-test .taken) _ (c .before .member-ok .ensures) (c .if1 .taken))
     (λ c. search needs)
     (λ c. search needs)
-    loop-again
-    returns-2)
+    (λ c. held-more _ _ _ (c .before .before .before .loop .inv) (c .before .before .loop-test .taken) _ (c .before .member-ok .ensures) (c .if1 .left))
+    (λ c. held-done _ _ _ (c .before .loop .inv) (c .loop-test .left)))
