@@ -8,3 +8,4 @@ pub mod Sequences
 pub mod VerdictMeaning
 pub mod Series
 pub mod SmallPlans
+pub mod Judging

@@ -1,7 +1,8 @@
 -- Document 01, "Reliance and verdict": the verdict call.
 use Prim.Native.Nat.{ℕ, _*_}
+use mathlib.Core.Path.{_≡_}
 use mathlib.Core.List.{List, _++_}
-use mathlib.Core.Bool.{Bool, cond, _&&_}
+use mathlib.Core.Bool.{Bool, true, false, cond, _&&_}
 use lib.Dec.{leb, ltb}
 use lib.ListN.{length, drop}
 use Rattle.base.specs.Seek.{flag}
@@ -19,7 +20,9 @@ use Rattle.network.specs.FromPlan.{instanceOf}
 use Rattle.activation.specs.TableBytes.{tableBytes}
 use Rattle.checker.specs.declared.verdict.VerdictAnswer.{VerdictAnswer}
 use Rattle.checker.specs.declared.verdict.VerdictAnswer.the-variants.{Refused, Stable, Suspect}
-use Rattle.checker.specs.Refused.{unlessRefused}
+use Rattle.assessment.specs.declared.Assessment.{Assessment}
+use Rattle.assessment.specs.declared.Assessment.the-variants as assessments
+use Rattle.checker.specs.Refused.{unlessRefused, field, flagField}
 
 -- who relies on whom in the plan's network for list k, as a relation of the graph part
 abbrev pub reliance : List ℕ → ℕ → Relation
@@ -77,3 +80,44 @@ tableAfter number plan k table =
 unfoldable pub cycleAfter : ℕ → List ℕ → ℕ → List ℕ → List ℕ
 cycleAfter number plan k ring =
     unlessRefused number ring (cond (isStable plan k) ring (cycleOf plan k ++ drop (length (cycleOf plan k)) ring))
+
+-- the paper's refusal number and values for each case of the answer
+abbrev pub verdictNumber : VerdictAnswer → ℕ
+verdictNumber (Refused number) = number
+verdictNumber (Stable highest) = 0
+verdictNumber (Suspect count) = 0
+
+abbrev pub verdictIsStable : VerdictAnswer → Bool
+verdictIsStable (Refused number) = false
+verdictIsStable (Stable highest) = true
+verdictIsStable (Suspect count) = false
+
+-- the highest rank, or the ring's length
+abbrev pub verdictSize : VerdictAnswer → ℕ
+verdictSize (Refused number) = 0
+verdictSize (Stable highest) = highest
+verdictSize (Suspect count) = count
+
+unfoldable pub sizeOf : List ℕ → ℕ → ℕ
+sizeOf plan k = cond (isStable plan k) (highestOf plan k) (length (cycleOf plan k))
+
+-- the answer of a call that found this for the network
+abbrev pub answerOf : Assessment → VerdictAnswer
+answerOf (assessments.Stable highest) = Stable highest
+answerOf (assessments.Suspect count) = Suspect count
+
+-- the answer r of a call whose refusal is `number`, and each buffer at entry and at exit
+pub record VerdictGiven (number : ℕ) (plan : List ℕ) (k : ℕ) (r : VerdictAnswer) (labels labels′ ranks ranks′ table table′ ring ring′ : List ℕ) : Type 0 where
+  pub answer : r ≡ verdictAnswer number plan k
+  pub numbered : verdictNumber r ≡ number
+  pub stable : verdictIsStable r ≡ flagField number (isStable plan k)
+  pub size : verdictSize r ≡ field number (sizeOf plan k)
+  pub labelled : labels′ ≡ labelsAfter number plan k labels
+  pub ranked : ranks′ ≡ ranksAfter number plan k ranks
+  pub settled : table′ ≡ tableAfter number plan k table
+  pub cycled : ring′ ≡ cycleAfter number plan k ring
+
+-- the same of any call
+abbrev pub VerdictCall : List ℕ → ℕ → VerdictAnswer → List ℕ → List ℕ → List ℕ → List ℕ → List ℕ → List ℕ → List ℕ → List ℕ → Type 0
+VerdictCall plan k r labels labels′ ranks ranks′ table table′ ring ring′ =
+    VerdictGiven (verdictRefusal plan k labels ranks table ring) plan k r labels labels′ ranks ranks′ table table′ ring ring′

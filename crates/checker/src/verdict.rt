@@ -1,8 +1,75 @@
 // The verdict of a plan for one of its lists.
 
+use assessment::Assessment;
+ghost use mathlib.Core.Path.{_≡_};
+ghost use Rattle.checker.specs.Verdict.{verdictRefusal, answerOf, VerdictCall};
+
 // Its refusal number; or stable, with the highest rank; or suspect, with the cycle's length.
 pub enum VerdictAnswer {
     Refused(u8),
     Stable(usize),
     Suspect(usize),
+}
+
+fn verdict_refusal(
+    plan: &[u8],
+    list: usize,
+    labels: &[u8],
+    ranks: &[u8],
+    table: &[u8],
+    cycle: &[u8],
+) -> u8
+    ensures { λ r. ⌜ r ≡ verdictRefusal (now (plan .entry)) list (now (labels .entry)) (now (ranks .entry)) (now (table .entry)) (now (cycle .entry)) ⌝ }
+{
+    let refused = plan::refusal::refusal(plan);
+    if refused != 0 {
+        return refused;
+    }
+    if plan::lists::list_count(plan) <= list {
+        return 8;
+    }
+    let n = plan[4] as usize;
+    if labels.len() < n {
+        return 9;
+    }
+    if ranks.len() < n {
+        return 9;
+    }
+    if table.len() < 2 * n {
+        return 9;
+    }
+    if cycle.len() < n {
+        return 9;
+    }
+    0
+}
+
+fn answer(found: Assessment) -> VerdictAnswer
+    ensures { λ r. ⌜ r ≡ answerOf found ⌝ }
+{
+    match found {
+        Assessment::Stable(highest) => VerdictAnswer::Stable(highest),
+        Assessment::Suspect(length) => VerdictAnswer::Suspect(length),
+    }
+}
+
+// The verdict of a plan for a list. Writes the labels; if stable, the ranks and the settled table, and else the cycle.
+pub fn verdict(
+    plan: &[u8],
+    list: usize,
+    labels: &mut [u8],
+    ranks: &mut [u8],
+    table: &mut [u8],
+    cycle: &mut [u8],
+) -> VerdictAnswer
+    ensures { λ r. ⌜ VerdictCall (now (plan .entry)) list r (now (labels .entry)) (now (labels .exit)) (now (ranks .entry)) (now (ranks .exit)) (now (table .entry)) (now (table .exit)) (now (cycle .entry)) (now (cycle .exit)) ⌝ }
+{
+    let refused = verdict_refusal(plan, list, labels, ranks, table, cycle);
+    if refused != 0 {
+        return VerdictAnswer::Refused(refused);
+    }
+    let mut rows = [0u64; 64];
+    let net = network::decode::decode(plan, list, &mut rows);
+    let distances = plan::parts::part(plan, 2);
+    answer(assessment::assess(net, &rows, distances, labels, ranks, table, cycle))
 }

@@ -1,0 +1,2 @@
+pub mod ByRank
+pub mod Relations

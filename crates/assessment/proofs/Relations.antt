@@ -1,0 +1,121 @@
+-- The rows of reliances and their closure state the reliances of the network: groups, ranks and the cycle are the network's.
+use Prim.Native.Nat.{ℕ, _*_, _≤_, _<_}
+use native.Mathlib.Omega.{arith}
+use mathlib.Core.Path.{_≡_, refl, _∙_, sym, ap, ap₂}
+use mathlib.Core.Bool.{Bool, true, false}
+use mathlib.Core.List.{List, _++_}
+use lib.ListN.{length, drop}
+use Rattle.base.specs.Bits.{bits}
+use Rattle.base.specs.Seek.{flag, highest}
+use Rattle.base.specs.Tab.{tab}
+use Rattle.base.proofs.Seek.{highest-cong, highest-over}
+use Rattle.base.proofs.Tab.{getD-written}
+use Rattle.graph.specs.Closure.{Relation, closure, Agree, Irreflexive, Acyclic}
+use Rattle.graph.specs.Groups.{label, stable}
+use Rattle.graph.specs.Rank.{entry, rank, highestRank}
+use Rattle.graph.specs.Cycle.{cycle, CycleAsked}
+use Rattle.graph.proofs.Chains.{closure-cong}
+use Rattle.graph.proofs.Sharing.{labels-cong, stable-cong, stable-acyclic}
+use Rattle.graph.proofs.Ranking.{rank-cong, highest-rank-cong, acyclic-cong, rank-falls}
+use Rattle.graph.proofs.Walking.{cycle-cong}
+use Rattle.routing.specs.Instance.{Instance}
+use Rattle.routing.specs.Reliance.{relies}
+use Rattle.routing.proofs.Reliance.{relies-other}
+use Rattle.settling.specs.Settled.{settledTable}
+use Rattle.settling.specs.Claims.{Ranked}
+use Rattle.activation.specs.TableBytes.{tableBytes}
+use Rattle.reliance.specs.RelianceRows.{RelianceRows}
+use Rattle.assessment.specs.Assessed.{reliance, isStable, highestOf, cycleOf, Assessed}
+use Rattle.assessment.specs.declared.Assessment.the-variants.{Stable, Suspect}
+use Rattle.assessment.specs.ByRank.{highestIn}
+
+module _ (I : Instance) (before relied : List ℕ) (h : RelianceRows I before relied) where
+  related : Agree (bits relied) (reliance I) (I .n)
+  related w v l m = h .routers w l .within v m
+
+  irreflexive : Irreflexive (reliance I) (I .n)
+  irreflexive w l = ap flag (relies-other I w)
+
+  -- where the network is stable
+  module _ (s : isStable I ≡ true) where
+    acyclic : Acyclic (reliance I) (I .n)
+    acyclic = stable-acyclic (reliance I) (I .n) irreflexive s
+
+    pub rows-acyclic : Acyclic (bits relied) (I .n)
+    rows-acyclic = acyclic-cong (reliance I) (bits relied) (I .n) (λ i j l m. sym (related i j l m)) acyclic
+
+    module _ (start ranks : List ℕ) (e : ranks ≡ tab (rank (bits relied) (I .n)) (I .n) ++ drop (I .n) start) where
+      ranks-are : ranks ≡ tab (rank (reliance I) (I .n)) (I .n) ++ drop (I .n) start
+      ranks-are = e ∙ ap (λ f. tab f (I .n) ++ drop (I .n) start) (rank-cong (bits relied) (reliance I) (I .n) related)
+
+      rank-at : (v : ℕ) → v < I .n → entry ranks v ≡ rank (reliance I) (I .n) v
+      rank-at v l = getD-written (rank (reliance I) (I .n)) (I .n) 0 start ranks ranks-are v l
+
+      pub highest-is : highestIn ranks (I .n) ≡ highestOf I
+      highest-is = highest-cong (entry ranks) (rank (reliance I) (I .n)) (I .n) rank-at
+
+      pub ranks-fall : Ranked I (entry ranks) (highestIn ranks (I .n))
+      ranks-fall =
+          record {
+            falls = λ w v l m q.
+                let one : 1 ≤ reliance I w v = rw q (omega arith) in
+                omega (arith, rank-at w l, rank-at v m, rank-falls (reliance I) (I .n) acyclic w v l m one);
+            highest = λ w l. highest-over (entry ranks) (I .n) w l;
+          }
+
+  pub highest-same : highestRank (bits relied) (I .n) ≡ highestOf I
+  highest-same = highest-rank-cong (bits relied) (reliance I) (I .n) related
+
+  module _ (closed : List ℕ) (c : Agree (bits closed) (closure (bits relied) (I .n)) (I .n)) where
+    same-closure : closure (bits relied) (I .n) ≡ closure (reliance I) (I .n)
+    same-closure = closure-cong (bits relied) (reliance I) (I .n) related
+
+    reached : Agree (bits closed) (closure (reliance I) (I .n)) (I .n)
+    reached i j l m = c i j l m ∙ ap (λ C. C i j) same-closure
+
+    pub labels-are : tab (label (bits closed)) (I .n) ≡ tab (label (closure (reliance I) (I .n))) (I .n)
+    labels-are = labels-cong (bits closed) (closure (reliance I) (I .n)) (I .n) reached
+
+    pub stable-is : stable (bits closed) (I .n) ≡ isStable I
+    stable-is = stable-cong (bits closed) (closure (reliance I) (I .n)) (I .n) reached
+
+    -- where it is suspect
+    module _ (s : isStable I ≡ false) where
+      suspect : stable (closure (bits relied) (I .n)) (I .n) ≡ false
+      suspect = ap (λ C. stable C (I .n)) same-closure ∙ s
+
+      pub cycle-asked : (ring : List ℕ) → I .n ≤ 64 → I .n ≤ length ring → CycleAsked (bits relied) (bits closed) (I .n) ring
+      cycle-asked ring small long = record { small = small; long = long; closed = c; suspect = suspect }
+
+      cycle-is : cycle (bits relied) (I .n) ≡ cycleOf I
+      cycle-is = cycle-cong (bits relied) (reliance I) (I .n) related suspect
+
+    -- what the buffers hold then is what an assessment leaves
+    module _ (labels labels′ ranks table ring : List ℕ) (r : ℕ) (l : labels′ ≡ tab (label (bits closed)) (I .n) ++ drop (I .n) labels) where
+      labelled : labels′ ≡ tab (label (closure (reliance I) (I .n))) (I .n) ++ drop (I .n) labels
+      labelled = l ∙ ap (λ t. t ++ drop (I .n) labels) labels-are
+
+      pub stable-assessed : (ranks′ table′ : List ℕ) → isStable I ≡ true → r ≡ highestRank (bits relied) (I .n)
+          → ranks′ ≡ tab (rank (bits relied) (I .n)) (I .n) ++ drop (I .n) ranks
+          → table′ ≡ tableBytes (settledTable I r) ++ drop (2 * I .n) table
+          → Assessed I (Stable r) labels labels′ ranks ranks′ table table′ ring ring
+      stable-assessed ranks′ table′ s e k t =
+          record {
+            verdict = rw s (ap Stable (e ∙ highest-same));
+            labelled = labelled;
+            ranked = rw s (ranks-are s ranks ranks′ k);
+            settled = rw s (t ∙ ap (λ h. tableBytes (settledTable I h) ++ drop (2 * I .n) table) (e ∙ highest-same));
+            cycled = rw s refl;
+          }
+
+      pub suspect-assessed : (ring′ : List ℕ) → isStable I ≡ false → r ≡ length (cycle (bits relied) (I .n)) → ring′ ≡ cycle (bits relied) (I .n) ++ drop r ring
+          → Assessed I (Suspect r) labels labels′ ranks ranks table table ring ring′
+      suspect-assessed ring′ s e k =
+          let q : r ≡ length (cycleOf I) = e ∙ ap length (cycle-is s) in
+          record {
+            verdict = rw s (ap Suspect q);
+            labelled = labelled;
+            ranked = rw s refl;
+            settled = rw s refl;
+            cycled = rw s (k ∙ ap₂ (λ m d. m ++ drop d ring) (cycle-is s) q);
+          }

@@ -1,0 +1,44 @@
+-- What an assessment of a network returns and writes (document 01, "Reliance and verdict").
+use Prim.Native.Nat.{ℕ, _*_}
+use mathlib.Core.Path.{_≡_}
+use mathlib.Core.Bool.{Bool, cond}
+use mathlib.Core.List.{List, _++_}
+use lib.ListN.{length, drop}
+use Rattle.base.specs.Seek.{flag}
+use Rattle.base.specs.Tab.{tab}
+use Rattle.graph.specs.Closure.{Relation, closure}
+use Rattle.graph.specs.Groups.{label, stable}
+use Rattle.graph.specs.Rank.{rank, highestRank}
+use Rattle.graph.specs.Cycle.{cycle}
+use Rattle.routing.specs.Instance.{Instance}
+use Rattle.routing.specs.Reliance.{relies}
+use Rattle.settling.specs.Settled.{settledTable}
+use Rattle.activation.specs.TableBytes.{tableBytes}
+use Rattle.assessment.specs.declared.Assessment.{Assessment}
+use Rattle.assessment.specs.declared.Assessment.the-variants.{Stable, Suspect}
+
+-- who relies on whom, as a relation of the graph part
+abbrev pub reliance : Instance → Relation
+reliance I w v = flag (relies I w v)
+
+-- "Stable: every group has one router."
+abbrev pub isStable : Instance → Bool
+isStable I = stable (closure (reliance I) (I .n)) (I .n)
+
+abbrev pub highestOf : Instance → ℕ
+highestOf I = highestRank (reliance I) (I .n)
+
+-- the paper's ring
+abbrev pub cycleOf : Instance → List ℕ
+cycleOf I = cycle (reliance I) (I .n)
+
+-- the answer r, and each buffer at entry and at exit
+pub record Assessed (I : Instance) (r : Assessment) (labels labels′ ranks ranks′ table table′ ring ring′ : List ℕ) : Type 0 where
+  -- "Stable returns the highest rank .. suspect returns the ring's length"
+  pub verdict : r ≡ cond (isStable I) (Stable (highestOf I)) (Suspect (length (cycleOf I)))
+  -- "Labels are written with either verdict."
+  pub labelled : labels′ ≡ tab (label (closure (reliance I) (I .n))) (I .n) ++ drop (I .n) labels
+  -- "Stable .. writes ranks and table; suspect .. writes that many ring bytes. Other bytes are untouched."
+  pub ranked : ranks′ ≡ cond (isStable I) (tab (rank (reliance I) (I .n)) (I .n) ++ drop (I .n) ranks) ranks
+  pub settled : table′ ≡ cond (isStable I) (tableBytes (settledTable I (highestOf I)) ++ drop (2 * I .n) table) table
+  pub cycled : ring′ ≡ cond (isStable I) ring (cycleOf I ++ drop (length (cycleOf I)) ring)

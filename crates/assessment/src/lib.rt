@@ -1,0 +1,44 @@
+// The verdict over a network read from a plan: groups, and ranks with the settled table or a cycle.
+
+pub mod settled;
+
+ghost use Prim.Native.Nat.{_*_, _≤_};
+ghost use lib.ListN.{length};
+ghost use Rattle.network.specs.Decoded.{decoded};
+ghost use Rattle.network.specs.WellFormed.{WellFormed};
+ghost use Rattle.assessment.specs.Assessed.{Assessed};
+
+use network::Network;
+
+// Stable, with the highest rank; or suspect, with the cycle's length.
+pub enum Assessment {
+    Stable(usize),
+    Suspect(usize),
+}
+
+// Writes the labels; if the network is stable, its ranks and its settled table, and else its cycle.
+pub fn assess(
+    net: Network,
+    rows: &[u64; 64],
+    distances: &[u8],
+    labels: &mut [u8],
+    ranks: &mut [u8],
+    table: &mut [u8],
+    cycle: &mut [u8],
+) -> Assessment
+    requires { ⌜ WellFormed net (now rows) (now distances) × (net .n ≤ length (now labels)) × (net .n ≤ length (now ranks)) × (2 * net .n ≤ length (now table)) × (net .n ≤ length (now cycle)) ⌝ }
+    ensures verdict { λ r. ⌜ Assessed (decoded net (now (rows .entry)) (now (distances .entry))) r (now (labels .entry)) (now (labels .exit)) (now (ranks .entry)) (now (ranks .exit)) (now (table .entry)) (now (table .exit)) (now (cycle .entry)) (now (cycle .exit)) ⌝ }
+{
+    let n = net.n;
+    let mut relied = [0u64; 64];
+    reliance::reliances::reliance_rows(net, rows, distances, &mut relied);
+    let mut closed = relied;
+    graph::closing::close(&mut closed, n);
+    graph::groups::labels(&closed, n, labels);
+    if graph::groups::is_stable(&closed, n) {
+        let highest = graph::ranks::ranks(&relied, n, ranks);
+        settled::settle(net, rows, distances, ranks, highest, table);
+        return Assessment::Stable(highest);
+    }
+    Assessment::Suspect(graph::cycles::cycle(&relied, &closed, n, cycle))
+}

@@ -1,0 +1,93 @@
+-- The verdict, case by case.
+use Prim.Native.Nat.{ℕ, _*_, _≤_, _<_}
+use mathlib.Core.Path.{_≡_, refl, _∙_, sym, ap}
+use mathlib.Core.Bool.{Bool, true, false, cond}
+use mathlib.Core.List.{List}
+use lib.ListN.{length}
+use Rattle.base.proofs.Numbers.{facts}
+use Rattle.contents.specs.Header.{routerCount}
+use Rattle.plan.specs.EgressLists.{listCount}
+use Rattle.plan.specs.Refusal.{planRefusal}
+use Rattle.plan.proofs.Cascade.{refuse-passed}
+use Rattle.network.specs.FromPlan.{instanceOf}
+use Rattle.assessment.specs.declared.Assessment.{Assessment}
+use Rattle.assessment.specs.declared.Assessment.the-variants.{Stable, Suspect}
+use Rattle.assessment.specs.Assessed.{Assessed}
+use Rattle.checker.specs.declared.verdict.VerdictAnswer.the-variants as answers
+use Rattle.checker.specs.Verdict.{isStable, labelsOf, ranksOf, highestOf, settledBytes, cycleOf, verdictRefusal, verdictOf, verdictAnswer}
+use Rattle.checker.specs.Verdict.{labelsAfter, ranksAfter, tableAfter, cycleAfter, verdictNumber, verdictIsStable, verdictSize, sizeOf, answerOf, VerdictCall}
+use Rattle.checker.proofs.Asked.{granted}
+use Rattle.checker.proofs.Refused.{when-refused, when-given}
+
+not-refused : (a : Assessment) → verdictNumber (answerOf a) ≡ 0
+not-refused (Stable highest) = refl
+not-refused (Suspect count) = refl
+
+cond-case : {A B : Type 0} (f : A → B) (b : Bool) (x y : A) → f (cond b x y) ≡ cond b (f x) (f y)
+cond-case f true x y = refl
+cond-case f false x y = refl
+
+cond-itself : (b : Bool) → cond b true false ≡ b
+cond-itself true = refl
+cond-itself false = refl
+
+module _ (plan : List ℕ) (k : ℕ) (labels ranks table ring : List ℕ) where
+  pub record VerdictAsked : Type 0 where
+    pub planOk : planRefusal plan ≡ 0
+    pub list : k < listCount plan
+    pub labelsLong : routerCount plan ≤ length labels
+    pub ranksLong : routerCount plan ≤ length ranks
+    pub tableLong : 2 * routerCount plan ≤ length table
+    pub cycleLong : routerCount plan ≤ length ring
+
+  pub verdict-asked : verdictRefusal plan k labels ranks table ring ≡ 0 → VerdictAsked
+  unfolding verdictRefusal
+  verdict-asked h =
+      let g = granted plan _ _ h in
+      let l : k < listCount plan = simp facts at (g .callOk) in
+      let n = routerCount plan in
+      let q : (((n ≤ length labels) × (n ≤ length ranks)) × (2 * n ≤ length table)) × (n ≤ length ring)
+      = simp facts at (refuse-passed _ 8 0 (g .restOk) .0) in
+      record { planOk = g .planOk; list = l; labelsLong = q .0 .0 .0; ranksLong = q .0 .0 .1; tableLong = q .0 .1; cycleLong = q .1 }
+
+  pub verdict-refused : (number : ℕ) → number ≡ verdictRefusal plan k labels ranks table ring → (number ≡ 0 → ⊥)
+      → VerdictCall plan k (answers.Refused number) labels labels ranks ranks table table ring ring
+  unfolding verdictAnswer labelsAfter ranksAfter tableAfter cycleAfter
+  verdict-refused number same h =
+      let n : verdictRefusal plan k labels ranks table ring ≡ 0 → ⊥ = λ z. h (same ∙ z) in
+      record {
+        answer = ap answers.Refused same ∙ sym (when-refused _ _ _ n);
+        numbered = same;
+        stable = sym (when-refused _ _ _ n);
+        size = sym (when-refused _ _ _ n);
+        labelled = sym (when-refused _ _ _ n);
+        ranked = sym (when-refused _ _ _ n);
+        settled = sym (when-refused _ _ _ n);
+        cycled = sym (when-refused _ _ _ n);
+      }
+
+  pub verdict-given : (a : Assessment) (labels′ ranks′ table′ ring′ : List ℕ) → verdictRefusal plan k labels ranks table ring ≡ 0
+      → Assessed (instanceOf plan k) a labels labels′ ranks ranks′ table table′ ring ring′
+      → VerdictCall plan k (answerOf a) labels labels′ ranks ranks′ table table′ ring ring′
+  unfolding verdictAnswer verdictOf sizeOf isStable labelsOf ranksOf highestOf settledBytes cycleOf labelsAfter ranksAfter tableAfter cycleAfter
+  verdict-given a labels′ ranks′ table′ ring′ given f =
+      let s : Bool = isStable plan k in
+      let x : Assessment = Stable (highestOf plan k) in
+      let y : Assessment = Suspect (length (cycleOf plan k)) in
+      record {
+        answer = ap answerOf (f .verdict) ∙ cond-case answerOf s x y ∙ sym (when-given _ _ _ given);
+        numbered = not-refused a ∙ sym given;
+        stable =
+            ap (λ x. verdictIsStable (answerOf x)) (f .verdict)
+            ∙ cond-case (λ x. verdictIsStable (answerOf x)) s x y
+            ∙ cond-itself s
+            ∙ sym (when-given _ _ _ given);
+        size =
+            ap (λ x. verdictSize (answerOf x)) (f .verdict)
+            ∙ cond-case (λ x. verdictSize (answerOf x)) s x y
+            ∙ sym (when-given _ _ _ given);
+        labelled = f .labelled ∙ sym (when-given _ _ _ given);
+        ranked = f .ranked ∙ sym (when-given _ _ _ given);
+        settled = f .settled ∙ sym (when-given _ _ _ given);
+        cycled = f .cycled ∙ sym (when-given _ _ _ given);
+      }
