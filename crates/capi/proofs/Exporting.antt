@@ -1,0 +1,160 @@
+-- The exported calls, case by case of the answers.
+use Prim.Native.Nat.{ℕ}
+use mathlib.Core.Path.{_≡_, refl, _∙_, sym, ap}
+use mathlib.Core.Bool.{Bool, true, false, cond}
+use mathlib.Core.List.{List}
+use lib.Dec.{eqb}
+use Rattle.base.specs.Seek.{flag}
+use Rattle.routing.specs.Preference.{prefers}
+use Rattle.routing.specs.Reliance.{relies}
+use Rattle.network.specs.FromPlan.{instanceOf}
+use Rattle.checker.specs.declared.compare.CompareAnswer.{CompareAnswer}
+use Rattle.checker.specs.declared.compare.CompareAnswer.the-variants as compares
+use Rattle.checker.specs.declared.relies.ReliesAnswer.{ReliesAnswer}
+use Rattle.checker.specs.declared.relies.ReliesAnswer.the-variants as relying
+use Rattle.checker.specs.declared.verdict.VerdictAnswer.{VerdictAnswer}
+use Rattle.checker.specs.declared.verdict.VerdictAnswer.the-variants as verdicts
+use Rattle.checker.specs.declared.run.RunAnswer.{RunAnswer}
+use Rattle.checker.specs.EgressList.{egressListRefusal}
+use Rattle.checker.specs.Compare.{compareRefusal, compared, better, compareNumber, compareBetter, Compares}
+use Rattle.checker.specs.Relies.{reliesRefusal, relied, reliesNumber, reliesFlag, Relied}
+use Rattle.checker.specs.Verdict.{isStable, verdictOf, verdictAnswer, verdictNumber, verdictIsStable, verdictSize, VerdictGiven}
+use Rattle.checker.specs.Run.{runRefusal, Runs}
+use Rattle.checker.proofs.Refused.{when-refused, when-given}
+use Rattle.plan.specs.EgressLists.{SpanOf}
+use Rattle.checker.proofs.ListStretch.{stretch-given}
+use Rattle.capi.specs.Exports.{ListExport, CompareExport, ReliesExport, VerdictWritten, RunExport}
+use Rattle.capi.proofs.Written.{written, refused-by}
+
+module _ (plan : List ℕ) (k : ℕ) (start count : ℕ) where
+  pub list-refused : (number : ℕ) → number ≡ egressListRefusal plan k → (number ≡ 0 → ⊥) → ListExport plan k number start start count count
+  list-refused number same h =
+      let n : egressListRefusal plan k ≡ 0 → ⊥ = λ z. h (same ∙ z) in
+      record { number = same; started = sym (when-refused _ _ _ n); counted = sym (when-refused _ _ _ n) }
+
+  pub list-given : (start′ count′ : ℕ) → egressListRefusal plan k ≡ 0 → SpanOf plan k start′ count′ → ListExport plan k 0 start start′ count count′
+  list-given start′ count′ given span =
+      let s = stretch-given plan k given in
+      record {
+        number = sym given;
+        started = span .starts ∙ sym (s .starts) ∙ sym (when-given _ _ _ given);
+        counted = span .counts ∙ sym (s .sizes) ∙ sym (when-given _ _ _ given);
+      }
+
+abbrev compareRefuses : CompareAnswer → ℕ
+compareRefuses (compares.Refused number) = 1
+compareRefuses compares.First = 0
+compareRefuses compares.Second = 0
+compareRefuses compares.Same = 0
+
+cond-answers : {A : Type 0} (f : A → ℕ) (b : Bool) (x y : A) → f x ≡ 0 → f y ≡ 0 → f (cond b x y) ≡ 0
+cond-answers f true x y hx hy = hx
+cond-answers f false x y hx hy = hy
+
+module _ (plan : List ℕ) (w e f : ℕ) (r : CompareAnswer) (call : Compares plan w e f r) (before : ℕ) where
+  compared-answers : compareRefuses (compared plan w e f) ≡ 0
+  unfolding compared
+  compared-answers =
+      cond-answers compareRefuses (eqb e f) _ _ refl (cond-answers compareRefuses (prefers (instanceOf plan 0) w e f) _ _ refl refl)
+
+  pub compare-refused : (number : ℕ) → r ≡ compares.Refused number → CompareExport plan w e f number before before
+  compare-refused number is =
+      let n : compareRefusal plan w e f ≡ 0 → ⊥ = refused-by compareRefuses _ r _ _ (call .answer) (ap compareRefuses is) compared-answers in
+      record { number = sym (ap compareNumber is) ∙ call .number; compared = sym (when-refused _ _ _ n) }
+
+  pub compare-given : (value : ℕ) → compareNumber r ≡ 0 → compareBetter r ≡ value → CompareExport plan w e f 0 before value
+  compare-given value zero is =
+      let n : compareRefusal plan w e f ≡ 0 = sym (call .number) ∙ zero in
+      record { number = sym n; compared = written _ _ _ _ _ n (sym is ∙ call .value) }
+
+abbrev reliesRefuses : ReliesAnswer → ℕ
+reliesRefuses (relying.Refused number) = 1
+reliesRefuses relying.Yes = 0
+reliesRefuses relying.No = 0
+
+module _ (plan : List ℕ) (k w v : ℕ) (r : ReliesAnswer) (call : Relied plan k w v r) (before : ℕ) where
+  relied-answers : reliesRefuses (relied plan k w v) ≡ 0
+  unfolding relied
+  relied-answers = cond-answers reliesRefuses (relies (instanceOf plan k) w v) _ _ refl refl
+
+  pub relies-refused : (number : ℕ) → r ≡ relying.Refused number → ReliesExport plan k w v number before before
+  relies-refused number is =
+      let n : reliesRefusal plan k w v ≡ 0 → ⊥ = refused-by reliesRefuses _ r _ _ (call .answer) (ap reliesRefuses is) relied-answers in
+      record { number = sym (ap reliesNumber is) ∙ call .number; answered = sym (when-refused _ _ _ n) }
+
+  pub relies-given : (value : Bool) → reliesNumber r ≡ 0 → reliesFlag r ≡ value → ReliesExport plan k w v 0 before (flag value)
+  relies-given value zero is =
+      let n : reliesRefusal plan k w v ≡ 0 = sym (call .number) ∙ zero in
+      record {
+        number = sym n;
+        answered = ap flag (sym is ∙ call .value ∙ when-given _ _ _ n) ∙ sym (when-given _ _ _ n);
+      }
+
+abbrev verdictRefuses : VerdictAnswer → ℕ
+verdictRefuses (verdicts.Refused number) = 1
+verdictRefuses (verdicts.Stable highest) = 0
+verdictRefuses (verdicts.Suspect count) = 0
+
+module _ (R : ℕ) (plan : List ℕ) (k : ℕ) (r : VerdictAnswer) (labels labels′ ranks ranks′ table table′ ring ring′ : List ℕ)
+    (call : VerdictGiven R plan k r labels labels′ ranks ranks′ table table′ ring ring′) (stable size : ℕ) where
+  verdict-answers : verdictRefuses (verdictOf plan k) ≡ 0
+  unfolding verdictOf
+  verdict-answers = cond-answers verdictRefuses (isStable plan k) _ _ refl refl
+
+  refusal-not-0 : verdictRefuses r ≡ 1 → R ≡ 0 → ⊥
+  unfolding verdictAnswer
+  refusal-not-0 says = refused-by verdictRefuses R r _ _ (call .answer) says verdict-answers
+
+  pub verdict-refused : (number : ℕ) → r ≡ verdicts.Refused number
+      → VerdictWritten R plan k number labels labels′ ranks ranks′ table table′ ring ring′ stable stable size size
+  verdict-refused number is =
+      let n = refusal-not-0 (ap verdictRefuses is) in
+      record {
+        numbered = sym (ap verdictNumber is) ∙ call .numbered;
+        labelled = call .labelled;
+        ranked = call .ranked;
+        settled = call .settled;
+        cycled = call .cycled;
+        judged = sym (when-refused _ _ _ n);
+        sized = sym (when-refused _ _ _ n);
+      }
+
+  pub verdict-given : (judged : Bool) (size′ : ℕ) → verdictNumber r ≡ 0 → verdictIsStable r ≡ judged → verdictSize r ≡ size′
+      → VerdictWritten R plan k 0 labels labels′ ranks ranks′ table table′ ring ring′ stable (flag judged) size size′
+  verdict-given judged size′ zero is long =
+      let n : R ≡ 0 = sym (call .numbered) ∙ zero in
+      record {
+        numbered = sym n;
+        labelled = call .labelled;
+        ranked = call .ranked;
+        settled = call .settled;
+        cycled = call .cycled;
+        judged = ap flag (sym is ∙ call .stable ∙ when-given _ _ _ n) ∙ sym (when-given _ _ _ n);
+        sized = written _ _ _ _ _ n (sym long ∙ call .size);
+      }
+
+module _ (plan : List ℕ) (k : ℕ) (acts : List ℕ) (limit : ℕ) (table : List ℕ) (r : RunAnswer) (table′ : List ℕ)
+    (call : Runs plan k acts limit table r table′) (applied rounds exhausted : ℕ) where
+  pub run-refused : (r .refused ≡ 0 → ⊥)
+      → RunExport plan k acts limit (r .refused) table table′ applied applied rounds rounds exhausted exhausted
+  run-refused h =
+      let n : runRefusal plan k acts table ≡ 0 → ⊥ = λ z. h (call .number ∙ z) in
+      record {
+        numbered = call .number;
+        bytes = call .bytes;
+        acted = sym (when-refused _ _ _ n);
+        whole = sym (when-refused _ _ _ n);
+        spent = sym (when-refused _ _ _ n);
+      }
+
+  pub run-given : r .refused ≡ 0
+      → RunExport plan k acts limit 0 table table′ applied (r .applied) rounds (r .rounds) exhausted (flag (r .exhausted))
+  run-given zero =
+      let n : runRefusal plan k acts table ≡ 0 = sym (call .number) ∙ zero in
+      record {
+        numbered = sym n;
+        bytes = call .bytes;
+        acted = call .applied ∙ sym (when-given _ _ _ n);
+        whole = call .whole ∙ sym (when-given _ _ _ n);
+        spent = ap flag (call .spent) ∙ sym (when-given _ _ _ n);
+      }

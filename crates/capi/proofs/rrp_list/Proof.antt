@@ -1,0 +1,20 @@
+use mathlib.Core.Path.{_≡_, _∙_, sym}
+use borrow.Author.Needs.{needs}
+use Rattle.checker.specs.EgressList.{egressListRefusal}
+use Rattle.checker.proofs.ListStretch.{allowed}
+use Rattle.capi.proofs.Exporting.{list-refused, list-given}
+use Rattle.capi.proofs.rrp_list.Statement.{statement}
+use Rattle.capi.proofs.rrp_list.Tie as tie
+
+-- nothing is refused
+given : (c : tie.Else1) → let a = c .before .before .before .args in egressListRefusal (a .plan .now) (a .list) ≡ 0
+given c = sym (c .before .egress-list-refusal .ensures) ∙ c .if1 .left
+
+pub rrp-list-spec : {M : Type 1} → statement M
+rrp-list-spec =
+    tie.close
+    (tie.spec
+    (λ c κs. search needs)
+    (λ c. list-refused _ _ _ _ _ (c .before .egress-list-refusal .ensures) (c .if1 .taken))
+    (λ c κs. let a = allowed _ _ (given c) in (a .plan-ok, a .list-ok))
+    (λ c. list-given _ _ _ _ _ _ (given (c .before)) (c .list-span .ensures)))

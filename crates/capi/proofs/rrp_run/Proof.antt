@@ -1,0 +1,28 @@
+use mathlib.Core.Path.{_≡_, refl, ap, subst}
+use mathlib.Core.Bool.{Bool, true, false}
+use borrow.Author.Needs.{needs}
+use mir.Val.{boolByte}
+use Rattle.base.specs.Seek.{flag}
+use Rattle.capi.proofs.Exporting.{run-refused, run-given}
+use Rattle.capi.proofs.rrp_run.Statement.{statement}
+use Rattle.capi.proofs.rrp_run.Tie as tie
+
+as-byte : (b : Bool) → boolByte b ≡ flag b
+as-byte true = refl
+as-byte false = refl
+
+returns-2 : tie.Need-returns-2
+returns-2 c =
+    let run = c .before .before .before .before .before .run in
+    rw (as-byte (run .result .exhausted)) (run-given _ _ _ _ _ (run .result) _ (run .ensures) _ _ _ (c .before .if1 .left))
+
+pub rrp-run-spec : {M : Type 1} → statement M
+rrp-run-spec =
+    tie.close
+    (tie.spec
+    (λ c κs. search needs)
+    (λ c. search needs)
+    (λ c. run-refused _ _ _ _ _ _ _ (c .before .before .before .before .run .ensures) _ _ _ (c .if1 .taken))
+    (λ c. search needs)
+    (λ c. search needs)
+    returns-2)

@@ -1,0 +1,148 @@
+// The public calls for C and for other languages that call C: `include/rrp.h` says what each does. A slice is passed as a pointer and
+// a length, a result variable as a pointer. Each returns the call's refusal number, and if that is not 0 it has written nothing.
+
+use checker::compare::CompareAnswer;
+use checker::relies::ReliesAnswer;
+use checker::verdict::VerdictAnswer;
+ghost use mathlib.Core.Path.{_≡_};
+ghost use Rattle.plan.specs.Refusal.{planRefusal};
+ghost use Rattle.checker.specs.Activate.{Activates};
+ghost use Rattle.capi.specs.Exports.{ListExport, CompareExport, ReliesExport, VerdictExport, RunExport};
+
+#[no_mangle]
+pub extern "C" fn rrp_check(plan: &[u8]) -> u8
+    ensures { λ r. ⌜ r ≡ planRefusal (now (plan .entry)) ⌝ }
+{
+    checker::check(plan)
+}
+
+#[no_mangle]
+pub extern "C" fn rrp_list(plan: &[u8], list: usize, start: &mut u64, count: &mut u64) -> u8
+    ensures { λ r. ⌜ ListExport (now (plan .entry)) list r (now (start .entry)) (now (start .exit)) (now (count .entry)) (now (count .exit)) ⌝ }
+{
+    let refused = checker::lists::egress_list_refusal(plan, list);
+    if refused != 0 {
+        return refused;
+    }
+    let span = plan::lists::list_span(plan, list);
+    *start = span.start as u64;
+    *count = span.count as u64;
+    0
+}
+
+#[no_mangle]
+pub extern "C" fn rrp_compare(
+    plan: &[u8],
+    router: usize,
+    first: usize,
+    second: usize,
+    better: &mut u8,
+) -> u8
+    ensures { λ r. ⌜ CompareExport (now (plan .entry)) router first second r (now (better .entry)) (now (better .exit)) ⌝ }
+{
+    let answer = checker::compare::compare(plan, router, first, second);
+    match answer {
+        CompareAnswer::Refused(number) => {
+            return number;
+        }
+        CompareAnswer::First => {
+            *better = 1;
+            return 0;
+        }
+        CompareAnswer::Second => {
+            *better = 2;
+            return 0;
+        }
+        CompareAnswer::Same => {
+            *better = 0;
+            return 0;
+        }
+    }
+}
+
+#[no_mangle]
+pub extern "C" fn rrp_relies(
+    plan: &[u8],
+    list: usize,
+    router: usize,
+    other: usize,
+    relies: &mut u8,
+) -> u8
+    ensures { λ r. ⌜ ReliesExport (now (plan .entry)) list router other r (now (relies .entry)) (now (relies .exit)) ⌝ }
+{
+    let answer = checker::relies::relies(plan, list, router, other);
+    match answer {
+        ReliesAnswer::Refused(number) => {
+            return number;
+        }
+        ReliesAnswer::Yes => {
+            *relies = 1;
+            return 0;
+        }
+        ReliesAnswer::No => {
+            *relies = 0;
+            return 0;
+        }
+    }
+}
+
+#[no_mangle]
+pub extern "C" fn rrp_verdict(
+    plan: &[u8],
+    list: usize,
+    labels: &mut [u8],
+    ranks: &mut [u8],
+    table: &mut [u8],
+    cycle: &mut [u8],
+    stable: &mut u8,
+    size: &mut u64,
+) -> u8
+    ensures { λ r. ⌜ VerdictExport (now (plan .entry)) list r (now (labels .entry)) (now (labels .exit)) (now (ranks .entry)) (now (ranks .exit)) (now (table .entry)) (now (table .exit)) (now (cycle .entry)) (now (cycle .exit)) (now (stable .entry)) (now (stable .exit)) (now (size .entry)) (now (size .exit)) ⌝ }
+{
+    let answer = checker::verdict::verdict(plan, list, labels, ranks, table, cycle);
+    match answer {
+        VerdictAnswer::Refused(number) => {
+            return number;
+        }
+        VerdictAnswer::Stable(highest) => {
+            *stable = 1;
+            *size = highest as u64;
+            return 0;
+        }
+        VerdictAnswer::Suspect(length) => {
+            *stable = 0;
+            *size = length as u64;
+            return 0;
+        }
+    }
+}
+
+#[no_mangle]
+pub extern "C" fn rrp_activate(plan: &[u8], list: usize, router: usize, table: &mut [u8]) -> u8
+    ensures { λ r. ⌜ Activates (now (plan .entry)) list router (now (table .entry)) r (now (table .exit)) ⌝ }
+{
+    checker::activate::activate(plan, list, router, table)
+}
+
+#[no_mangle]
+pub extern "C" fn rrp_run(
+    plan: &[u8],
+    list: usize,
+    sequence: &[u8],
+    limit: u64,
+    table: &mut [u8],
+    applied: &mut u64,
+    rounds: &mut u64,
+    exhausted: &mut u8,
+) -> u8
+    ensures { λ r. ⌜ RunExport (now (plan .entry)) list (now (sequence .entry)) limit r (now (table .entry)) (now (table .exit)) (now (applied .entry)) (now (applied .exit)) (now (rounds .entry)) (now (rounds .exit)) (now (exhausted .entry)) (now (exhausted .exit)) ⌝ }
+{
+    let done = checker::run::run(plan, list, sequence, limit as usize, table);
+    if done.refused != 0 {
+        return done.refused;
+    }
+    *applied = done.applied as u64;
+    *rounds = done.rounds as u64;
+    *exhausted = done.exhausted as u8;
+    0
+}

@@ -1,0 +1,54 @@
+#!/usr/bin/env bash
+# Builds the library for C and runs what embeds it: the C example, and the second checker held against the library.
+# usage: tests/run-embedding.sh [SEED]        (needs rt, gcc and cargo)
+set -uo pipefail
+cd "$(dirname "$0")/.."
+seed=${1:-4456}
+plans=20000
+out=target/embedding
+archive=target/staticlib
+passed=0
+failed=0
+
+# Runs the words after the first, and counts under that name whether they succeed.
+try() {
+    local name=$1
+    shift
+    if "$@"; then
+        passed=$((passed + 1))
+        echo "embedding: $name: passed"
+    else
+        failed=$((failed + 1))
+        echo "embedding: $name: FAILED"
+    fi
+}
+
+# Says whether a command writes just what a file holds.
+writes() {
+    local file=$1
+    shift
+    "$@" | cmp - "$file"
+}
+
+# A plan cut short is refused, by the number of the refusal table.
+refuses_cut_plan() {
+    head -c 25 examples/m3.plan >"$out/cut.plan"
+    [ "$("$out/verdicts" "$out/cut.plan")" = "refused 1" ]
+}
+
+# `second` with the words given, linked with the library.
+second() {
+    RRP_LIB_DIR=$PWD/$archive RRP_LIB_NAME=capi CARGO_TARGET_DIR=$PWD/$out/second \
+        cargo run --quiet --release --offline --features library --manifest-path tests/second/Cargo.toml --bin second -- "$@"
+}
+
+mkdir -p "$out"
+try "the library" rt staticlib capi
+try "the C example" gcc -std=c11 -Wall -Wextra -Werror -O2 -Iinclude examples/verdicts.c -L"$archive" -lcapi -o "$out/verdicts"
+try "the C example's verdicts" writes examples/m3.verdicts "$out/verdicts" examples/m3.plan
+try "the C example's refusal" refuses_cut_plan
+try "the second checker alone" second self
+try "the library against the second checker" second --seed "$seed" --plans "$plans"
+
+echo "embedding: $passed passed, $failed failed"
+[ "$failed" -eq 0 ]
