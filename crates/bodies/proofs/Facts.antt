@@ -1,16 +1,16 @@
 -- Each check of rows 4 to 7 passes exactly if its plain facts hold: `..-facts` one way, `..-holds` the other.
-use Prim.Native.Nat.{ℕ, _+_, _*_, _≤_, _<_}
+use Prim.Native.Nat.{ℕ, _+_, _≤_, _<_}
 use native.Mathlib.Omega.{arith}
-use mathlib.Core.Path.{_≡_, refl, _∙_, sym, ap}
+use mathlib.Core.Path.{_≡_, refl}
 use mathlib.Core.Bool.{Bool, true, false, _&&_, _||_, not, or-true}
 use mathlib.Core.List.{List}
 use mathlib.Core.Logic.{_⊎_, inl, inr, ⊎-elim, _↔_}
-use borrow.Author.Tests.{lt-ltb, le-ltb, eq-eqb, ne-eqb, ltb-true, eqb-true}
-use lib.Dec.{leb, ltb, eqb}
-use lib.ListN.{length, getD}
+use borrow.Author.Tests.{lt-ltb, eq-eqb, ne-eqb, ltb-true, eqb-true}
+use lib.Dec.{ltb, eqb}
+use lib.ListN.{length}
 use Rattle.base.specs.Below.{allBelow}
 use Rattle.base.proofs.Below.{all-at, all-intro}
-use Rattle.base.proofs.Numbers.{facts, both, both-left, both-right, eq-or-ne, and-iff, leb-iff, ltb-iff, eqb-iff}
+use Rattle.base.proofs.Numbers.{facts, both, eq-or-ne, leb-iff}
 use Rattle.bodies.specs.Rising.{risesAt}
 use Rattle.bodies.specs.Routers.{role, identifier, identifierBefore, routerOk, routersOk}
 use Rattle.bodies.specs.Sessions.{sessionCount, sessionFirst, sessionSecond, sessionBefore, sessionOk, sessionsOk}

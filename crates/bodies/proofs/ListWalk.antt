@@ -1,16 +1,15 @@
 -- The walk over the lists, one after the other.
-use Prim.Native.Nat.{ℕ, suc, _+_, _≤_, _<_}
+use Prim.Native.Nat.{ℕ, _+_, _≤_, _<_}
 use native.Mathlib.Numerals.{add-one}
 use native.Mathlib.Omega.{arith}
 use mathlib.Core.Path.{_≡_, refl, _∙_, sym, ap}
-use mathlib.Core.Bool.{Bool, true, false, _&&_}
+use mathlib.Core.Bool.{true, false}
 use mathlib.Core.List.{List}
 use lib.Dec.{eqb}
 use lib.ListN.{length, getD}
 use Rattle.base.specs.Below.{allBelow}
 use Rattle.base.proofs.Below.{all-none, all-more, all-fail}
 use Rattle.bodies.specs.Lists.{listPlace, listAtOk, listOk, eachListOk}
-use Rattle.bodies.specs.Passed.{ListAt}
 use Rattle.bodies.proofs.Facts.{list-facts}
 
 -- k lists are read and in order, and the next one's count byte is at `place`

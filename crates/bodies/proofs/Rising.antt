@@ -1,13 +1,11 @@
 -- Items that each stand after the one before are in order pairwise, and the other way round.
-use Prim.Native.Nat.{ℕ, zero, suc, _-_, _≤_, _<_}
-use native.Mathlib.Nat.{add-sub-cancel-left}
+use Prim.Native.Nat.{ℕ, zero, suc, _-_, _<_}
 use native.Mathlib.Numerals.{sub-one}
 use native.Mathlib.Omega.{arith}
 use mathlib.Core.Path.{_≡_, refl, _∙_, sym, ap}
-use mathlib.Core.Bool.{Bool, true, false, _||_, or-true}
-use mathlib.Core.Logic.{_⊎_, ⊎-elim}
-use borrow.Author.Tests.{eq-eqb, ne-eqb}
-use lib.Dec.{eqb}
+use mathlib.Core.Bool.{Bool, true, _||_}
+use mathlib.Core.Logic.{⊎-elim}
+use borrow.Author.Tests.{ne-eqb}
 use Rattle.base.proofs.Numbers.{eq-or-ne}
 use Rattle.bodies.specs.Rising.{risesAt}
 

@@ -1,7 +1,7 @@
 // Kind 4, the egress lists: refusal 7.
 
 ghost use mathlib.Core.Path.{_≡_};
-ghost use Prim.Native.Nat.{ℕ, _+_, _≤_, _<_};
+ghost use Prim.Native.Nat.{_+_, _≤_, _<_};
 ghost use lib.ListN.{length};
 ghost use Rattle.bodies.specs.Lists.{memberOk, listAtOk, eachListOk, listsOk};
 ghost use Rattle.base.specs.Below.{allBelow};

@@ -3,7 +3,8 @@
 ghost use mathlib.Core.Path.{_≡_};
 ghost use Prim.Native.Nat.{_+_, _≤_};
 ghost use lib.ListN.{length};
-ghost use Rattle.contents.specs.Contents.{entryAt, contentsOf, end, kindsOk, placesOk, sizesOk, contentsOk, body};
+ghost use Rattle.base.specs.Bytes.{PartOf};
+ghost use Rattle.contents.specs.Contents.{entryAt, contentsOf, end, kindsOk, placesOk, sizesOk, contentsOk};
 
 // "kind (1 byte), offset (2), length (2)"; the length is called size.
 pub struct Entry {
@@ -108,7 +109,7 @@ pub fn contents_ok(table: [Entry; 4], n: usize, plan_length: usize) -> bool
 // An entry's body, as a part of the plan itself.
 pub fn body_of(plan: &[u8], e: Entry) -> &[u8]
     requires { ⌜ end e ≤ length (now plan) ⌝ }
-    ensures { λ r. ⌜ now r ≡ body (now (plan .entry)) e ⌝ }
+    ensures { λ r. ⌜ PartOf (plan .entry) (e .offset) (e .size) r ⌝ }
 {
     let start = e.offset as usize;
     let stop = start + e.size as usize;

@@ -1,9 +1,8 @@
 -- The walk's laws are in proofs/ListWalk.antt.
 use Prim.Native.Nat.{_+_, _-_, _≤_}
 use native.Mathlib.Omega.{arith}
-use mathlib.Core.Path.{_≡_, sym, ap, subst}
+use mathlib.Core.Path.{sym, ap, subst}
 use borrow.Author.Needs.{needs}
-use lib.ListN.{getD}
 use Rattle.base.proofs.Numbers.{yes, no}
 use Rattle.bodies.specs.Passed.{ListAt}
 use Rattle.bodies.proofs.Facts.{list-facts}

@@ -1,4 +1,4 @@
-use mathlib.Core.Path.{_≡_, _∙_, ap}
+use mathlib.Core.Path.{_∙_, ap}
 use borrow.Author.Needs.{needs}
 use lib.ListN.{getD}
 use Rattle.contents.specs.Contents.{noEntry, body}
@@ -16,4 +16,4 @@ part-spec =
     (λ c κs. rw (c .before .read-contents .ensures) (let d = c .before .before .before in part-within _ (passed _ (d .pre .0)) _ (d .pre .1)))
     (λ c.
     let a = c .before .before .before .before .args in
-    c .body-of .ensures ∙ ap (λ t. body (a .plan .now) (getD t (a .which) noEntry)) (c .before .before .read-contents .ensures)))
+    c .body-of .ensures .bytes ∙ ap (λ t. body (a .plan .now) (getD t (a .which) noEntry)) (c .before .before .read-contents .ensures)))

@@ -1,14 +1,14 @@
 -- Each check speaks of its body, a part of the plan within it by row 3.
-use Prim.Native.Nat.{ℕ, _≤_}
+use Prim.Native.Nat.{ℕ}
 use native.Mathlib.Omega.{arith}
-use mathlib.Core.Path.{_≡_, _∙_, sym, ap}
+use mathlib.Core.Path.{_≡_, _∙_, ap}
 use mathlib.Core.Bool.{Bool, true, false, not}
 use mathlib.Core.List.{List}
 use borrow.Author.Needs.{needs}
 use lib.ListN.{length}
 use Rattle.base.proofs.Numbers.{yes, no}
 use Rattle.contents.specs.declared.entries.Entry.{Entry}
-use Rattle.contents.specs.Contents.{body, routersEntry, sessionsEntry, distancesEntry, listsEntry}
+use Rattle.contents.specs.Contents.{body, routersEntry, sessionsEntry, distancesEntry}
 use Rattle.bodies.specs.Routers.{routersOk}
 use Rattle.bodies.specs.Sessions.{sessionsOk}
 use Rattle.bodies.specs.Distances.{distancesOk}
@@ -51,35 +51,35 @@ Passes ok which c = ok (body (c .args .plan .now) (which (c .args .t2))) (c .arg
 routers-pass : (c : tie.Else1) → Passes routersOk routersEntry (entry₁ c)
 unfolding Passes
 routers-pass c =
-    passes routersOk (entry₁ c .args .n) (c .before .routers-ok .ensures) (c .before .before .body-of .ensures) (c .if1 .left)
+    passes routersOk (entry₁ c .args .n) (c .before .routers-ok .ensures) (c .before .before .body-of .ensures .bytes) (c .if1 .left)
 
 sessions-pass : (c : tie.Else2) → Passes sessionsOk sessionsEntry (entry₂ c)
 unfolding Passes
 sessions-pass c =
-    passes sessionsOk (entry₂ c .args .n) (c .before .sessions-ok .ensures) (c .before .before .body-of2 .ensures) (c .if2 .left)
+    passes sessionsOk (entry₂ c .args .n) (c .before .sessions-ok .ensures) (c .before .before .body-of2 .ensures .bytes) (c .if2 .left)
 
 distances-pass : (c : tie.Else3) → Passes distancesOk distancesEntry (entry₃ c)
 unfolding Passes
 distances-pass c =
-    passes distancesOk (entry₃ c .args .n) (c .before .distances-ok .ensures) (c .before .before .body-of3 .ensures) (c .if3 .left)
+    passes distancesOk (entry₃ c .args .n) (c .before .distances-ok .ensures) (c .before .before .body-of3 .ensures .bytes) (c .if3 .left)
 
 routers-ok-requires : tie.Need-routers-ok-requires
 routers-ok-requires c κs =
     let d = c .before .before .before in
     let size = body-length (d .args .plan .now) (routersEntry (d .args .t2)) (within d .routers) in
-    omega (arith, row3 d, size, ap length (c .body-of .ensures))
+    omega (arith, row3 d, size, ap length (c .body-of .ensures .bytes))
 
 distances-ok-requires : tie.Need-distances-ok-requires
 distances-ok-requires c κs =
     let d = entry₂ (c .before .before) in
     let size = body-length (d .args .plan .now) (distancesEntry (d .args .t2)) (within d .distances) in
-    (d .pre .0, omega (arith, row3 d, size, ap length (c .body-of3 .ensures)))
+    (d .pre .0, omega (arith, row3 d, size, ap length (c .body-of3 .ensures .bytes)))
 
 returns : tie.Need-returns
 unfolding bodyChecks refuse
 returns c =
     let n = c .before .before .before .before .before .args .n in
-    rw (fails routersOk n (c .before .routers-ok .ensures) (c .before .before .body-of .ensures) (c .if1 .taken))
+    rw (fails routersOk n (c .before .routers-ok .ensures) (c .before .before .body-of .ensures .bytes) (c .if1 .taken))
 
 returns-2 : tie.Need-returns-2
 unfolding bodyChecks refuse Passes
@@ -87,7 +87,7 @@ returns-2 c =
     let d₁ = c .before .before .before .before in
     rw (
       routers-pass d₁,
-      fails sessionsOk (entry₁ d₁ .args .n) (c .before .sessions-ok .ensures) (c .before .before .body-of2 .ensures) (c .if2 .taken),
+      fails sessionsOk (entry₁ d₁ .args .n) (c .before .sessions-ok .ensures) (c .before .before .body-of2 .ensures .bytes) (c .if2 .taken),
     )
 
 returns-3 : tie.Need-returns-3
@@ -97,7 +97,7 @@ returns-3 c =
     rw (
       routers-pass (d₂ .before .before .before .before),
       sessions-pass d₂,
-      fails distancesOk (entry₂ d₂ .args .n) (c .before .distances-ok .ensures) (c .before .before .body-of3 .ensures) (c .if3 .taken),
+      fails distancesOk (entry₂ d₂ .args .n) (c .before .distances-ok .ensures) (c .before .before .body-of3 .ensures .bytes) (c .if3 .taken),
     )
 
 returns-4 : tie.Need-returns-4
@@ -109,7 +109,7 @@ returns-4 c =
       routers-pass (d₂ .before .before .before .before),
       sessions-pass d₂,
       distances-pass d₃,
-      fails listsOk (entry₃ d₃ .args .n) (c .before .lists-ok .ensures) (c .before .before .body-of4 .ensures) (c .if4 .taken),
+      fails listsOk (entry₃ d₃ .args .n) (c .before .lists-ok .ensures) (c .before .before .body-of4 .ensures .bytes) (c .if4 .taken),
     )
 
 returns-5 : tie.Need-returns-5
@@ -121,7 +121,7 @@ returns-5 c =
       routers-pass (d₂ .before .before .before .before),
       sessions-pass d₂,
       distances-pass d₃,
-      passes listsOk (entry₃ d₃ .args .n) (c .before .lists-ok .ensures) (c .before .before .body-of4 .ensures) (c .if4 .left),
+      passes listsOk (entry₃ d₃ .args .n) (c .before .lists-ok .ensures) (c .before .before .body-of4 .ensures .bytes) (c .if4 .left),
     )
 
 pub bodies-refusal-spec : {M : Type 1} → statement M

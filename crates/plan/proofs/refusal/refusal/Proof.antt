@@ -1,16 +1,15 @@
 -- Rows 1 to 3, and then the bodies.
 use Prim.Native.Nat.{ℕ, _≤_}
 use native.Mathlib.Omega.{arith}
-use mathlib.Core.Path.{_≡_, _∙_, sym, ap}
-use mathlib.Core.Bool.{Bool, true, false}
+use mathlib.Core.Path.{_≡_}
+use mathlib.Core.Bool.{true}
 use mathlib.Core.List.{List}
 use borrow.Author.Needs.{needs}
 use lib.ListN.{length}
 use Rattle.base.proofs.Numbers.{yes, no}
-use Rattle.contents.specs.declared.entries.Entry.{Entry}
 use Rattle.contents.specs.Header.{headerOk, routerCount, routerCountOk}
-use Rattle.contents.specs.Contents.{contentsOf, contentsOk}
-use Rattle.plan.specs.Refusal.{refuse, bodyChecks, planChecks, planRefusal}
+use Rattle.contents.specs.Contents.{contentsOk}
+use Rattle.plan.specs.Refusal.{refuse, planChecks, planRefusal}
 use Rattle.contents.proofs.Facts.{header-facts, count-facts}
 use Rattle.plan.proofs.refusal.refusal.Statement.{statement}
 use Rattle.plan.proofs.refusal.refusal.Tie as tie
