@@ -6,13 +6,13 @@ use mathlib.Core.List.{List}
 use borrow.Author.Tests.{ltb-true}
 use lib.Dec.{ltb}
 use denote.Ref.{RefT, now}
-use Rattle.plan.specs.EgressLists.{listCount, listStart, listSize, listNumbers, NumbersOf}
+use Rattle.plan.specs.EgressLists.{listCount, listStart, listSize, listNumbers}
 use Rattle.plan.specs.Refusal.{refuse, planChecks, planRefusal}
 use Rattle.plan.proofs.Passed.{passed}
 use Rattle.plan.proofs.ListWithin.{numbers-of}
 use Rattle.plan.proofs.Cascade.{plan-passes, plan-of-passed, refuse-passed}
 use Rattle.checker.proofs.Refused.{when-refused, when-given}
-use Rattle.checker.specs.EgressList.{egressListRefusal, egressListStart, egressListSize, StretchOf}
+use Rattle.checker.specs.EgressList.{egressListRefusal, egressListStart, egressListSize, StretchOf, HandedBack}
 
 pub record Allowed (plan : List ℕ) (k : ℕ) : Type 0 where
   pub plan-ok : planRefusal plan ≡ 0
@@ -41,10 +41,6 @@ module _ (plan : List ℕ) (k : ℕ) where
   stretch-given h = record { starts = when-given _ _ _ h; sizes = when-given _ _ _ h }
 
 -- of a list that is not refused the stretch is its numbers
-pub record HandedBack (plan : List ℕ) (k : ℕ) (stretch : List ℕ) : Type 0 where
-  pub stretch-is : stretch ≡ listNumbers plan k
-  pub numbers : NumbersOf plan k stretch
-
 pub handed-back : (plan : RefT (List ℕ)) (k : ℕ) (part : RefT (List ℕ)) → StretchOf plan k part → egressListRefusal (now plan) k ≡ 0 → HandedBack (now plan) k (now part)
 handed-back plan k part s h =
     let g = stretch-given (now plan) k h in

@@ -2,10 +2,11 @@
 -- is empty, and a second call on the same plan and k returns the number, 0 for none."
 use Prim.Native.Nat.{ℕ}
 use mathlib.Core.List.{List}
+use mathlib.Core.Path.{_≡_}
 use lib.Dec.{ltb}
 use denote.Ref.{RefT, now}
 use Rattle.base.specs.Bytes.{PartOf}
-use Rattle.plan.specs.EgressLists.{listCount, listStart, listSize}
+use Rattle.plan.specs.EgressLists.{listCount, listStart, listSize, listNumbers, NumbersOf}
 use Rattle.plan.specs.Refusal.{refuse, planChecks}
 use Rattle.checker.specs.Refused.{field}
 
@@ -21,6 +22,10 @@ unfoldable pub egressListSize : List ℕ → ℕ → ℕ
 egressListSize plan k = field (egressListRefusal plan k) (listSize plan k)
 
 -- `part` is that stretch of the caller's slice: its bytes, and its address within the slice.
--- The theorem `handed-back` says that a list that is not refused is so handed back as its numbers.
 abbrev pub StretchOf : RefT (List ℕ) → ℕ → RefT (List ℕ) → Type 0
 StretchOf plan k part = PartOf plan (egressListStart (now plan) k) (egressListSize (now plan) k) part
+
+-- "the numbers of list k"; the theorem `handed-back` says that the stretch of a list that is not refused is these
+pub record HandedBack (plan : List ℕ) (k : ℕ) (stretch : List ℕ) : Type 0 where
+  pub stretch-is : stretch ≡ listNumbers plan k
+  pub numbers : NumbersOf plan k stretch
