@@ -5,11 +5,14 @@ use mathlib.Core.Path.{_≡_, refl, _∙_, sym, ap}
 use mathlib.Core.List.{List}
 use borrow.Author.Tests.{ltb-true}
 use lib.Dec.{ltb}
-use Rattle.plan.specs.EgressLists.{listCount, listStart, listSize}
+use denote.Ref.{RefT, now}
+use Rattle.plan.specs.EgressLists.{listCount, listStart, listSize, listNumbers}
 use Rattle.plan.specs.Refusal.{refuse, planChecks, planRefusal}
+use Rattle.plan.proofs.Passed.{passed}
+use Rattle.plan.proofs.ListWithin.{numbers-of}
 use Rattle.plan.proofs.Cascade.{plan-passes, plan-of-passed, refuse-passed}
 use Rattle.checker.proofs.Refused.{when-refused, when-given}
-use Rattle.checker.specs.EgressList.{egressListRefusal, egressListStart, egressListSize}
+use Rattle.checker.specs.EgressList.{egressListRefusal, egressListStart, egressListSize, StretchOf, HandedBack}
 
 pub record Allowed (plan : List ℕ) (k : ℕ) : Type 0 where
   pub plan-ok : planRefusal plan ≡ 0
@@ -36,3 +39,11 @@ module _ (plan : List ℕ) (k : ℕ) where
   pub stretch-given : egressListRefusal plan k ≡ 0 → Stretch (listStart plan k) (listSize plan k)
   unfolding egressListStart egressListSize
   stretch-given h = record { starts = when-given _ _ _ h; sizes = when-given _ _ _ h }
+
+-- of a list that is not refused the stretch is its numbers
+pub handed-back : (plan : RefT (List ℕ)) (k : ℕ) (part : RefT (List ℕ)) → StretchOf plan k part → egressListRefusal (now plan) k ≡ 0 → HandedBack (now plan) k (now part)
+handed-back plan k part s h =
+    let g = stretch-given (now plan) k h in
+    let a = allowed (now plan) k h in
+    let is : now part ≡ listNumbers (now plan) k = rw (g .starts, g .sizes) at (s .bytes) in
+    record { stretch-is = is; numbers = rw is (numbers-of (now plan) (passed (now plan) (a .plan-ok)) k (a .list-ok)) }
