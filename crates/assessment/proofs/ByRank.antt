@@ -1,5 +1,5 @@
 -- The settled table is reached by one act of every router, in the order of its rank.
-use Prim.Native.Nat.{ℕ, suc, _+_, _*_, _≤_, _<_}
+use Prim.Native.Nat.{ℕ, _+_, _*_, _≤_, _<_}
 use native.Mathlib.Omega.{arith}
 use mathlib.Core.Path.{_≡_, refl, _∙_, sym, ap, ap₂}
 use mathlib.Core.Bool.{Bool, true, false, cond}
@@ -10,11 +10,10 @@ use lib.Seq.{ext-getD}
 use borrow.Author.Count.{below-more}
 use borrow.Author.Tests.{eq-eqb}
 use Rattle.base.proofs.Below.{all-at, all-intro}
-use Rattle.base.proofs.Numbers.{eq-or-ne, lt-or-le, not-both}
+use Rattle.base.proofs.Numbers.{eq-or-ne, lt-or-le}
 use Rattle.graph.specs.Rank.{entry}
 use Rattle.routing.specs.Instance.{Instance, Route, nothing, via}
-use Rattle.routing.specs.Reliance.{relies}
-use Rattle.routing.specs.Activation.{choose, held, entryOk, tableOk}
+use Rattle.routing.specs.Activation.{held, entryOk, tableOk}
 use Rattle.settling.specs.Settled.{settledTable}
 use Rattle.settling.specs.Claims.{Ranked}
 use Rattle.settling.proofs.Clean.{CleanEntry, choose-clean}

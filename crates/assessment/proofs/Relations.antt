@@ -2,7 +2,7 @@
 use Prim.Native.Nat.{ℕ, _*_, _≤_, _<_}
 use native.Mathlib.Omega.{arith}
 use mathlib.Core.Path.{_≡_, refl, _∙_, sym, ap, ap₂}
-use mathlib.Core.Bool.{Bool, true, false}
+use mathlib.Core.Bool.{true, false}
 use mathlib.Core.List.{List, _++_}
 use lib.ListN.{length, drop}
 use Rattle.base.specs.Bits.{bits}
@@ -10,7 +10,7 @@ use Rattle.base.specs.Seek.{flag, highest}
 use Rattle.base.specs.Tab.{tab}
 use Rattle.base.proofs.Seek.{highest-cong, highest-over}
 use Rattle.base.proofs.Tab.{getD-written}
-use Rattle.graph.specs.Closure.{Relation, closure, Agree, Irreflexive, Acyclic}
+use Rattle.graph.specs.Closure.{closure, Agree, Irreflexive, Acyclic}
 use Rattle.graph.specs.Groups.{label, stable}
 use Rattle.graph.specs.Rank.{entry, rank, highestRank}
 use Rattle.graph.specs.Cycle.{cycle, CycleAsked}
@@ -19,7 +19,6 @@ use Rattle.graph.proofs.Sharing.{labels-cong, stable-cong, stable-acyclic}
 use Rattle.graph.proofs.Ranking.{rank-cong, highest-rank-cong, acyclic-cong, rank-falls}
 use Rattle.graph.proofs.Walking.{cycle-cong}
 use Rattle.routing.specs.Instance.{Instance}
-use Rattle.routing.specs.Reliance.{relies}
 use Rattle.routing.proofs.Reliance.{relies-other}
 use Rattle.settling.specs.Settled.{settledTable}
 use Rattle.settling.specs.Claims.{Ranked}
@@ -73,7 +72,7 @@ module _ (I : Instance) (before relied : List ℕ) (h : RelianceRows I before re
     reached : Agree (bits closed) (closure (reliance I) (I .n)) (I .n)
     reached i j l m = c i j l m ∙ ap (λ C. C i j) same-closure
 
-    pub labels-are : tab (label (bits closed)) (I .n) ≡ tab (label (closure (reliance I) (I .n))) (I .n)
+    labels-are : tab (label (bits closed)) (I .n) ≡ tab (label (closure (reliance I) (I .n))) (I .n)
     labels-are = labels-cong (bits closed) (closure (reliance I) (I .n)) (I .n) reached
 
     pub stable-is : stable (bits closed) (I .n) ≡ isStable I
