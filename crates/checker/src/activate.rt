@@ -31,7 +31,7 @@ fn router_refusal(plan: &[u8], list: usize, router: usize) -> u8
 }
 
 // Rows 9 and 10 of a call that takes a table, whatever the distances.
-pub fn table_refusal(net: Network, rows: &[u64; 64], table: &[u8]) -> u8
+pub(crate) fn table_refusal(net: Network, rows: &[u64; 64], table: &[u8]) -> u8
     requires { ⌜ net .n ≤ 64 ⌝ }
     ensures { λ r. ⌜ ((distances : List ℕ) → r ≡ refuse (leb (2 * net .n) (length (now (table .entry)))) 9 (refuse (tableOk (decoded net (now (rows .entry)) distances) (tableOf (now (table .entry)) (net .n))) 10 0)) ⌝ }
 {

@@ -65,3 +65,7 @@ plan-refused plan rest h = plan-cascade plan .refused h rest
 pub plan-of-passed : (plan : List ℕ) (rest : ℕ) → planChecks plan rest ≡ 0 → planRefusal plan ≡ 0
 plan-of-passed plan rest h =
     ⊎-elim (λ e. e) (λ ne. sym (plan-refused plan rest ne) ∙ h) (eq-or-ne (planRefusal plan) 0)
+
+pub refuse-true : (ok : Bool) (number rest : ℕ) → ok ≡ true → refuse ok number rest ≡ rest
+unfolding refuse
+refuse-true ok number rest h = rw h
