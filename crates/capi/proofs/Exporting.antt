@@ -16,14 +16,14 @@ use Rattle.checker.specs.declared.verdict.VerdictAnswer.{VerdictAnswer}
 use Rattle.checker.specs.declared.verdict.VerdictAnswer.the-variants as verdicts
 use Rattle.checker.specs.declared.run.RunAnswer.{RunAnswer}
 use Rattle.checker.specs.EgressList.{egressListRefusal}
-use Rattle.checker.specs.Compare.{compareRefusal, compared, better, compareNumber, compareBetter, Compares}
+use Rattle.checker.specs.Compare.{compareRefusal, compared, compareNumber, compareBetter, Compares}
 use Rattle.checker.specs.Relies.{reliesRefusal, relied, reliesNumber, reliesFlag, Relied}
-use Rattle.checker.specs.Verdict.{isStable, verdictOf, verdictAnswer, verdictNumber, verdictIsStable, verdictSize, VerdictGiven}
+use Rattle.checker.specs.Verdict.{isStable, verdictOf, verdictAnswer, verdictNumber, verdictIsStable, verdictSize, verdictRefusal, VerdictCall}
 use Rattle.checker.specs.Run.{runRefusal, Runs}
 use Rattle.checker.proofs.Refused.{when-refused, when-given}
 use Rattle.plan.specs.EgressLists.{SpanOf}
 use Rattle.checker.proofs.ListStretch.{stretch-given}
-use Rattle.capi.specs.Exports.{ListExport, CompareExport, ReliesExport, VerdictWritten, RunExport}
+use Rattle.capi.specs.Exports.{ListExport, CompareExport, ReliesExport, VerdictExport, RunExport}
 use Rattle.capi.proofs.Written.{written, refused-by}
 
 module _ (plan : List ℕ) (k : ℕ) (start count : ℕ) where
@@ -95,18 +95,17 @@ verdictRefuses (verdicts.Refused number) = 1
 verdictRefuses (verdicts.Stable highest) = 0
 verdictRefuses (verdicts.Suspect count) = 0
 
-module _ (R : ℕ) (plan : List ℕ) (k : ℕ) (r : VerdictAnswer) (labels labels′ ranks ranks′ table table′ ring ring′ : List ℕ)
-    (call : VerdictGiven R plan k r labels labels′ ranks ranks′ table table′ ring ring′) (stable size : ℕ) where
+module _ (plan : List ℕ) (k : ℕ) (r : VerdictAnswer) (labels labels′ ranks ranks′ table table′ ring ring′ : List ℕ) (call : VerdictCall plan k r labels labels′ ranks ranks′ table table′ ring ring′) (stable size : ℕ) where
   verdict-answers : verdictRefuses (verdictOf plan k) ≡ 0
   unfolding verdictOf
   verdict-answers = cond-answers verdictRefuses (isStable plan k) _ _ refl refl
 
-  refusal-not-0 : verdictRefuses r ≡ 1 → R ≡ 0 → ⊥
+  refusal-not-0 : verdictRefuses r ≡ 1 → verdictRefusal plan k labels ranks table ring ≡ 0 → ⊥
   unfolding verdictAnswer
-  refusal-not-0 says = refused-by verdictRefuses R r _ _ (call .answer) says verdict-answers
+  refusal-not-0 says = refused-by verdictRefuses _ r _ _ (call .answer) says verdict-answers
 
   pub verdict-refused : (number : ℕ) → r ≡ verdicts.Refused number
-      → VerdictWritten R plan k number labels labels′ ranks ranks′ table table′ ring ring′ stable stable size size
+      → VerdictExport plan k number labels labels′ ranks ranks′ table table′ ring ring′ stable stable size size
   verdict-refused number is =
       let n = refusal-not-0 (ap verdictRefuses is) in
       record {
@@ -120,9 +119,9 @@ module _ (R : ℕ) (plan : List ℕ) (k : ℕ) (r : VerdictAnswer) (labels label
       }
 
   pub verdict-given : (judged : Bool) (size′ : ℕ) → verdictNumber r ≡ 0 → verdictIsStable r ≡ judged → verdictSize r ≡ size′
-      → VerdictWritten R plan k 0 labels labels′ ranks ranks′ table table′ ring ring′ stable (flag judged) size size′
+      → VerdictExport plan k 0 labels labels′ ranks ranks′ table table′ ring ring′ stable (flag judged) size size′
   verdict-given judged size′ zero is long =
-      let n : R ≡ 0 = sym (call .numbered) ∙ zero in
+      let n : verdictRefusal plan k labels ranks table ring ≡ 0 = sym (call .numbered) ∙ zero in
       record {
         numbered = sym n;
         labelled = call .labelled;

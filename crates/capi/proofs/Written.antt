@@ -1,9 +1,9 @@
 -- What a result variable holds beside a refusal number, and beside none.
 use Prim.Native.Nat.{ℕ}
 use native.Mathlib.Omega.{arith}
-use mathlib.Core.Path.{_≡_, refl, _∙_, sym, ap}
+use mathlib.Core.Path.{_≡_, _∙_, sym, ap}
 use Rattle.checker.specs.Refused.{unlessRefused}
-use Rattle.checker.proofs.Refused.{when-refused, when-given}
+use Rattle.checker.proofs.Refused.{when-given}
 
 -- nothing is refused: the variable holds the call's field
 pub written : {A : Type 0} (number : ℕ) (before zeroed value x : A) → number ≡ 0 → x ≡ unlessRefused number zeroed value
