@@ -27,3 +27,16 @@ pub fn numbers(bytes: &[u8]) {
         i += 1;
     }
 }
+
+pub fn named_number(text: &[u8], x: usize) {
+    word(text);
+    number(x);
+}
+
+pub fn truth(b: bool) {
+    if b {
+        word(b"yes");
+    } else {
+        word(b"no");
+    }
+}
