@@ -89,3 +89,9 @@ pub fn run(name: &[u8], plan: &[u8], list: usize, sequence: &[u8], limit: usize,
     calls::run(plan, list, sequence, limit, table);
     text::line_end();
 }
+
+pub fn number(name: &[u8], x: usize) {
+    text::name(name);
+    text::number(x);
+    text::line_end();
+}
