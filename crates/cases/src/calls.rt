@@ -1,0 +1,76 @@
+// Each call, and what it gave as words and numbers of a line: a refusal number, or the result; then every byte of the lent buffers.
+
+use crate::text;
+use base::wide;
+use checker::compare::CompareAnswer;
+use checker::relies::ReliesAnswer;
+use checker::verdict::VerdictAnswer;
+
+pub fn check(plan: &[u8]) {
+    text::number(wide(checker::check(plan)));
+}
+
+// The refusal number, how many numbers are handed back, and these.
+pub fn egress_list(plan: &[u8], list: usize) {
+    text::number(wide(checker::lists::egress_list_refusal(plan, list)));
+    let numbers = checker::lists::egress_list(plan, list);
+    text::number(numbers.len());
+    text::numbers(numbers);
+}
+
+pub fn compare(plan: &[u8], router: usize, first: usize, second: usize) {
+    let answer = checker::compare::compare(plan, router, first, second);
+    match answer {
+        CompareAnswer::Refused(number) => text::number(wide(number)),
+        CompareAnswer::First => text::word(b"first"),
+        CompareAnswer::Second => text::word(b"second"),
+        CompareAnswer::Same => text::word(b"same"),
+    }
+}
+
+pub fn relies(plan: &[u8], list: usize, router: usize, other: usize) {
+    let answer = checker::relies::relies(plan, list, router, other);
+    match answer {
+        ReliesAnswer::Refused(number) => text::number(wide(number)),
+        ReliesAnswer::Yes => text::word(b"yes"),
+        ReliesAnswer::No => text::word(b"no"),
+    }
+}
+
+pub fn activate(plan: &[u8], list: usize, router: usize, table: &mut [u8]) {
+    text::number(wide(checker::activate::activate(plan, list, router, table)));
+    text::word(b"table");
+    text::numbers(table);
+}
+
+// The refusal number, the acts applied, the rounds, and whether the sequence is longer than the limit.
+pub fn run(plan: &[u8], list: usize, sequence: &[u8], limit: usize, table: &mut [u8]) {
+    let answer = checker::run::run(plan, list, sequence, limit, table);
+    text::number(wide(answer.refused));
+    text::number(answer.applied);
+    text::number(answer.rounds);
+    text::truth(answer.exhausted);
+    text::word(b"table");
+    text::numbers(table);
+}
+
+fn verdict_answer(answer: VerdictAnswer) {
+    match answer {
+        VerdictAnswer::Refused(number) => text::number(wide(number)),
+        VerdictAnswer::Stable(highest) => text::named_number(b"stable", highest),
+        VerdictAnswer::Suspect(length) => text::named_number(b"suspect", length),
+    }
+}
+
+// The verdict, and what it left in the four buffers.
+pub fn verdict(plan: &[u8], list: usize, labels: &mut [u8], ranks: &mut [u8], table: &mut [u8], cycle: &mut [u8]) {
+    verdict_answer(checker::verdict::verdict(plan, list, labels, ranks, table, cycle));
+    text::word(b"labels");
+    text::numbers(labels);
+    text::word(b"ranks");
+    text::numbers(ranks);
+    text::word(b"table");
+    text::numbers(table);
+    text::word(b"cycle");
+    text::numbers(cycle);
+}

@@ -1,0 +1,20 @@
+// The cases of the rules that no theorem states, by the public calls: each line is a case's name and what the calls gave.
+
+mod asked;
+mod build;
+mod calls;
+mod cases;
+mod damages;
+mod limits;
+mod misread;
+mod plans;
+mod runs;
+mod text;
+
+fn main() {
+    limits::all();
+    damages::all();
+    asked::all();
+    misread::all();
+    runs::all();
+}
