@@ -7,7 +7,6 @@ ghost use lib.ListN.{length};
 ghost use Rattle.network.specs.Decoded.{decoded};
 ghost use Rattle.network.specs.WellFormed.{WellFormed};
 ghost use Rattle.assessment.specs.Assessed.{Assessed};
-
 use network::Network;
 
 // Stable, with the highest rank; or suspect, with the cycle's length.

@@ -53,10 +53,13 @@ add-r c =
     let l = c .before .before .before .before .before in
     let s = l .before .before .before in
     let d = s .before .before .before .before .before in
-    omega
-    (arith, c .before .before .before .before .loop-test .taken, d .pre .1,
-    highest-under (entry (d .args .ranks .now)) (d .args .net .n) 255
-    (λ i h. omega (arith, s .before .before .before .shared-slice-known2 .given i)))
+    omega (
+      arith,
+      c .before .before .before .before .loop-test .taken,
+      d .pre .1,
+      highest-under (entry (d .args .ranks .now)) (d .args .net .n) 255
+          (λ i h. omega (arith, s .before .before .before .shared-slice-known2 .given i)),
+    )
 
 loop-again : tie.Need-loop-again Inv-loop μ-loop
 loop-again c =

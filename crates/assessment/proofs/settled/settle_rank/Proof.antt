@@ -43,21 +43,25 @@ loop-again c =
     let p = d .pre in
     let long : 2 * d .args .net .n ≤ length (l .loop .table) = omega (arith, p .0 .long, l .loop .inv .1) in
     let mine : entry (d .args .ranks .now) (l .loop .w) ≡ d .args .r
-    = sym (act .before .before .before .wide .ensures .0) ∙ act .before .before .if1 .taken in
-    (search needs, search needs,
-    rw (act .activate .ensures)
-    (turn-act _ _ (p .0 .falls) (d .args .r) _ (l .loop .w) (l .loop .table) (p .0 .formed .count)
-    (act .before .before .before .before .before .loop-test .taken)
-    long
-    mine
-    (l .loop .inv .2)))
+    = sym (act .before .before .before .wide .ensures .0) ∙ act .before .before .if1 .taken in (
+      search needs,
+      search needs,
+      rw (act .activate .ensures)
+          (turn-act _ _ (p .0 .falls) (d .args .r) _ (l .loop .w) (l .loop .table) (p .0 .formed .count)
+          (act .before .before .before .before .before .loop-test .taken)
+          long
+          mine
+          (l .loop .inv .2)),
+    )
 
 loop-again-2 : tie.Need-loop-again-2 Inv-loop μ-loop
 loop-again-2 c =
     let l = c .before .before .before .before in
-    let p = l .before .before .before .before .pre in
-    (search needs, search needs,
-    turn-skip _ _ (p .0 .falls) _ _ (l .loop .w) (l .loop .table) (λ e. c .if1 .left (c .before .wide .ensures .0 ∙ e)) (l .loop .inv .2))
+    let p = l .before .before .before .before .pre in (
+      search needs,
+      search needs,
+      turn-skip _ _ (p .0 .falls) _ _ (l .loop .w) (l .loop .table) (λ e. c .if1 .left (c .before .wide .ensures .0 ∙ e)) (l .loop .inv .2),
+    )
 
 returns : tie.Need-returns Inv-loop μ-loop
 returns c =

@@ -28,13 +28,16 @@ loop-again c =
     let put = c .before .before in
     let l = put .before .before .before .before in
     let d = l .before .before in
-    let long : 2 * d .args .net .n ≤ length (l .loop .table) = omega (arith, d .pre .1, l .loop .inv .1) in
-    (search needs, search needs, λ rows distances.
-    let I = decoded (d .args .net) rows distances in
-    rw (put .put-route .ensures)
-    (started-more I (d .pre .0) _ (l .loop .v) (l .loop .table) _ (put .before .before .before .loop-test .taken) long
-    (put .before .first-route .ensures rows distances)
-    (l .loop .inv .2 rows distances)))
+    let long : 2 * d .args .net .n ≤ length (l .loop .table) = omega (arith, d .pre .1, l .loop .inv .1) in (
+      search needs,
+      search needs,
+      λ rows distances.
+          let I = decoded (d .args .net) rows distances in
+          rw (put .put-route .ensures)
+          (started-more I (d .pre .0) _ (l .loop .v) (l .loop .table) _ (put .before .before .before .loop-test .taken) long
+          (put .before .first-route .ensures rows distances)
+          (l .loop .inv .2 rows distances)),
+    )
 
 returns : tie.Need-returns Inv-loop μ-loop
 returns c rows distances =
