@@ -59,13 +59,12 @@ fn routers_activated() {
     run(b"8-run-limit-0", &[4], 0, &mut table);
 }
 
-// A table of seven bytes for four routers, which breaks the rule of tables too, and lower numbers that go before.
+// A table of seven bytes for four routers.
 fn short_table() {
     let mut table = [255, 255, 255, 255, 2, 2, 3];
     activate(b"9-activate", 0, &mut table);
     run(b"9-run", &[0], 1, &mut table);
     run(b"9-run-of-no-acts", &[], 0, &mut table);
-    activate(b"8-before-9", 4, &mut table);
 }
 
 // The verdict's four buffers have the lengths n, n, 2n and n, but for one.
@@ -78,21 +77,56 @@ fn verdict(name: &[u8], labels: &mut [u8], ranks: &mut [u8], table: &mut [u8], c
 }
 
 fn short_buffers() {
-    verdict(b"9-labels", &mut [7u8; 3], &mut [7u8; 4], &mut [7u8; 8], &mut [7u8; 4]);
-    verdict(b"9-ranks", &mut [7u8; 4], &mut [7u8; 3], &mut [7u8; 8], &mut [7u8; 4]);
-    verdict(b"9-table", &mut [7u8; 4], &mut [7u8; 4], &mut [7u8; 7], &mut [7u8; 4]);
-    verdict(b"9-cycle", &mut [7u8; 4], &mut [7u8; 4], &mut [7u8; 8], &mut [7u8; 3]);
-    verdict(b"verdict-exact", &mut [7u8; 4], &mut [7u8; 4], &mut [7u8; 8], &mut [7u8; 4]);
+    verdict(
+        b"9-labels",
+        &mut [7u8; 3],
+        &mut [7u8; 4],
+        &mut [7u8; 8],
+        &mut [7u8; 4],
+    );
+    verdict(
+        b"9-ranks",
+        &mut [7u8; 4],
+        &mut [7u8; 3],
+        &mut [7u8; 8],
+        &mut [7u8; 4],
+    );
+    verdict(
+        b"9-table",
+        &mut [7u8; 4],
+        &mut [7u8; 4],
+        &mut [7u8; 7],
+        &mut [7u8; 4],
+    );
+    verdict(
+        b"9-cycle",
+        &mut [7u8; 4],
+        &mut [7u8; 4],
+        &mut [7u8; 8],
+        &mut [7u8; 3],
+    );
+    verdict(
+        b"verdict-exact",
+        &mut [7u8; 4],
+        &mut [7u8; 4],
+        &mut [7u8; 8],
+        &mut [7u8; 4],
+    );
 }
 
-// An activation and a run of router 1 on a table in which one entry differs from the start, and a run of no acts, which is refused as well.
+// An activation of router 1, a run of it and a run of no acts, on a table in which one entry differs from the start. Router 1 takes 3 from 3.
 fn entry(name: &[u8], at: usize, egress: u8, sender: u8) {
+    let mut plan = [0u8; plans::ROOM];
+    let length = plans::small(&mut plan, 6, 6);
+    let whole = build::front(&plan, length);
     let mut table = [255, 255, 255, 255, 2, 2, 3, 3];
     let next = build::put(&mut table, at, egress);
     build::put(&mut table, next, sender);
-    activate(name, 1, &mut table);
-    run(name, &[1], 1, &mut table);
-    run(name, &[], 0, &mut table);
+    text::name(name);
+    calls::activate(whole, 0, 1, &mut table);
+    calls::run(whole, 0, &[1], 1, &mut table);
+    calls::run(whole, 0, &[], 0, &mut table);
+    text::line_end();
 }
 
 // The entries of routers 0 to 3 are at 0, 2, 4 and 6. Routers 2 and 3 are listed; router 0 neighbours 1 and 2, but not 3.
@@ -109,9 +143,28 @@ fn entries() {
 
 // Tables that keep the rule: an egress below n with a neighbour as sender, be the egress listed or not.
 fn kept_entries() {
-    entry(b"3-from-1", 0, 3, 1);
+    entry(b"holds-3-from-1", 0, 3, 1);
     entry(b"unlisted-egress", 0, 1, 1);
     entry(b"own-egress", 0, 0, 1);
+}
+
+// Every number from 7 to 10 would fit; the lowest is given.
+fn lowest_first() {
+    let mut plan = [0u8; plans::ROOM];
+    let length = plans::small(&mut plan, 6, 6);
+    build::put(&mut plan, 84, 0);
+    let mut table = [1, 2, 3];
+    cases::activate(b"7-before-8", build::front(&plan, length), 9, 9, &mut table);
+    cases::run(
+        b"7-before-8-run",
+        build::front(&plan, length),
+        9,
+        &[9],
+        1,
+        &mut table,
+    );
+    activate(b"8-before-9", 4, &mut table);
+    activate(b"9-before-10", 0, &mut table);
 }
 
 pub fn all() {
@@ -124,4 +177,5 @@ pub fn all() {
     short_buffers();
     entries();
     kept_entries();
+    lowest_first();
 }

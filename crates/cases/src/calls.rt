@@ -63,7 +63,14 @@ fn verdict_answer(answer: VerdictAnswer) {
 }
 
 // The verdict, and what it left in the four buffers.
-pub fn verdict(plan: &[u8], list: usize, labels: &mut [u8], ranks: &mut [u8], table: &mut [u8], cycle: &mut [u8]) {
+pub fn verdict(
+    plan: &[u8],
+    list: usize,
+    labels: &mut [u8],
+    ranks: &mut [u8],
+    table: &mut [u8],
+    cycle: &mut [u8],
+) {
     verdict_answer(checker::verdict::verdict(plan, list, labels, ranks, table, cycle));
     text::word(b"labels");
     text::numbers(labels);

@@ -23,17 +23,24 @@ fn contents() {
     cases::damaged(b"3-kind", 6, 2);
     cases::damaged(b"3-first-offset", 7, 27);
     cases::damaged(b"3-next-offset", 12, 47);
-    cases::damaged(b"3-routers-length", 9, 15);
-    cases::damaged(b"3-last-length", 24, 11);
+    cases::damaged(b"3-routers-shorter", 9, 15);
+    cases::damaged(b"3-lists-shorter", 24, 11);
 }
 
-// The bodies below fit the contents entries, but have an odd length of sessions, or 15 distances for four routers.
+// The bodies fit the contents entries, but are those of four routers where n is 3, have an odd length of sessions, or 15 distances for four routers.
 fn lengths() {
+    cases::damaged(b"3-routers-length", 4, 3);
     let mut plan = [0u8; plans::ROOM];
     let distances = [0, 9, 9, 9, 9, 0, 9, 9, 9, 9, 0, 9, 9, 9, 9, 0];
     let odd = build::put_plan(&mut plan, &[1, 1, 2, 2], &[0, 1, 0], &distances, &[1, 1, 0]);
     cases::every_call(b"3-odd-sessions", build::front(&plan, odd));
-    let short = build::put_plan(&mut plan, &[1, 1, 2, 2], &[0, 1], &distances[0..15], &[1, 1, 0]);
+    let short = build::put_plan(
+        &mut plan,
+        &[1, 1, 2, 2],
+        &[0, 1],
+        &distances[0..15],
+        &[1, 1, 0],
+    );
     cases::every_call(b"3-distances-length", build::front(&plan, short));
 }
 
@@ -45,16 +52,16 @@ fn routers() {
     cases::damaged(b"4-lower-identifier", 32, 9);
 }
 
-// The sessions 0-1, 0-2, 1-3 start at 46.
+// The sessions 0-1, 0-2, 1-3 start at 46. The last two cases have 0-1 twice, and 0-3 before 0-2.
 fn sessions() {
     cases::damaged(b"5-router-4", 51, 4);
     cases::damaged(b"5-with-itself", 46, 1);
     cases::damaged(b"5-second-lower", 46, 2);
     cases::damaged(b"5-same-twice", 49, 1);
-    cases::damaged(b"5-not-rising", 48, 1);
+    cases::damaged(b"5-not-rising", 47, 3);
 }
 
-// The distance of router 3 to itself is at 82.
+// The distance of router 0 to itself is at 52, that of router 3 at 82.
 fn distances() {
     cases::damaged(b"6-diagonal", 52, 1);
     cases::damaged(b"6-last-diagonal", 83, 1);

@@ -19,14 +19,14 @@ fn routers(name: &[u8], n: usize, pairs: usize) {
     cases::check(name, build::front(&plan, length));
 }
 
-// The small plan with the distance from 0 to 3, at 58, of these two bytes.
+// The small plan with the distance from 0 to 3, at 58, of these two bytes; the distance from 0 to 2 is 10.
 fn distance(name: &[u8], low: u8, high: u8) {
     let mut plan = [0u8; plans::ROOM];
     let length = plans::small(&mut plan, 14, 14);
     build::put(&mut plan, 58, low);
     build::put(&mut plan, 59, high);
     cases::check(name, build::front(&plan, length));
-    cases::compare(b"at-0-of-2-and-3", build::front(&plan, length), 0, 2, 3);
+    cases::compare(b"compared-to-10", build::front(&plan, length), 0, 2, 3);
 }
 
 // Writes the pairs of `lead` with each router after it, up to `last`.

@@ -35,7 +35,13 @@ fn high_byte() {
     let mut plan = [0u8; plans::ROOM];
     let length = plans::small(&mut plan, 255, 30);
     build::put_two(&mut plan, 56, 256);
-    cases::compare(b"256-and-255", build::front(&plan, length), 0, 2, 3);
+    cases::compare(
+        b"distances-256-and-255",
+        build::front(&plan, length),
+        0,
+        2,
+        3,
+    );
 }
 
 // Router 1 offers 3, its own best client; at router 0 that is farther than 2. Router 0 is nearer to 4, which router 1 does not offer.

@@ -17,16 +17,52 @@ pub fn small(plan: &mut [u8], p: u8, q: u8) -> usize {
 // Lists 0: 2,3,4; 1: 3,4.
 pub fn two_clients(plan: &mut [u8]) -> usize {
     let distances = [
-        0, 30, 10, 12, 8, 30, 0, 30, 5, 6, 30, 30, 0, 30, 30, 30, 30, 30, 0, 30, 30, 30, 30, 30, 0,
+        0,
+        30,
+        10,
+        12,
+        8,
+        30,
+        0,
+        30,
+        5,
+        6,
+        30,
+        30,
+        0,
+        30,
+        30,
+        30,
+        30,
+        30,
+        0,
+        30,
+        30,
+        30,
+        30,
+        30,
+        0,
     ];
     let lists = [2, 3, 2, 3, 4, 2, 3, 4];
-    build::put_plan(plan, &[1, 1, 2, 2, 2], &[0, 1, 0, 2, 1, 3, 1, 4], &distances, &lists)
+    build::put_plan(
+        plan,
+        &[1, 1, 2, 2, 2],
+        &[0, 1, 0, 2, 1, 3, 1, 4],
+        &distances,
+        &lists,
+    )
 }
 
 // Reflectors 0, 1, 2 in a row, and client 3 of router 2, which alone is listed.
 pub fn three_reflectors(plan: &mut [u8]) -> usize {
     let distances = [0, 1, 2, 3, 1, 0, 1, 2, 2, 1, 0, 1, 3, 2, 1, 0];
-    build::put_plan(plan, &[1, 1, 1, 2], &[0, 1, 1, 2, 2, 3], &distances, &[1, 1, 3])
+    build::put_plan(
+        plan,
+        &[1, 1, 1, 2],
+        &[0, 1, 1, 2, 2, 3],
+        &distances,
+        &[1, 1, 3],
+    )
 }
 
 // Clients 2 and 3 have sessions with both reflectors 0 and 1; router 2 alone is listed.

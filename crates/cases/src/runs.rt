@@ -10,7 +10,14 @@ fn run(name: &[u8], sequence: &[u8], limit: usize) {
     let mut plan = [0u8; plans::ROOM];
     let length = plans::small(&mut plan, 6, 6);
     let mut table = [255, 255, 255, 255, 2, 2, 3, 3, 77, 88];
-    cases::run(name, build::front(&plan, length), 0, sequence, limit, &mut table);
+    cases::run(
+        name,
+        build::front(&plan, length),
+        0,
+        sequence,
+        limit,
+        &mut table,
+    );
 }
 
 fn limits() {

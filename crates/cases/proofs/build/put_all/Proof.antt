@@ -1,13 +1,10 @@
+-- `cases::build::put_all` is safe and ends. The buffer keeps its length; the measure is how many are left.
 use mathlib.Core.Path.{_≡_}
 use Prim.Native.Nat.{_-_}
 use lib.ListN.{length}
-use native.Mathlib.Omega.{arith}
 use borrow.Author.Needs.{needs}
 use Rattle.cases.proofs.build.put_all.Statement.{statement}
 use Rattle.cases.proofs.build.put_all.Tie as tie
-use Rattle.cases.proofs.build.put_all.Reads as reads
-use Rattle.cases.proofs.build.put_all.Lts as lts
-use Rattle.cases.proofs.build.put.Reads as put-reads
 
 abbrev Inv-loop : tie.InvT-loop
 Inv-loop plan₀ start bytes at₀ i₀ plan at i = length plan ≡ length plan₀
@@ -15,49 +12,17 @@ Inv-loop plan₀ start bytes at₀ i₀ plan at i = length plan ≡ length plan�
 abbrev μ-loop : tie.MeasureT-loop
 μ-loop plan₀ start bytes at₀ i₀ plan at i = length bytes - i
 
--- src/build.rt:25:5
-loop-holds : tie.Need-loop-holds Inv-loop μ-loop
-loop-holds c = search needs
-
--- src/build.rt:26:28
-shared-slice-read-put : tie.Need-shared-slice-read-put Inv-loop μ-loop
-shared-slice-read-put c = search needs
-
--- src/build.rt:26:9
-put-requires : tie.Need-put-requires Inv-loop μ-loop
-put-requires c κs = search needs
-
--- src/build.rt:27:9
-add-i : tie.Need-add-i Inv-loop μ-loop
-add-i c = search needs
-
--- src/build.rt:25:5
-loop-less : tie.Need-loop-less Inv-loop μ-loop
-loop-less c = search needs
-
--- src/build.rt:25:5
-loop-again : tie.Need-loop-again Inv-loop μ-loop
-loop-again c = search needs
-
--- src/build.rt:22:1
-same-length : tie.Need-same-length Inv-loop μ-loop
-same-length c = search needs
-
--- src/build.rt:22:1
-returns : tie.Need-returns Inv-loop μ-loop
-returns c = search needs
-
 pub put-all-spec : {M : Type 1} → statement M
 put-all-spec =
     tie.close
     (tie.spec
     Inv-loop
     μ-loop
-    loop-holds
-    shared-slice-read-put
-    put-requires
-    add-i
-    loop-less
-    loop-again
-    same-length
-    returns)
+    (λ c. search needs)
+    (λ c. search needs)
+    (λ c κs. search needs)
+    (λ c. search needs)
+    (λ c. search needs)
+    (λ c. search needs)
+    (λ c. search needs)
+    (λ c. search needs))
