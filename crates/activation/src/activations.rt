@@ -1,4 +1,4 @@
-// An activation on the caller's table: one pass over the router's neighbours.
+// An activation on the caller's table: one pass over the routers, of which the neighbours are heard.
 
 use crate::table::RouteBytes;
 use network::Network;
