@@ -5,7 +5,4 @@ pub mod Comparing
 pub mod Relying
 pub mod Acting
 pub mod Sequences
-pub mod VerdictMeaning
-pub mod Series
-pub mod SmallPlans
 pub mod Judging

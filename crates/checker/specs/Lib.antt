@@ -3,8 +3,5 @@ pub mod EgressList
 pub mod Compare
 pub mod Relies
 pub mod Verdict
-pub mod VerdictMeaning
 pub mod Activate
 pub mod Run
-pub mod Series
-pub mod SmallPlans

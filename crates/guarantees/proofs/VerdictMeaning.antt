@@ -19,8 +19,8 @@ use Rattle.routing.proofs.Reliance.{relies-other}
 use Rattle.settling.specs.Claims.{Ranked, OneSteadyTable}
 use Rattle.settling.proofs.Uniqueness.{one-steady-table}
 use Rattle.network.specs.FromPlan.{instanceOf}
 use Rattle.checker.specs.Verdict.{reliance, isStable, highestOf, cycleOf}
-use Rattle.checker.specs.VerdictMeaning.{Shares, labelIn, rankIn, HighestBelow, VerdictMeans}
+use Rattle.guarantees.specs.VerdictMeaning.{Shares, labelIn, rankIn, HighestBelow, VerdictMeans}
 
 -- a test as a number, and back
 flag-yes : (b : Bool) → b ≡ true → 1 ≤ flag b

@@ -23,10 +23,10 @@ use Rattle.graph.specs.Rank.{rankOver, rankRounds, rank}
 use Rattle.graph.specs.Cycle.{start, next, walk, second, first, lap, cycleIn, cycle}
 use Rattle.settling.specs.Settled.{chooseAll, chosenAfter, settledTable}
 use Rattle.activation.specs.TableBytes.{readRoute, tableOf, tableBytes, activateBytes, runBytes}
 use Rattle.checker.specs.Verdict.{isStable, labelsOf, ranksOf, highestOf, settledBytes, cycleOf, verdictRefusal, verdictOf, verdictAnswer, labelsAfter, ranksAfter, tableAfter, cycleAfter}
 use Rattle.checker.specs.Activate.{tableChecks}
 use Rattle.checker.specs.Run.{sequenceOk, runRefusal, runApplied, runRounds, runExhausted, runTable}
-use Rattle.checker.specs.SmallPlans.{smallRouters, smallSessions, smallDistances, smallLists, smallPlan, answerTo, bothClients, cyclePlan, emptyTable, M1, M2, M3, M4, M5, M6, M7, M8, M9, smallPlans, SmallPlansHold}
+use Rattle.guarantees.specs.SmallPlans.{smallRouters, smallSessions, smallDistances, smallLists, smallPlan, answerTo, bothClients, cyclePlan, emptyTable, M1, M2, M3, M4, M5, M6, M7, M8, M9, smallPlans, SmallPlansHold}
 
 pub small-plans : SmallPlansHold
 unfolding

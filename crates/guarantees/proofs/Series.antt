@@ -27,14 +27,14 @@ use Rattle.settling.proofs.Settling.{settles}
 use Rattle.network.specs.FromPlan.{instanceOf}
 use Rattle.activation.specs.TableBytes.{tableOf, tableBytes, activateBytes, runBytes}
 use Rattle.activation.proofs.TableBytes.{table-length, table-front, table-bytes, run-bytes-length, run-bytes-rest, run-table}
 use Rattle.checker.specs.Refused.{unlessRefused}
 use Rattle.checker.specs.Verdict.{highestOf, settledBytes}
-use Rattle.checker.specs.VerdictMeaning.{rankIn}
+use Rattle.guarantees.specs.VerdictMeaning.{rankIn}
 use Rattle.checker.specs.Activate.{tableChecks, activateRefusal, activateTable}
 use Rattle.checker.specs.Run.{sequenceOk, runRefusal, runTable}
-use Rattle.checker.specs.Series.{Call, activateCall, runCall, callPlan, callList, callRefusal, bufferAfter, callActs, seriesBuffer, seriesActs, ForThis, Enough, EverySeriesSettles, EverySeriesGoesOn}
+use Rattle.guarantees.specs.Series.{Call, activateCall, runCall, callPlan, callList, callRefusal, bufferAfter, callActs, seriesBuffer, seriesActs, ForThis, Enough, EverySeriesSettles, EverySeriesGoesOn}
 use Rattle.checker.proofs.Refused.{when-refused, when-given}
-use Rattle.checker.proofs.VerdictMeaning.{ranked, settled-alone}
+use Rattle.guarantees.proofs.VerdictMeaning.{ranked, settled-alone}
 
 -- acts of routers below n: one act, a part of a sequence, two sequences one after the other
 one-below : (n w : ℕ) → w < n → ActsBelow n (w ∷ [])

@@ -1,0 +1,3 @@
+pub mod VerdictMeaning
+pub mod Series
+pub mod SmallPlans
