@@ -15,5 +15,5 @@ use Rattle.activation.specs.TableBytes.{runBytes}
 pub record RunLeaves (I : Instance) (acts : List ℕ) (limit : ℕ) (table : List ℕ) (r : Applied) (after : List ℕ) : Type 0 where
   pub count : r .acts ≡ min limit (length acts)
   pub whole : r .rounds ≡ rounds (I .n) (take limit acts)
-  pub spent : r .exhausted ≡ ltb limit (length acts)
+  pub exhausted : r .exhausted ≡ ltb limit (length acts)
   pub bytes : after ≡ runBytes I table (take limit acts)

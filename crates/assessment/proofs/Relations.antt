@@ -83,21 +83,21 @@ module _ (I : Instance) (before relied : List ℕ) (h : RelianceRows I before re
       suspect : stable (closure (bits relied) (I .n)) (I .n) ≡ false
       suspect = ap (λ C. stable C (I .n)) same-closure ∙ s
 
-      pub cycle-asked : (ring : List ℕ) → I .n ≤ 64 → I .n ≤ length ring → CycleAsked (bits relied) (bits closed) (I .n) ring
-      cycle-asked ring small long = record { small = small; long = long; closed = c; suspect = suspect }
+      pub cycle-asked : (shown : List ℕ) → I .n ≤ 64 → I .n ≤ length shown → CycleAsked (bits relied) (bits closed) (I .n) shown
+      cycle-asked shown small long = record { small = small; long = long; closed = c; suspect = suspect }
 
       cycle-is : cycle (bits relied) (I .n) ≡ cycleOf I
       cycle-is = cycle-cong (bits relied) (reliance I) (I .n) related suspect
 
     -- what the buffers hold then is what an assessment leaves
-    module _ (labels labels′ ranks table ring : List ℕ) (r : ℕ) (l : labels′ ≡ tab (label (bits closed)) (I .n) ++ drop (I .n) labels) where
+    module _ (labels labels′ ranks table shown : List ℕ) (r : ℕ) (l : labels′ ≡ tab (label (bits closed)) (I .n) ++ drop (I .n) labels) where
       labelled : labels′ ≡ tab (label (closure (reliance I) (I .n))) (I .n) ++ drop (I .n) labels
       labelled = l ∙ ap (λ t. t ++ drop (I .n) labels) labels-are
 
       pub stable-assessed : (ranks′ table′ : List ℕ) → isStable I ≡ true → r ≡ highestRank (bits relied) (I .n)
           → ranks′ ≡ tab (rank (bits relied) (I .n)) (I .n) ++ drop (I .n) ranks
           → table′ ≡ tableBytes (settledTable I r) ++ drop (2 * I .n) table
-          → Assessed I (Stable r) labels labels′ ranks ranks′ table table′ ring ring
+          → Assessed I (Stable r) labels labels′ ranks ranks′ table table′ shown shown
       stable-assessed ranks′ table′ s e k t =
           record {
             verdict = rw s (ap Stable (e ∙ highest-same));
@@ -107,14 +107,14 @@ module _ (I : Instance) (before relied : List ℕ) (h : RelianceRows I before re
             cycled = rw s refl;
           }
 
-      pub suspect-assessed : (ring′ : List ℕ) → isStable I ≡ false → r ≡ length (cycle (bits relied) (I .n)) → ring′ ≡ cycle (bits relied) (I .n) ++ drop r ring
-          → Assessed I (Suspect r) labels labels′ ranks ranks table table ring ring′
-      suspect-assessed ring′ s e k =
+      pub suspect-assessed : (shown′ : List ℕ) → isStable I ≡ false → r ≡ length (cycle (bits relied) (I .n)) → shown′ ≡ cycle (bits relied) (I .n) ++ drop r shown
+          → Assessed I (Suspect r) labels labels′ ranks ranks table table shown shown′
+      suspect-assessed shown′ s e k =
           let q : r ≡ length (cycleOf I) = e ∙ ap length (cycle-is s) in
           record {
             verdict = rw s (ap Suspect q);
             labelled = labelled;
             ranked = rw s refl;
             settled = rw s refl;
-            cycled = rw s (k ∙ ap₂ (λ m d. m ++ drop d ring) (cycle-is s) q);
+            cycled = rw s (k ∙ ap₂ (λ m d. m ++ drop d shown) (cycle-is s) q);
           }

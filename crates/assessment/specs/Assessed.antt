@@ -33,7 +33,7 @@ abbrev pub cycleOf : Instance → List ℕ
 cycleOf I = cycle (reliance I) (I .n)
 
 -- the answer r, and each buffer at entry and at exit
-pub record Assessed (I : Instance) (r : Assessment) (labels labels′ ranks ranks′ table table′ ring ring′ : List ℕ) : Type 0 where
+pub record Assessed (I : Instance) (r : Assessment) (labels labels′ ranks ranks′ table table′ shown shown′ : List ℕ) : Type 0 where
   -- "Stable returns the highest rank .. suspect returns the ring's length"
   pub verdict : r ≡ cond (isStable I) (Stable (highestOf I)) (Suspect (length (cycleOf I)))
   -- "Labels are written with either verdict."
@@ -41,4 +41,4 @@ pub record Assessed (I : Instance) (r : Assessment) (labels labels′ ranks rank
   -- "Stable .. writes ranks and table; suspect .. writes that many ring bytes. Other bytes are untouched."
   pub ranked : ranks′ ≡ cond (isStable I) (tab (rank (reliance I) (I .n)) (I .n) ++ drop (I .n) ranks) ranks
   pub settled : table′ ≡ cond (isStable I) (tableBytes (settledTable I (highestOf I)) ++ drop (2 * I .n) table) table
-  pub cycled : ring′ ≡ cond (isStable I) ring (cycleOf I ++ drop (length (cycleOf I)) ring)
+  pub cycled : shown′ ≡ cond (isStable I) shown (cycleOf I ++ drop (length (cycleOf I)) shown)

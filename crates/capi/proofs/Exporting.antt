@@ -95,17 +95,17 @@ verdictRefuses (verdicts.Refused number) = 1
 verdictRefuses (verdicts.Stable highest) = 0
 verdictRefuses (verdicts.Suspect count) = 0
 
-module _ (plan : List ℕ) (k : ℕ) (r : VerdictAnswer) (labels labels′ ranks ranks′ table table′ ring ring′ : List ℕ) (call : VerdictCall plan k r labels labels′ ranks ranks′ table table′ ring ring′) (stable size : ℕ) where
+module _ (plan : List ℕ) (k : ℕ) (r : VerdictAnswer) (labels labels′ ranks ranks′ table table′ shown shown′ : List ℕ) (call : VerdictCall plan k r labels labels′ ranks ranks′ table table′ shown shown′) (stable size : ℕ) where
   verdict-answers : verdictRefuses (verdictOf plan k) ≡ 0
   unfolding verdictOf
   verdict-answers = cond-answers verdictRefuses (isStable plan k) _ _ refl refl
 
-  refusal-not-0 : verdictRefuses r ≡ 1 → verdictRefusal plan k labels ranks table ring ≡ 0 → ⊥
+  refusal-not-0 : verdictRefuses r ≡ 1 → verdictRefusal plan k labels ranks table shown ≡ 0 → ⊥
   unfolding verdictAnswer
   refusal-not-0 says = refused-by verdictRefuses _ r _ _ (call .answer) says verdict-answers
 
   pub verdict-refused : (number : ℕ) → r ≡ verdicts.Refused number
-      → VerdictExport plan k number labels labels′ ranks ranks′ table table′ ring ring′ stable stable size size
+      → VerdictExport plan k number labels labels′ ranks ranks′ table table′ shown shown′ stable stable size size
   verdict-refused number is =
       let n = refusal-not-0 (ap verdictRefuses is) in
       record {
@@ -119,9 +119,9 @@ module _ (plan : List ℕ) (k : ℕ) (r : VerdictAnswer) (labels labels′ ranks
       }
 
   pub verdict-given : (judged : Bool) (size′ : ℕ) → verdictNumber r ≡ 0 → verdictIsStable r ≡ judged → verdictSize r ≡ size′
-      → VerdictExport plan k 0 labels labels′ ranks ranks′ table table′ ring ring′ stable (flag judged) size size′
+      → VerdictExport plan k 0 labels labels′ ranks ranks′ table table′ shown shown′ stable (flag judged) size size′
   verdict-given judged size′ zero is long =
-      let n : verdictRefusal plan k labels ranks table ring ≡ 0 = sym (call .numbered) ∙ zero in
+      let n : verdictRefusal plan k labels ranks table shown ≡ 0 = sym (call .numbered) ∙ zero in
       record {
         numbered = sym n;
         labelled = call .labelled;
@@ -143,7 +143,7 @@ module _ (plan : List ℕ) (k : ℕ) (acts : List ℕ) (limit : ℕ) (table : Li
         bytes = call .bytes;
         acted = sym (when-refused _ _ _ n);
         whole = sym (when-refused _ _ _ n);
-        spent = sym (when-refused _ _ _ n);
+        exhausted = sym (when-refused _ _ _ n);
       }
 
   pub run-given : r .refused ≡ 0
@@ -155,5 +155,5 @@ module _ (plan : List ℕ) (k : ℕ) (acts : List ℕ) (limit : ℕ) (table : Li
         bytes = call .bytes;
         acted = call .applied ∙ sym (when-given _ _ _ n);
         whole = call .whole ∙ sym (when-given _ _ _ n);
-        spent = ap flag (call .spent) ∙ sym (when-given _ _ _ n);
+        exhausted = ap flag (call .exhausted) ∙ sym (when-given _ _ _ n);
       }

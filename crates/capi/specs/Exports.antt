@@ -30,18 +30,18 @@ pub record ReliesExport (plan : List ℕ) (k w v r relied relied′ : ℕ) : Typ
   pub answered : relied′ ≡ unlessRefused (reliesRefusal plan k w v) relied (flag (relies (instanceOf plan k) w v))
 
 -- rrp_verdict: stable 1 or 0; the size is the highest rank if stable, else the ring's length. `number` is the call's refusal.
-pub record VerdictWritten (number : ℕ) (plan : List ℕ) (k r : ℕ) (labels labels′ ranks ranks′ table table′ ring ring′ : List ℕ) (stable stable′ size size′ : ℕ) : Type 0 where
+pub record VerdictWritten (number : ℕ) (plan : List ℕ) (k r : ℕ) (labels labels′ ranks ranks′ table table′ shown shown′ : List ℕ) (stable stable′ size size′ : ℕ) : Type 0 where
   pub numbered : r ≡ number
   pub labelled : labels′ ≡ labelsAfter number plan k labels
   pub ranked : ranks′ ≡ ranksAfter number plan k ranks
   pub settled : table′ ≡ tableAfter number plan k table
-  pub cycled : ring′ ≡ cycleAfter number plan k ring
+  pub cycled : shown′ ≡ cycleAfter number plan k shown
   pub judged : stable′ ≡ unlessRefused number stable (flag (isStable plan k))
   pub sized : size′ ≡ unlessRefused number size (sizeOf plan k)
 
 abbrev pub VerdictExport : List ℕ → ℕ → ℕ → List ℕ → List ℕ → List ℕ → List ℕ → List ℕ → List ℕ → List ℕ → List ℕ → ℕ → ℕ → ℕ → ℕ → Type 0
-VerdictExport plan k r labels labels′ ranks ranks′ table table′ ring ring′ =
-    VerdictWritten (verdictRefusal plan k labels ranks table ring) plan k r labels labels′ ranks ranks′ table table′ ring ring′
+VerdictExport plan k r labels labels′ ranks ranks′ table table′ shown shown′ =
+    VerdictWritten (verdictRefusal plan k labels ranks table shown) plan k r labels labels′ ranks ranks′ table table′ shown shown′
 
 -- rrp_run: the acts applied, the whole rounds in them, and 1 if the sequence is longer than the limit, else 0. `number` is the call's refusal.
 pub record RunWritten (number : ℕ) (plan : List ℕ) (k : ℕ) (acts : List ℕ) (limit r : ℕ) (table table′ : List ℕ) (applied applied′ rounds rounds′ exhausted exhausted′ : ℕ) : Type 0 where
@@ -49,7 +49,7 @@ pub record RunWritten (number : ℕ) (plan : List ℕ) (k : ℕ) (acts : List �
   pub bytes : table′ ≡ runTable plan k acts limit table
   pub acted : applied′ ≡ unlessRefused number applied (runApplied number acts limit)
   pub whole : rounds′ ≡ unlessRefused number rounds (runRounds number plan acts limit)
-  pub spent : exhausted′ ≡ unlessRefused number exhausted (flag (runExhausted number acts limit))
+  pub exhausted : exhausted′ ≡ unlessRefused number exhausted (flag (runExhausted number acts limit))
 
 abbrev pub RunExport : List ℕ → ℕ → List ℕ → ℕ → ℕ → List ℕ → List ℕ → ℕ → ℕ → ℕ → ℕ → ℕ → ℕ → Type 0
 RunExport plan k acts limit r table = RunWritten (runRefusal plan k acts table) plan k acts limit r table

@@ -31,30 +31,30 @@ cond-itself : (b : Bool) → cond b true false ≡ b
 cond-itself true = refl
 cond-itself false = refl
 
-module _ (plan : List ℕ) (k : ℕ) (labels ranks table ring : List ℕ) where
+module _ (plan : List ℕ) (k : ℕ) (labels ranks table shown : List ℕ) where
   pub record VerdictAsked : Type 0 where
     pub planOk : planRefusal plan ≡ 0
     pub list : k < listCount plan
     pub labelsLong : routerCount plan ≤ length labels
     pub ranksLong : routerCount plan ≤ length ranks
     pub tableLong : 2 * routerCount plan ≤ length table
-    pub cycleLong : routerCount plan ≤ length ring
+    pub cycleLong : routerCount plan ≤ length shown
 
-  pub verdict-asked : verdictRefusal plan k labels ranks table ring ≡ 0 → VerdictAsked
+  pub verdict-asked : verdictRefusal plan k labels ranks table shown ≡ 0 → VerdictAsked
   unfolding verdictRefusal
   verdict-asked h =
       let g = granted plan _ _ h in
       let l : k < listCount plan = simp facts at (g .callOk) in
       let n = routerCount plan in
-      let q : (((n ≤ length labels) × (n ≤ length ranks)) × (2 * n ≤ length table)) × (n ≤ length ring)
+      let q : (((n ≤ length labels) × (n ≤ length ranks)) × (2 * n ≤ length table)) × (n ≤ length shown)
       = simp facts at (refuse-passed _ 8 0 (g .restOk) .0) in
       record { planOk = g .planOk; list = l; labelsLong = q .0 .0 .0; ranksLong = q .0 .0 .1; tableLong = q .0 .1; cycleLong = q .1 }
 
-  pub verdict-refused : (number : ℕ) → number ≡ verdictRefusal plan k labels ranks table ring → (number ≡ 0 → ⊥)
-      → VerdictCall plan k (answers.Refused number) labels labels ranks ranks table table ring ring
+  pub verdict-refused : (number : ℕ) → number ≡ verdictRefusal plan k labels ranks table shown → (number ≡ 0 → ⊥)
+      → VerdictCall plan k (answers.Refused number) labels labels ranks ranks table table shown shown
   unfolding verdictAnswer labelsAfter ranksAfter tableAfter cycleAfter
   verdict-refused number same h =
-      let n : verdictRefusal plan k labels ranks table ring ≡ 0 → ⊥ = λ z. h (same ∙ z) in
+      let n : verdictRefusal plan k labels ranks table shown ≡ 0 → ⊥ = λ z. h (same ∙ z) in
       record {
         answer = ap answers.Refused same ∙ sym (when-refused _ _ _ n);
         numbered = same;
@@ -66,11 +66,11 @@ module _ (plan : List ℕ) (k : ℕ) (labels ranks table ring : List ℕ) where
         cycled = sym (when-refused _ _ _ n);
       }
 
-  pub verdict-given : (a : Assessment) (labels′ ranks′ table′ ring′ : List ℕ) → verdictRefusal plan k labels ranks table ring ≡ 0
-      → Assessed (instanceOf plan k) a labels labels′ ranks ranks′ table table′ ring ring′
-      → VerdictCall plan k (answerOf a) labels labels′ ranks ranks′ table table′ ring ring′
+  pub verdict-given : (a : Assessment) (labels′ ranks′ table′ shown′ : List ℕ) → verdictRefusal plan k labels ranks table shown ≡ 0
+      → Assessed (instanceOf plan k) a labels labels′ ranks ranks′ table table′ shown shown′
+      → VerdictCall plan k (answerOf a) labels labels′ ranks ranks′ table table′ shown shown′
   unfolding verdictAnswer verdictOf sizeOf isStable labelsOf ranksOf highestOf settledBytes cycleOf labelsAfter ranksAfter tableAfter cycleAfter
-  verdict-given a labels′ ranks′ table′ ring′ given f =
+  verdict-given a labels′ ranks′ table′ shown′ given f =
       let s : Bool = isStable plan k in
       let x : Assessment = Stable (highestOf plan k) in
       let y : Assessment = Suspect (length (cycleOf plan k)) in

@@ -52,7 +52,7 @@ module _ (plan : List ℕ) (k : ℕ) (acts : List ℕ) where
           number = q .0 ∙ e;
           applied = q .1 ∙ sym (when-refused _ _ _ n);
           whole = q .2 ∙ sym (when-refused _ _ _ n);
-          spent = q .3 ∙ sym (when-refused _ _ _ n);
+          exhausted = q .3 ∙ sym (when-refused _ _ _ n);
           bytes = sym (when-refused _ _ _ n);
         }
 
@@ -65,6 +65,6 @@ module _ (plan : List ℕ) (k : ℕ) (acts : List ℕ) where
           number = q .0 ∙ sym z;
           applied = q .1 ∙ l .count ∙ sym (when-given _ _ _ z);
           whole = q .2 ∙ l .whole ∙ sym (when-given _ _ _ z);
-          spent = q .3 ∙ l .spent ∙ sym (when-given _ _ _ z);
+          exhausted = q .3 ∙ l .exhausted ∙ sym (when-given _ _ _ z);
           bytes = l .bytes ∙ sym (when-given _ _ _ z);
         }

@@ -45,5 +45,5 @@ pub record Runs (plan : List ℕ) (k : ℕ) (acts : List ℕ) (limit : ℕ) (tab
   pub number : r .refused ≡ runRefusal plan k acts table
   pub applied : r .applied ≡ runApplied (runRefusal plan k acts table) acts limit
   pub whole : r .rounds ≡ runRounds (runRefusal plan k acts table) plan acts limit
-  pub spent : r .exhausted ≡ runExhausted (runRefusal plan k acts table) acts limit
+  pub exhausted : r .exhausted ≡ runExhausted (runRefusal plan k acts table) acts limit
   pub bytes : after ≡ runTable plan k acts limit table

@@ -51,11 +51,11 @@ cycleOf plan k = cycle (reliance plan k) (routerCount plan)
 
 -- "The verdict call needs n bytes for labels, n for ranks, 2n for the settled table, n for the ring."
 unfoldable pub verdictRefusal : List ℕ → ℕ → List ℕ → List ℕ → List ℕ → List ℕ → ℕ
-verdictRefusal plan k labels ranks table ring =
+verdictRefusal plan k labels ranks table shown =
     let n = routerCount plan in
     planChecks plan
     (refuse (ltb k (listCount plan)) 8
-    (refuse (leb n (length labels) && leb n (length ranks) && leb (2 * n) (length table) && leb n (length ring)) 9 0))
+    (refuse (leb n (length labels) && leb n (length ranks) && leb (2 * n) (length table) && leb n (length shown)) 9 0))
 
 -- "Stable returns the highest rank .. suspect returns the ring's length"
 unfoldable pub verdictOf : List ℕ → ℕ → VerdictAnswer
@@ -78,8 +78,8 @@ tableAfter number plan k table =
     unlessRefused number table (cond (isStable plan k) (settledBytes plan k ++ drop (2 * routerCount plan) table) table)
 
 unfoldable pub cycleAfter : ℕ → List ℕ → ℕ → List ℕ → List ℕ
-cycleAfter number plan k ring =
-    unlessRefused number ring (cond (isStable plan k) ring (cycleOf plan k ++ drop (length (cycleOf plan k)) ring))
+cycleAfter number plan k shown =
+    unlessRefused number shown (cond (isStable plan k) shown (cycleOf plan k ++ drop (length (cycleOf plan k)) shown))
 
 -- the paper's refusal number and values for each case of the answer
 abbrev pub verdictNumber : VerdictAnswer → ℕ
@@ -107,7 +107,7 @@ answerOf (assessments.Stable highest) = Stable highest
 answerOf (assessments.Suspect count) = Suspect count
 
 -- the answer r of a call whose refusal is `number`, and each buffer at entry and at exit
-pub record VerdictGiven (number : ℕ) (plan : List ℕ) (k : ℕ) (r : VerdictAnswer) (labels labels′ ranks ranks′ table table′ ring ring′ : List ℕ) : Type 0 where
+pub record VerdictGiven (number : ℕ) (plan : List ℕ) (k : ℕ) (r : VerdictAnswer) (labels labels′ ranks ranks′ table table′ shown shown′ : List ℕ) : Type 0 where
   pub answer : r ≡ verdictAnswer number plan k
   pub numbered : verdictNumber r ≡ number
   pub stable : verdictIsStable r ≡ flagField number (isStable plan k)
@@ -115,9 +115,9 @@ pub record VerdictGiven (number : ℕ) (plan : List ℕ) (k : ℕ) (r : VerdictA
   pub labelled : labels′ ≡ labelsAfter number plan k labels
   pub ranked : ranks′ ≡ ranksAfter number plan k ranks
   pub settled : table′ ≡ tableAfter number plan k table
-  pub cycled : ring′ ≡ cycleAfter number plan k ring
+  pub cycled : shown′ ≡ cycleAfter number plan k shown
 
 -- the same of any call
 abbrev pub VerdictCall : List ℕ → ℕ → VerdictAnswer → List ℕ → List ℕ → List ℕ → List ℕ → List ℕ → List ℕ → List ℕ → List ℕ → Type 0
-VerdictCall plan k r labels labels′ ranks ranks′ table table′ ring ring′ =
-    VerdictGiven (verdictRefusal plan k labels ranks table ring) plan k r labels labels′ ranks ranks′ table table′ ring ring′
+VerdictCall plan k r labels labels′ ranks ranks′ table table′ shown shown′ =
+    VerdictGiven (verdictRefusal plan k labels ranks table shown) plan k r labels labels′ ranks ranks′ table table′ shown shown′

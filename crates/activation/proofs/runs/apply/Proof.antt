@@ -44,7 +44,7 @@ returns c =
     record {
       count = omega arith;
       whole = ran-rounds _ _ _ _ _ _ r (entry d .pre .4) ∙ ap (λ k. rounds (a .net .n) (take k (a .sequence .now))) e;
-      spent = sym (lt-ltb (a .limit) (length (a .sequence .now)) (omega arith));
+      exhausted = sym (lt-ltb (a .limit) (length (a .sequence .now)) (omega arith));
       bytes = r .bytes ∙ ap (λ k. runBytes (network d) (a .table .now) (take k (a .sequence .now))) e;
     }
 
@@ -88,7 +88,7 @@ returns-2 c =
     record {
       count = omega (arith, r .upto);
       whole = ran-rounds _ _ _ _ _ _ r (entry d .pre .4) ∙ ap (rounds (a .net .n)) e;
-      spent = sym (le-ltb (a .limit) (length (a .sequence .now)) m);
+      exhausted = sym (le-ltb (a .limit) (length (a .sequence .now)) m);
       bytes = r .bytes ∙ ap (runBytes (network d) (a .table .now)) e;
     }
 
