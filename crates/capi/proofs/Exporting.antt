@@ -143,7 +143,7 @@ module _ (plan : List ℕ) (k : ℕ) (acts : List ℕ) (limit : ℕ) (table : Li
         bytes = call .bytes;
         acted = sym (when-refused _ _ _ n);
         whole = sym (when-refused _ _ _ n);
-        exhausted = sym (when-refused _ _ _ n);
+        cut = sym (when-refused _ _ _ n);
       }
 
   pub run-given : r .refused ≡ 0
@@ -155,5 +155,5 @@ module _ (plan : List ℕ) (k : ℕ) (acts : List ℕ) (limit : ℕ) (table : Li
         bytes = call .bytes;
         acted = call .applied ∙ sym (when-given _ _ _ n);
         whole = call .whole ∙ sym (when-given _ _ _ n);
-        exhausted = ap flag (call .exhausted) ∙ sym (when-given _ _ _ n);
+        cut = ap flag (call .exhausted) ∙ sym (when-given _ _ _ n);
       }

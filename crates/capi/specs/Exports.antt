@@ -49,7 +49,7 @@ pub record RunWritten (number : ℕ) (plan : List ℕ) (k : ℕ) (acts : List �
   pub bytes : table′ ≡ runTable plan k acts limit table
   pub acted : applied′ ≡ unlessRefused number applied (runApplied number acts limit)
   pub whole : rounds′ ≡ unlessRefused number rounds (runRounds number plan acts limit)
-  pub exhausted : exhausted′ ≡ unlessRefused number exhausted (flag (runExhausted number acts limit))
+  pub cut : exhausted′ ≡ unlessRefused number exhausted (flag (runExhausted number acts limit))
 
 abbrev pub RunExport : List ℕ → ℕ → List ℕ → ℕ → ℕ → List ℕ → List ℕ → ℕ → ℕ → ℕ → ℕ → ℕ → ℕ → Type 0
 RunExport plan k acts limit r table = RunWritten (runRefusal plan k acts table) plan k acts limit r table
