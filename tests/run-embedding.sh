@@ -36,6 +36,27 @@ refuses_cut_plan() {
     [ "$("$out/verdicts" "$out/cut.plan")" = "refused 1" ]
 }
 
+# The verdict program refuses a plan cut short, no input at all, and an input longer than any plan.
+verdict_refuses() {
+    [ "$(target/bin/verdict <"$out/cut.plan")" = "refused 1" ] &&
+        [ "$(target/bin/verdict </dev/null)" = "refused 1" ] &&
+        [ "$(cat examples/m3.plan <(head -c 17000 /dev/zero) | target/bin/verdict)" = "refused 1" ]
+}
+
+# It prints for each random plan what the second checker expects.
+verdict_agrees() {
+    rm -rf "$out/plans"
+    mkdir -p "$out/plans"
+    second write "$out/plans" --seed "$seed" --plans 300 >/dev/null || return 1
+    local count=0 plan
+    for plan in "$out"/plans/*.plan; do
+        target/bin/verdict <"$plan" | cmp -s - "${plan%.plan}.expected" || { echo "embedding: $plan differs"; return 1; }
+        count=$((count + 1))
+    done
+    echo "embedding: $count plans printed as expected"
+    [ "$count" -gt 0 ]
+}
+
 # `second` with the words given, linked with the library.
 second() {
     RRP_LIB_DIR=$PWD/$archive RRP_LIB_NAME=capi CARGO_TARGET_DIR=$PWD/$out/second \
@@ -49,6 +70,10 @@ try "the C example's verdicts" writes examples/m3.verdicts "$out/verdicts" examp
 try "the C example's refusal" refuses_cut_plan
 try "the second checker alone" second self
 try "the library against the second checker" second --seed "$seed" --plans "$plans"
+
+try "the verdict program" rt check verdict
+try "the verdict program's refusals" verdict_refuses
+try "the verdict program against the second checker" verdict_agrees
 
 echo "embedding: $passed passed, $failed failed"
 [ "$failed" -eq 0 ]
