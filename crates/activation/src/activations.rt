@@ -69,13 +69,13 @@ fn keep(distances: &[u8], n: usize, w: usize, v: usize, told: u8, kept: RouteByt
     if old == 255 {
         return offered;
     }
-    if network::comparison::prefers(distances, n, w, base::wide(told), base::wide(old)) {
-        return offered;
-    }
-    if told != old {
+    if told == old {
+        if base::wide(told) == v {
+            return offered;
+        }
         return kept;
     }
-    if base::wide(told) == v {
+    if network::comparison::prefers(distances, n, w, base::wide(told), base::wide(old)) {
         return offered;
     }
     kept

@@ -9,7 +9,7 @@ mod rules;
 mod verdict;
 
 use crate::checker::{Acts, Checker, ListFields, RunFields, VerdictBuffers, VerdictFields};
-use reader::read;
+use reader::{check, read};
 use verdict::verdict;
 
 const MOST: usize = 64;
@@ -19,15 +19,15 @@ type Matrix = [[bool; MOST]; MOST];
 
 fn run(bytes: &[u8], list: usize, acts: Acts, table: &mut [u8]) -> Result<RunFields, u8> {
     let plan = read(bytes)?;
-    let listed = plan.listed(list)?;
-    if acts.sequence.iter().any(|&router| usize::from(router) >= plan.n) {
+    let listed = plan.bodies.listed(list)?;
+    if acts.sequence.iter().any(|&router| usize::from(router) >= plan.bodies.n) {
         return Err(8);
     }
     plan.check_table(&listed, table)?;
     let length = acts.sequence.len() as u64;
     let applied = length.min(acts.limit);
     let mut acted = [false; MOST];
-    let (mut missing, mut rounds) = (plan.n, 0);
+    let (mut missing, mut rounds) = (plan.bodies.n, 0);
     for &router in &acts.sequence[..applied as usize] {
         let router = usize::from(router);
         plan.activate(&listed, table, router);
@@ -37,7 +37,7 @@ fn run(bytes: &[u8], list: usize, acts: Acts, table: &mut [u8]) -> Result<RunFie
         }
         if missing == 0 {
             acted = [false; MOST];
-            missing = plan.n;
+            missing = plan.bodies.n;
             rounds += 1;
         }
     }
@@ -59,17 +59,17 @@ pub struct Plain;
 
 impl Checker for Plain {
     fn check(&mut self, plan: &[u8]) -> u8 {
-        read(plan).err().unwrap_or(0)
+        check(plan).err().unwrap_or(0)
     }
 
     fn list(&mut self, plan: &[u8], list: usize, fields: &mut ListFields) -> u8 {
-        let found = read(plan).and_then(|plan| plan.list(list));
+        let found = check(plan).and_then(|plan| plan.list(list));
         store(found.map(|(start, count)| ListFields { start: start as u64, count: count as u64 }), fields)
     }
 
     fn compare(&mut self, plan: &[u8], router: usize, pair: (usize, usize), better: &mut u8) -> u8 {
         let compare = || {
-            let plan = read(plan)?;
+            let plan = check(plan)?;
             let (at, e, f) = (plan.router(router)?, plan.router(pair.0)?, plan.router(pair.1)?);
             Ok(if e == f {
                 0
@@ -85,9 +85,10 @@ impl Checker for Plain {
     fn relies(&mut self, plan: &[u8], list: usize, pair: (usize, usize), relies: &mut u8) -> u8 {
         let answer = || {
             let plan = read(plan)?;
-            let listed = plan.listed(list)?;
-            let (u, v) = (plan.router(pair.0)?, plan.router(pair.1)?);
-            Ok(u8::from(plan.relies(&listed, &plan.best_clients(&listed), u, v)))
+            let listed = plan.bodies.listed(list)?;
+            let (u, v) = (plan.bodies.router(pair.0)?, plan.bodies.router(pair.1)?);
+            let [u, v] = [u, v].map(|r| (r, plan.best_client(&listed, r)));
+            Ok(u8::from(plan.relies(&listed, u, v)))
         };
         store(answer(), relies)
     }
@@ -99,8 +100,8 @@ impl Checker for Plain {
     fn activate(&mut self, plan: &[u8], list: usize, router: usize, table: &mut [u8]) -> u8 {
         let mut act = || {
             let plan = read(plan)?;
-            let listed = plan.listed(list)?;
-            let router = plan.router(router)?;
+            let listed = plan.bodies.listed(list)?;
+            let router = plan.bodies.router(router)?;
             plan.check_table(&listed, table)?;
             plan.activate(&listed, table, router);
             Ok(())

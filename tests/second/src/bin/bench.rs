@@ -5,7 +5,7 @@
 //! checker's time over the plain checker's.
 
 use second_checker::arguments;
-use second_checker::checker::{Acts, Checker, RunFields, VerdictBuffers, VerdictFields};
+use second_checker::checker::{Acts, Checker, ListFields, RunFields, VerdictBuffers, VerdictFields};
 use second_checker::generate::{self, Draft};
 use second_checker::plain::Plain;
 use second_checker::plan::{self, LONGEST_PLAN};
@@ -100,6 +100,24 @@ fn verdict(checker: &mut dyn Checker, plan: &[u8]) {
     black_box((labels, ranks, table, cycle, fields.size));
 }
 
+fn list(checker: &mut dyn Checker, plan: &[u8]) {
+    let mut fields = ListFields { start: 0, count: 0 };
+    assert_eq!(checker.list(black_box(plan), 0, &mut fields), 0);
+    black_box((fields.start, fields.count));
+}
+
+fn compare(checker: &mut dyn Checker, plan: &[u8], n: usize) {
+    let mut better = 0;
+    assert_eq!(checker.compare(black_box(plan), 0, (1, n - 1), &mut better), 0);
+    black_box(better);
+}
+
+fn relies(checker: &mut dyn Checker, plan: &[u8]) {
+    let mut relies = 0;
+    assert_eq!(checker.relies(black_box(plan), 0, (0, 1), &mut relies), 0);
+    black_box(relies);
+}
+
 fn run(checker: &mut dyn Checker, plan: &[u8], sequence: &[u8], table: &mut [u8]) -> u64 {
     let mut fields = RunFields { applied: 0, rounds: 0, exhausted: 0 };
     let acts = Acts { sequence: black_box(sequence), limit: u64::MAX };
@@ -123,6 +141,9 @@ fn time_calls(random: &mut Random) {
             line(&format!("check, {kind}, n = {n}"), true, |checker| {
                 assert_eq!(checker.check(black_box(plan)), 0);
             });
+            line(&format!("list, {kind}, n = {n}"), true, |checker| list(checker, plan));
+            line(&format!("compare, {kind}, n = {n}"), true, |checker| compare(checker, plan, n));
+            line(&format!("relies, {kind}, n = {n}"), true, |checker| relies(checker, plan));
             line(&format!("verdict, {kind}, n = {n}"), true, |checker| verdict(checker, plan));
             let table = start_table(random, plan);
             line(&format!("activation, {kind}, n = {n}"), true, |checker| {

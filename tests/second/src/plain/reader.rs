@@ -4,21 +4,28 @@ use super::{Matrix, MOST};
 
 const REFLECTOR: u8 = 1;
 
-/// A plan found sound: its size, roles, neighbours and the bytes of the rest.
-pub struct PlanView<'a> {
+/// The bodies of a plan found sound.
+pub struct Bodies<'a> {
     pub n: usize,
-    pub reflector: [bool; MOST],
-    pub neighbour: Matrix,
+    routers: &'a [u8],
     pub distances: &'a [u8],
     pub lists: &'a [u8],
     pub lists_at: usize,
+}
+
+/// .. with its roles and neighbours in arrays.
+pub struct PlanView<'a> {
+    pub bodies: Bodies<'a>,
+    pub reflector: [bool; MOST],
+    pub neighbour: Matrix,
 }
 
 pub fn word(bytes: &[u8], at: usize) -> usize {
     usize::from(bytes[at]) | usize::from(bytes[at + 1]) << 8
 }
 
-pub fn read(plan: &[u8]) -> Result<PlanView<'_>, u8> {
+/// Checks a plan, and hands each session to `meet` as it is read.
+fn sound(plan: &[u8], meet: impl FnMut(usize, usize)) -> Result<Bodies<'_>, u8> {
     if plan.len() < 26 || plan.len() > 16_731 || &plan[..4] != b"RRP1" || plan[5] != 4 {
         return Err(1);
     }
@@ -27,13 +34,31 @@ pub fn read(plan: &[u8]) -> Result<PlanView<'_>, u8> {
         return Err(2);
     }
     let starts = read_contents(plan, n)?;
-    let reflector = read_routers(&plan[starts[0]..starts[1]], n)?;
-    let neighbour = read_sessions(&plan[starts[1]..starts[2]], n)?;
+    let routers = &plan[starts[0]..starts[1]];
+    check_routers(routers, n)?;
+    read_sessions(&plan[starts[1]..starts[2]], n, meet)?;
     let distances = &plan[starts[2]..starts[3]];
     check_distances(distances, n)?;
     let lists = &plan[starts[3]..];
     check_lists(lists, n)?;
-    Ok(PlanView { n, reflector, neighbour, distances, lists, lists_at: starts[3] })
+    Ok(Bodies { n, routers, distances, lists, lists_at: starts[3] })
+}
+
+pub fn check(plan: &[u8]) -> Result<Bodies<'_>, u8> {
+    sound(plan, |_, _| ())
+}
+
+pub fn read(plan: &[u8]) -> Result<PlanView<'_>, u8> {
+    let mut neighbour = [[false; MOST]; MOST];
+    let bodies = sound(plan, |u, v| {
+        neighbour[u][v] = true;
+        neighbour[v][u] = true;
+    })?;
+    let mut reflector = [false; MOST];
+    for u in 0..bodies.n {
+        reflector[u] = bodies.routers[5 * u] == REFLECTOR;
+    }
+    Ok(PlanView { bodies, reflector, neighbour })
 }
 
 fn read_contents(plan: &[u8], n: usize) -> Result<[usize; 4], u8> {
@@ -55,8 +80,7 @@ fn read_contents(plan: &[u8], n: usize) -> Result<[usize; 4], u8> {
     Ok(starts)
 }
 
-fn read_routers(body: &[u8], n: usize) -> Result<[bool; MOST], u8> {
-    let mut reflector = [false; MOST];
+fn check_routers(body: &[u8], n: usize) -> Result<(), u8> {
     let mut last = None;
     for u in 0..n {
         let entry = &body[5 * u..5 * u + 5];
@@ -64,25 +88,22 @@ fn read_routers(body: &[u8], n: usize) -> Result<[bool; MOST], u8> {
         if entry[0] == 0 || entry[0] > 2 || last.is_some_and(|last| identifier <= last) {
             return Err(4);
         }
-        reflector[u] = entry[0] == REFLECTOR;
         last = Some(identifier);
     }
-    Ok(reflector)
+    Ok(())
 }
 
-fn read_sessions(body: &[u8], n: usize) -> Result<Matrix, u8> {
-    let mut neighbour = [[false; MOST]; MOST];
+fn read_sessions(body: &[u8], n: usize, mut meet: impl FnMut(usize, usize)) -> Result<(), u8> {
     let mut last = None;
     for pair in body.chunks_exact(2) {
         let (u, v) = (usize::from(pair[0]), usize::from(pair[1]));
         if v >= n || u >= v || last.is_some_and(|last| (u, v) <= last) {
             return Err(5);
         }
-        neighbour[u][v] = true;
-        neighbour[v][u] = true;
+        meet(u, v);
         last = Some((u, v));
     }
-    Ok(neighbour)
+    Ok(())
 }
 
 fn check_distances(body: &[u8], n: usize) -> Result<(), u8> {

@@ -1,9 +1,9 @@
 //! Choosing, announcing and reliance in array code.
 
-use super::reader::{word, PlanView};
+use super::reader::{word, Bodies, PlanView};
 use super::{MOST, NOTHING};
 
-impl PlanView<'_> {
+impl Bodies<'_> {
     fn distance(&self, u: usize, e: usize) -> usize {
         word(self.distances, 2 * (u * self.n + e))
     }
@@ -42,11 +42,17 @@ impl PlanView<'_> {
             Err(8)
         }
     }
+}
 
+impl PlanView<'_> {
     pub fn best_client(&self, listed: &[bool; MOST], r: usize) -> Option<usize> {
         let mut best = None;
-        for c in 0..self.n {
-            if self.neighbour[r][c] && !self.reflector[c] && listed[c] && best.is_none_or(|b| self.better(r, c, b)) {
+        for c in 0..self.bodies.n {
+            if self.neighbour[r][c]
+                && !self.reflector[c]
+                && listed[c]
+                && best.is_none_or(|b| self.bodies.better(r, c, b))
+            {
                 best = Some(c);
             }
         }
@@ -55,7 +61,7 @@ impl PlanView<'_> {
 
     pub fn best_clients(&self, listed: &[bool; MOST]) -> [Option<usize>; MOST] {
         let mut best = [None; MOST];
-        for r in 0..self.n {
+        for r in 0..self.bodies.n {
             if self.reflector[r] {
                 best[r] = self.best_client(listed, r);
             }
@@ -63,7 +69,9 @@ impl PlanView<'_> {
         best
     }
 
-    pub fn relies(&self, listed: &[bool; MOST], best: &[Option<usize>; MOST], u: usize, v: usize) -> bool {
+    /// Whether u relies on v, each given with its best listed client.
+    pub fn relies(&self, listed: &[bool; MOST], u: (usize, Option<usize>), v: (usize, Option<usize>)) -> bool {
+        let ((u, own), (v, other)) = (u, v);
         if listed[u] || !self.neighbour[u][v] {
             return false;
         }
@@ -71,28 +79,28 @@ impl PlanView<'_> {
             return self.reflector[v] || listed[v];
         }
         if !self.reflector[v] {
-            return best[u] == Some(v);
+            return own == Some(v);
         }
-        let offer = if listed[v] { Some(v) } else { best[v] };
-        match (offer, best[u]) {
-            (Some(offer), Some(own)) => self.better(u, offer, own),
+        let offer = if listed[v] { Some(v) } else { other };
+        match (offer, own) {
+            (Some(offer), Some(own)) => self.bodies.better(u, offer, own),
             (offer, None) => offer.is_some(),
             (None, _) => false,
         }
     }
 
     pub fn check_table(&self, listed: &[bool; MOST], table: &[u8]) -> Result<(), u8> {
-        if table.len() < 2 * self.n {
+        if table.len() < 2 * self.bodies.n {
             return Err(9);
         }
-        for u in 0..self.n {
+        for u in 0..self.bodies.n {
             let (egress, sender) = (usize::from(table[2 * u]), usize::from(table[2 * u + 1]));
             let sound = if listed[u] {
                 egress == u && sender == u
             } else if egress == 255 && sender == 255 {
                 true
             } else {
-                egress < self.n && sender < self.n && self.neighbour[u][sender]
+                egress < self.bodies.n && sender < self.bodies.n && self.neighbour[u][sender]
             };
             if !sound {
                 return Err(10);
@@ -106,7 +114,7 @@ impl PlanView<'_> {
             return;
         }
         let mut best: Option<(usize, usize)> = None;
-        for v in 0..self.n {
+        for v in 0..self.bodies.n {
             if !self.neighbour[w][v] {
                 continue;
             }
@@ -114,7 +122,7 @@ impl PlanView<'_> {
             let takes = match best {
                 None => true,
                 Some((held, _)) if held == egress => v == egress,
-                Some((held, _)) => self.better(w, egress, held),
+                Some((held, _)) => self.bodies.better(w, egress, held),
             };
             if takes {
                 best = Some((egress, v));

@@ -35,7 +35,7 @@ fn rank(n: usize, relies: &Matrix, ranks: &mut [Option<u8>; MOST], u: usize) -> 
 }
 
 fn write_stable(plan: &PlanView, listed: &[bool; MOST], relies: &Matrix, lent: VerdictBuffers) -> u64 {
-    let n = plan.n;
+    let n = plan.bodies.n;
     let mut known = [None; MOST];
     for u in 0..n {
         lent.ranks[u] = rank(n, relies, &mut known, u);
@@ -71,8 +71,8 @@ fn write_cycle(n: usize, relies: &Matrix, labels: &[u8], first: usize, cycle: &m
 
 pub fn verdict(bytes: &[u8], list: usize, lent: VerdictBuffers) -> Result<VerdictFields, u8> {
     let plan = read(bytes)?;
-    let listed = plan.listed(list)?;
-    let n = plan.n;
+    let listed = plan.bodies.listed(list)?;
+    let n = plan.bodies.n;
     if lent.labels.len() < n || lent.ranks.len() < n || lent.table.len() < 2 * n || lent.cycle.len() < n {
         return Err(9);
     }
@@ -80,7 +80,7 @@ pub fn verdict(bytes: &[u8], list: usize, lent: VerdictBuffers) -> Result<Verdic
     let mut relies = [[false; MOST]; MOST];
     for u in 0..n {
         for v in 0..n {
-            relies[u][v] = plan.relies(&listed, &best, u, v);
+            relies[u][v] = plan.relies(&listed, (u, best[u]), (v, best[v]));
         }
     }
     let reach = closure(n, &relies);
