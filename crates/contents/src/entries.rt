@@ -2,6 +2,7 @@
 
 ghost use mathlib.Core.Path.{_≡_};
 ghost use Prim.Native.Nat.{_+_, _≤_};
+ghost use lib.Dec.{eqb};
 ghost use lib.ListN.{length};
 ghost use Rattle.base.specs.Bytes.{PartOf};
 ghost use Rattle.contents.specs.Contents.{entryAt, contentsOf, end, kindsOk, placesOk, sizesOk, contentsOk};
@@ -55,6 +56,13 @@ fn kinds_ok(table: [Entry; 4]) -> bool
     lists.kind == 4
 }
 
+// Whether a body starts where the one before it ends.
+fn follows(before: Entry, after: Entry) -> bool
+    ensures { λ r. ⌜ r ≡ eqb (after .offset) (end before) ⌝ }
+{
+    after.offset as usize == before.offset as usize + before.size as usize
+}
+
 fn places_ok(table: [Entry; 4], plan_length: usize) -> bool
     ensures { λ r. ⌜ r ≡ placesOk table «plan_length» ⌝ }
 {
@@ -63,15 +71,15 @@ fn places_ok(table: [Entry; 4], plan_length: usize) -> bool
         return false;
     }
     let sessions = table[1];
-    if sessions.offset as usize != routers.offset as usize + routers.size as usize {
+    if !follows(routers, sessions) {
         return false;
     }
     let distances = table[2];
-    if distances.offset as usize != sessions.offset as usize + sessions.size as usize {
+    if !follows(sessions, distances) {
         return false;
     }
     let lists = table[3];
-    if lists.offset as usize != distances.offset as usize + distances.size as usize {
+    if !follows(distances, lists) {
         return false;
     }
     lists.offset as usize + lists.size as usize == plan_length
