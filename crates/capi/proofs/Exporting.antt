@@ -15,11 +15,11 @@ use Rattle.checker.specs.declared.relies.ReliesAnswer.the-variants as relying
 use Rattle.checker.specs.declared.verdict.VerdictAnswer.{VerdictAnswer}
 use Rattle.checker.specs.declared.verdict.VerdictAnswer.the-variants as verdicts
 use Rattle.checker.specs.declared.run.RunAnswer.{RunAnswer}
-use Rattle.checker.specs.EgressList.{egressListRefusal}
-use Rattle.checker.specs.Compare.{compareRefusal, compared, compareNumber, compareBetter, Compares}
-use Rattle.checker.specs.Relies.{reliesRefusal, relied, reliesNumber, reliesFlag, Relied}
-use Rattle.checker.specs.Verdict.{isStable, verdictOf, verdictAnswer, verdictNumber, verdictIsStable, verdictSize, verdictRefusal, VerdictCall}
-use Rattle.checker.specs.Run.{runRefusal, Runs}
+use Rattle.refusals.specs.Refusals.{egressListRefusal, compareRefusal, reliesRefusal, verdictRefusal, runRefusal}
+use Rattle.checker.specs.Compare.{compared, compareNumber, compareBetter, Compares}
+use Rattle.checker.specs.Relies.{relied, reliesNumber, reliesFlag, Relied}
+use Rattle.checker.specs.Verdict.{isStable, verdictOf, verdictAnswer, verdictNumber, verdictIsStable, verdictSize, VerdictCall}
+use Rattle.checker.specs.Run.{Runs}
 use Rattle.checker.proofs.Refused.{when-refused, when-given}
 use Rattle.plan.specs.EgressLists.{SpanOf}
 use Rattle.checker.proofs.ListStretch.{stretch-given}

@@ -7,11 +7,11 @@ use Rattle.base.specs.Seek.{flag}
 use Rattle.routing.specs.Reliance.{relies}
 use Rattle.network.specs.FromPlan.{instanceOf}
 use Rattle.checker.specs.Refused.{unlessRefused}
-use Rattle.checker.specs.EgressList.{egressListRefusal, egressListStart, egressListSize}
-use Rattle.checker.specs.Compare.{compareRefusal, better}
-use Rattle.checker.specs.Relies.{reliesRefusal}
-use Rattle.checker.specs.Verdict.{verdictRefusal, isStable, sizeOf, labelsAfter, ranksAfter, tableAfter, cycleAfter}
-use Rattle.checker.specs.Run.{runRefusal, runApplied, runRounds, runExhausted, runTable}
+use Rattle.refusals.specs.Refusals.{egressListRefusal, compareRefusal, reliesRefusal, verdictRefusal, runRefusal}
+use Rattle.checker.specs.EgressList.{egressListStart, egressListSize}
+use Rattle.checker.specs.Compare.{better}
+use Rattle.checker.specs.Verdict.{isStable, sizeOf, labelsAfter, ranksAfter, tableAfter, cycleAfter}
+use Rattle.checker.specs.Run.{runApplied, runRounds, runExhausted, runTable}
 
 -- rrp_list: where in the plan the numbers of list k start, and how many they are
 pub record ListExport (plan : List ℕ) (k r start start′ count count′ : ℕ) : Type 0 where

@@ -1,34 +1,17 @@
 -- The answers of a comparison, case by case.
-use Prim.Native.Nat.{ℕ, _<_}
+use Prim.Native.Nat.{ℕ}
 use mathlib.Core.Path.{_≡_, refl, _∙_, sym}
-use mathlib.Core.Bool.{Bool, true, false}
+use mathlib.Core.Bool.{true, false}
 use mathlib.Core.List.{List}
 use borrow.Author.Tests.{eq-eqb, ne-eqb}
-use Rattle.base.proofs.Numbers.{facts}
-use Rattle.contents.specs.Header.{routerCount}
-use Rattle.plan.specs.Refusal.{planRefusal}
 use Rattle.routing.specs.Preference.{prefers}
 use Rattle.network.specs.FromPlan.{instanceOf}
-use Rattle.checker.specs.declared.compare.CompareAnswer.{CompareAnswer}
 use Rattle.checker.specs.declared.compare.CompareAnswer.the-variants.{Refused, First, Second, Same}
-use Rattle.checker.specs.Compare.{compareRefusal, compared, better, Compares}
-use Rattle.checker.proofs.Asked.{granted}
+use Rattle.refusals.specs.Refusals.{compareRefusal}
+use Rattle.checker.specs.Compare.{compared, better, Compares}
 use Rattle.checker.proofs.Refused.{when-refused}
 
 module _ (plan : List ℕ) (w e f : ℕ) where
-  pub record CompareAsked : Type 0 where
-    pub planOk : planRefusal plan ≡ 0
-    pub router : w < routerCount plan
-    pub first : e < routerCount plan
-    pub second : f < routerCount plan
-
-  pub compare-asked : compareRefusal plan w e f ≡ 0 → CompareAsked
-  unfolding compareRefusal
-  compare-asked h =
-      let g = granted plan _ _ h in
-      let q : ((w < routerCount plan) × (e < routerCount plan)) × (f < routerCount plan) = simp facts at (g .callOk) in
-      record { planOk = g .planOk; router = q .0 .0; first = q .0 .1; second = q .1 }
-
   pub compares-refused : (number : ℕ) → number ≡ compareRefusal plan w e f → (number ≡ 0 → ⊥) → Compares plan w e f (Refused number)
   compares-refused number same h =
       rw same

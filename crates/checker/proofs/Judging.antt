@@ -1,22 +1,17 @@
 -- The verdict, case by case.
-use Prim.Native.Nat.{ℕ, _*_, _≤_, _<_}
+use Prim.Native.Nat.{ℕ}
 use mathlib.Core.Path.{_≡_, refl, _∙_, sym, ap}
 use mathlib.Core.Bool.{Bool, true, false, cond}
 use mathlib.Core.List.{List}
 use lib.ListN.{length}
-use Rattle.base.proofs.Numbers.{facts}
-use Rattle.contents.specs.Header.{routerCount}
-use Rattle.plan.specs.EgressLists.{listCount}
-use Rattle.plan.specs.Refusal.{planRefusal}
-use Rattle.plan.proofs.Cascade.{refuse-passed}
 use Rattle.network.specs.FromPlan.{instanceOf}
 use Rattle.assessment.specs.declared.Assessment.{Assessment}
 use Rattle.assessment.specs.declared.Assessment.the-variants.{Stable, Suspect}
 use Rattle.assessment.specs.Assessed.{Assessed}
+use Rattle.refusals.specs.Refusals.{verdictRefusal}
 use Rattle.checker.specs.declared.verdict.VerdictAnswer.the-variants as answers
-use Rattle.checker.specs.Verdict.{isStable, labelsOf, ranksOf, highestOf, settledBytes, cycleOf, verdictRefusal, verdictOf, verdictAnswer}
+use Rattle.checker.specs.Verdict.{isStable, labelsOf, ranksOf, highestOf, settledBytes, cycleOf, verdictOf, verdictAnswer}
 use Rattle.checker.specs.Verdict.{labelsAfter, ranksAfter, tableAfter, cycleAfter, verdictNumber, verdictIsStable, verdictSize, sizeOf, answerOf, VerdictCall}
-use Rattle.checker.proofs.Asked.{granted}
 use Rattle.checker.proofs.Refused.{when-refused, when-given}
 
 not-refused : (a : Assessment) → verdictNumber (answerOf a) ≡ 0
@@ -32,24 +27,6 @@ cond-itself true = refl
 cond-itself false = refl
 
 module _ (plan : List ℕ) (k : ℕ) (labels ranks table shown : List ℕ) where
-  pub record VerdictAsked : Type 0 where
-    pub planOk : planRefusal plan ≡ 0
-    pub list : k < listCount plan
-    pub labelsLong : routerCount plan ≤ length labels
-    pub ranksLong : routerCount plan ≤ length ranks
-    pub tableLong : 2 * routerCount plan ≤ length table
-    pub cycleLong : routerCount plan ≤ length shown
-
-  pub verdict-asked : verdictRefusal plan k labels ranks table shown ≡ 0 → VerdictAsked
-  unfolding verdictRefusal
-  verdict-asked h =
-      let g = granted plan _ _ h in
-      let l : k < listCount plan = simp facts at (g .callOk) in
-      let n = routerCount plan in
-      let q : (((n ≤ length labels) × (n ≤ length ranks)) × (2 * n ≤ length table)) × (n ≤ length shown)
-      = simp facts at (refuse-passed _ 8 0 (g .restOk) .0) in
-      record { planOk = g .planOk; list = l; labelsLong = q .0 .0 .0; ranksLong = q .0 .0 .1; tableLong = q .0 .1; cycleLong = q .1 }
-
   pub verdict-refused : (number : ℕ) → number ≡ verdictRefusal plan k labels ranks table shown → (number ≡ 0 → ⊥)
       → VerdictCall plan k (answers.Refused number) labels labels ranks ranks table table shown shown
   unfolding verdictAnswer labelsAfter ranksAfter tableAfter cycleAfter

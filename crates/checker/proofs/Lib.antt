@@ -1,5 +1,4 @@
 pub mod Refused
-pub mod Asked
 pub mod ListStretch
 pub mod Comparing
 pub mod Relying

@@ -1,31 +1,15 @@
--- What the refusal of a list tells, and the stretch of a list that is not refused.
-use Prim.Native.Nat.{ℕ, zero, suc, _<_}
-use native.Mathlib.Omega.{arith}
-use mathlib.Core.Path.{_≡_, refl, _∙_, sym, ap}
+-- The stretch of a list, refused and not.
+use Prim.Native.Nat.{ℕ}
+use mathlib.Core.Path.{_≡_}
 use mathlib.Core.List.{List}
-use borrow.Author.Tests.{ltb-true}
-use lib.Dec.{ltb}
 use denote.Ref.{RefT, now}
-use Rattle.plan.specs.EgressLists.{listCount, listStart, listSize, listNumbers}
-use Rattle.plan.specs.Refusal.{refuse, planChecks, planRefusal}
+use Rattle.plan.specs.EgressLists.{listStart, listSize, listNumbers}
 use Rattle.plan.proofs.Passed.{passed}
 use Rattle.plan.proofs.ListWithin.{numbers-of}
-use Rattle.plan.proofs.Cascade.{plan-passes, plan-of-passed, refuse-passed}
 use Rattle.checker.proofs.Refused.{when-refused, when-given}
-use Rattle.checker.specs.EgressList.{egressListRefusal, egressListStart, egressListSize, StretchOf, HandedBack}
-
-pub record Allowed (plan : List ℕ) (k : ℕ) : Type 0 where
-  pub plan-ok : planRefusal plan ≡ 0
-  pub list-ok : k < listCount plan
-
-pub allowed : (plan : List ℕ) (k : ℕ) → egressListRefusal plan k ≡ 0 → Allowed plan k
-unfolding egressListRefusal
-allowed plan k h =
-    let ok : planRefusal plan ≡ 0 = plan-of-passed plan _ h in
-    record {
-      plan-ok = ok;
-      list-ok = ltb-true _ _ (refuse-passed (ltb k (listCount plan)) 7 0 (sym (plan-passes plan _ ok) ∙ h) .0);
-    }
+use Rattle.refusals.specs.Refusals.{egressListRefusal}
+use Rattle.refusals.proofs.Asked.{list-asked}
+use Rattle.checker.specs.EgressList.{egressListStart, egressListSize, StretchOf, HandedBack}
 
 module _ (plan : List ℕ) (k : ℕ) where
   pub record Stretch (start size : ℕ) : Type 0 where
@@ -44,6 +28,6 @@ module _ (plan : List ℕ) (k : ℕ) where
 pub handed-back : (plan : RefT (List ℕ)) (k : ℕ) (part : RefT (List ℕ)) → StretchOf plan k part → egressListRefusal (now plan) k ≡ 0 → HandedBack (now plan) k (now part)
 handed-back plan k part s h =
     let g = stretch-given (now plan) k h in
-    let a = allowed (now plan) k h in
+    let a = list-asked (now plan) k h in
     let is : now part ≡ listNumbers (now plan) k = rw (g .starts, g .sizes) at (s .bytes) in
-    record { stretch-is = is; numbers = rw is (numbers-of (now plan) (passed (now plan) (a .plan-ok)) k (a .list-ok)) }
+    record { stretch-is = is; numbers = rw is (numbers-of (now plan) (passed (now plan) (a .planOk)) k (a .list)) }

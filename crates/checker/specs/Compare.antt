@@ -2,21 +2,14 @@
 use Prim.Native.Nat.{ℕ}
 use mathlib.Core.List.{List}
 use mathlib.Core.Path.{_≡_}
-use mathlib.Core.Bool.{cond, _&&_}
-use lib.Dec.{ltb, eqb}
-use Rattle.contents.specs.Header.{routerCount}
-use Rattle.plan.specs.Refusal.{refuse, planChecks}
+use mathlib.Core.Bool.{cond}
+use lib.Dec.{eqb}
 use Rattle.routing.specs.Preference.{prefers}
 use Rattle.network.specs.FromPlan.{instanceOf}
+use Rattle.refusals.specs.Refusals.{compareRefusal}
 use Rattle.checker.specs.declared.compare.CompareAnswer.{CompareAnswer}
 use Rattle.checker.specs.declared.compare.CompareAnswer.the-variants.{Refused, First, Second, Same}
 use Rattle.checker.specs.Refused.{unlessRefused, field}
-
--- row 8: "a router asked for .. is n or more"; "Each router number handed over in these is a router asked for."
-unfoldable pub compareRefusal : List ℕ → ℕ → ℕ → ℕ → ℕ
-compareRefusal plan w e f =
-    let n = routerCount plan in
-    planChecks plan (refuse (ltb w n && ltb e n && ltb f n) 8 0)
 
 -- "the first is better, the second, or neither if they are the same": 1, 2, 0. A comparison reads only distances, which every list shares.
 unfoldable pub better : List ℕ → ℕ → ℕ → ℕ → ℕ

@@ -3,16 +3,11 @@
 use Prim.Native.Nat.{ℕ}
 use mathlib.Core.List.{List}
 use mathlib.Core.Path.{_≡_}
-use lib.Dec.{ltb}
 use denote.Ref.{RefT, now}
 use Rattle.base.specs.Bytes.{PartOf}
-use Rattle.plan.specs.EgressLists.{listCount, listStart, listSize, listNumbers, NumbersOf}
-use Rattle.plan.specs.Refusal.{refuse, planChecks}
+use Rattle.plan.specs.EgressLists.{listStart, listSize, listNumbers, NumbersOf}
+use Rattle.refusals.specs.Refusals.{egressListRefusal}
 use Rattle.checker.specs.Refused.{field}
-
--- row 8: "the list asked for is m or more"
-unfoldable pub egressListRefusal : List ℕ → ℕ → ℕ
-egressListRefusal plan k = planChecks plan (refuse (ltb k (listCount plan)) 8 0)
 
 -- where in the plan the stretch starts and how many bytes it has: none, at the plan's start, if refused
 unfoldable pub egressListStart : List ℕ → ℕ → ℕ

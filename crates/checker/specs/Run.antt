@@ -2,27 +2,16 @@
 use Prim.Native.Nat.{ℕ, min}
 use mathlib.Core.List.{List}
 use mathlib.Core.Path.{_≡_}
-use mathlib.Core.Bool.{Bool, _&&_}
+use mathlib.Core.Bool.{Bool}
 use lib.Dec.{ltb}
-use lib.ListN.{length, getD, take}
-use Rattle.base.specs.Below.{allBelow}
+use lib.ListN.{length, take}
 use Rattle.contents.specs.Header.{routerCount}
-use Rattle.plan.specs.EgressLists.{listCount}
-use Rattle.plan.specs.Refusal.{refuse, planChecks}
 use Rattle.routing.specs.Rounds.{rounds}
 use Rattle.network.specs.FromPlan.{instanceOf}
 use Rattle.activation.specs.TableBytes.{runBytes}
+use Rattle.refusals.specs.Refusals.{runRefusal}
 use Rattle.checker.specs.declared.run.RunAnswer.{RunAnswer}
 use Rattle.checker.specs.Refused.{unlessRefused, field, flagField}
-use Rattle.checker.specs.Activate.{tableChecks}
-
--- row 8: "a router .. named in a sequence of acts, is n or more": of the whole sequence, also past the limit
-unfoldable pub sequenceOk : List ℕ → ℕ → Bool
-sequenceOk acts n = allBelow (λ i. ltb (getD acts i 0) n) (length acts)
-
-unfoldable pub runRefusal : List ℕ → ℕ → List ℕ → List ℕ → ℕ
-runRefusal plan k acts table =
-    planChecks plan (refuse (ltb k (listCount plan) && sequenceOk acts (routerCount plan)) 8 (tableChecks plan k table))
 
 -- "It returns the acts applied (the smaller of limit and sequence length), the whole rounds in them, and 'spent' exactly if the sequence is
 -- longer than the limit." Spent is called exhausted here.

@@ -2,14 +2,11 @@
 use Prim.Native.Nat.{ℕ, _*_}
 use mathlib.Core.Path.{_≡_}
 use mathlib.Core.List.{List, _++_}
-use mathlib.Core.Bool.{Bool, true, false, cond, _&&_}
-use lib.Dec.{leb, ltb}
+use mathlib.Core.Bool.{Bool, true, false, cond}
 use lib.ListN.{length, drop}
 use Rattle.base.specs.Seek.{flag}
 use Rattle.base.specs.Tab.{tab}
 use Rattle.contents.specs.Header.{routerCount}
-use Rattle.plan.specs.EgressLists.{listCount}
-use Rattle.plan.specs.Refusal.{refuse, planChecks}
 use Rattle.graph.specs.Closure.{Relation, closure}
 use Rattle.graph.specs.Groups.{label, stable}
 use Rattle.graph.specs.Rank.{rank, highestRank}
@@ -18,6 +15,7 @@ use Rattle.routing.specs.Reliance.{relies}
 use Rattle.settling.specs.Settled.{settledTable}
 use Rattle.network.specs.FromPlan.{instanceOf}
 use Rattle.activation.specs.TableBytes.{tableBytes}
+use Rattle.refusals.specs.Refusals.{verdictRefusal}
 use Rattle.checker.specs.declared.verdict.VerdictAnswer.{VerdictAnswer}
 use Rattle.checker.specs.declared.verdict.VerdictAnswer.the-variants.{Refused, Stable, Suspect}
 use Rattle.assessment.specs.declared.Assessment.{Assessment}
@@ -48,14 +46,6 @@ settledBytes plan k = tableBytes (settledTable (instanceOf plan k) (highestOf pl
 -- the paper's ring
 unfoldable pub cycleOf : List ℕ → ℕ → List ℕ
 cycleOf plan k = cycle (reliance plan k) (routerCount plan)
-
--- "The verdict call needs n bytes for labels, n for ranks, 2n for the settled table, n for the ring."
-unfoldable pub verdictRefusal : List ℕ → ℕ → List ℕ → List ℕ → List ℕ → List ℕ → ℕ
-verdictRefusal plan k labels ranks table shown =
-    let n = routerCount plan in
-    planChecks plan
-    (refuse (ltb k (listCount plan)) 8
-    (refuse (leb n (length labels) && leb n (length ranks) && leb (2 * n) (length table) && leb n (length shown)) 9 0))
 
 -- "Stable returns the highest rank .. suspect returns the ring's length"
 unfoldable pub verdictOf : List ℕ → ℕ → VerdictAnswer

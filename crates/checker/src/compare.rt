@@ -1,7 +1,6 @@
 // Two egress routers compared at a router.
 
-ghost use mathlib.Core.Path.{_≡_};
-ghost use Rattle.checker.specs.Compare.{compareRefusal, Compares};
+ghost use Rattle.checker.specs.Compare.{Compares};
 
 // What a comparison says: its refusal number, or which of the two is preferred; the same router twice is neither.
 pub enum CompareAnswer {
@@ -11,31 +10,11 @@ pub enum CompareAnswer {
     Same,
 }
 
-fn compare_refusal(plan: &[u8], router: usize, first: usize, second: usize) -> u8
-    ensures { λ r. ⌜ r ≡ compareRefusal (now (plan .entry)) router first second ⌝ }
-{
-    let refused = plan::refusal::refusal(plan);
-    if refused != 0 {
-        return refused;
-    }
-    let n = plan[4] as usize;
-    if n <= router {
-        return 8;
-    }
-    if n <= first {
-        return 8;
-    }
-    if n <= second {
-        return 8;
-    }
-    0
-}
-
 // Which of two egress routers a router prefers.
 pub fn compare(plan: &[u8], router: usize, first: usize, second: usize) -> CompareAnswer
     ensures { λ r. ⌜ Compares (now (plan .entry)) router first second r ⌝ }
 {
-    let refused = compare_refusal(plan, router, first, second);
+    let refused = refusals::numbers::compare_refusal(plan, router, first, second);
     if refused != 0 {
         return CompareAnswer::Refused(refused);
     }

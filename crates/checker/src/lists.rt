@@ -1,20 +1,14 @@
 // An egress list handed back as a part of the plan itself.
 
 ghost use mathlib.Core.Path.{_≡_};
-ghost use Rattle.checker.specs.EgressList.{egressListRefusal, StretchOf};
+ghost use Rattle.refusals.specs.Refusals.{egressListRefusal};
+ghost use Rattle.checker.specs.EgressList.{StretchOf};
 
 // The number that `egress_list` is refused with, 1 to 8; 0 for none.
 pub fn egress_list_refusal(plan: &[u8], list: usize) -> u8
     ensures { λ r. ⌜ r ≡ egressListRefusal (now (plan .entry)) list ⌝ }
 {
-    let refused = plan::refusal::refusal(plan);
-    if refused != 0 {
-        return refused;
-    }
-    if plan::lists::list_count(plan) <= list {
-        return 8;
-    }
-    0
+    refusals::numbers::list_refusal(plan, list)
 }
 
 // The numbers of a list as that part of the plan itself; empty if refused.

@@ -1,12 +1,8 @@
 // A run: a sequence of activations on the caller's table, at most a given limit of them.
 
 ghost use mathlib.Core.Path.{_≡_};
-ghost use mathlib.Core.Bool.{_&&_, false};
-ghost use lib.Dec.{ltb};
-ghost use Rattle.contents.specs.Header.{routerCount};
-ghost use Rattle.plan.specs.EgressLists.{listCount};
-ghost use Rattle.plan.specs.Refusal.{refuse, planChecks};
-ghost use Rattle.checker.specs.Run.{sequenceOk, Runs};
+ghost use mathlib.Core.Bool.{false};
+ghost use Rattle.checker.specs.Run.{Runs};
 
 // Its refusal number, 0 for none; the acts applied, the whole rounds in them, and whether the sequence is longer than the limit.
 pub struct RunAnswer {
@@ -14,34 +10,6 @@ pub struct RunAnswer {
     pub applied: usize,
     pub rounds: usize,
     pub exhausted: bool,
-}
-
-fn sequence_ok(sequence: &[u8], n: usize) -> bool
-    ensures { λ r. ⌜ r ≡ sequenceOk (now (sequence .entry)) n ⌝ }
-{
-    let mut i = 0;
-    while i < sequence.len() {
-        let router = sequence[i] as usize;
-        if n <= router {
-            return false;
-        }
-        i += 1;
-    }
-    true
-}
-
-// Rows 1 to 8 of a run.
-fn sequence_refusal(plan: &[u8], list: usize, sequence: &[u8]) -> u8
-    ensures { λ r. ⌜ r ≡ planChecks (now (plan .entry)) (refuse (ltb list (listCount (now (plan .entry))) && sequenceOk (now (sequence .entry)) (routerCount (now (plan .entry)))) 8 0) ⌝ }
-{
-    let refused = crate::lists::egress_list_refusal(plan, list);
-    if refused != 0 {
-        return refused;
-    }
-    if !sequence_ok(sequence, plan[4] as usize) {
-        return 8;
-    }
-    0
 }
 
 // The answer of a refused run.
@@ -60,13 +28,13 @@ fn refused_run(number: u8) -> RunAnswer
 pub fn run(plan: &[u8], list: usize, sequence: &[u8], limit: usize, table: &mut [u8]) -> RunAnswer
     ensures { λ r. ⌜ Runs (now (plan .entry)) list (now (sequence .entry)) limit (now (table .entry)) r (now (table .exit)) ⌝ }
 {
-    let asked = sequence_refusal(plan, list, sequence);
+    let asked = refusals::numbers::sequence_refusal(plan, list, sequence);
     if asked != 0 {
         return refused_run(asked);
     }
     let mut rows = [0u64; 64];
     let net = network::decode::decode(plan, list, &mut rows);
-    let refused = crate::activate::table_refusal(net, &rows, table);
+    let refused = refusals::buffers::table_refusal(net, &rows, table);
     if refused != 0 {
         return refused_run(refused);
     }

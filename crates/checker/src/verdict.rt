@@ -2,46 +2,13 @@
 
 use assessment::Assessment;
 ghost use mathlib.Core.Path.{_≡_};
-ghost use Rattle.checker.specs.Verdict.{verdictRefusal, answerOf, VerdictCall};
+ghost use Rattle.checker.specs.Verdict.{answerOf, VerdictCall};
 
 // Its refusal number; or stable, with the highest rank; or suspect, with the cycle's length.
 pub enum VerdictAnswer {
     Refused(u8),
     Stable(usize),
     Suspect(usize),
-}
-
-fn verdict_refusal(
-    plan: &[u8],
-    list: usize,
-    labels: &[u8],
-    ranks: &[u8],
-    table: &[u8],
-    cycle: &[u8],
-) -> u8
-    ensures { λ r. ⌜ r ≡ verdictRefusal (now (plan .entry)) list (now (labels .entry)) (now (ranks .entry)) (now (table .entry)) (now (cycle .entry)) ⌝ }
-{
-    let refused = plan::refusal::refusal(plan);
-    if refused != 0 {
-        return refused;
-    }
-    if plan::lists::list_count(plan) <= list {
-        return 8;
-    }
-    let n = plan[4] as usize;
-    if labels.len() < n {
-        return 9;
-    }
-    if ranks.len() < n {
-        return 9;
-    }
-    if table.len() < 2 * n {
-        return 9;
-    }
-    if cycle.len() < n {
-        return 9;
-    }
-    0
 }
 
 fn answer(found: Assessment) -> VerdictAnswer
@@ -64,7 +31,7 @@ pub fn verdict(
 ) -> VerdictAnswer
     ensures { λ r. ⌜ VerdictCall (now (plan .entry)) list r (now (labels .entry)) (now (labels .exit)) (now (ranks .entry)) (now (ranks .exit)) (now (table .entry)) (now (table .exit)) (now (cycle .entry)) (now (cycle .exit)) ⌝ }
 {
-    let refused = verdict_refusal(plan, list, labels, ranks, table, cycle);
+    let refused = refusals::buffers::verdict_refusal(plan, list, labels, ranks, table, cycle);
     if refused != 0 {
         return VerdictAnswer::Refused(refused);
     }

@@ -30,8 +30,9 @@ use Rattle.activation.proofs.TableBytes.{table-length, table-front, table-bytes
 use Rattle.checker.specs.Refused.{unlessRefused}
 use Rattle.checker.specs.Verdict.{highestOf, settledBytes}
 use Rattle.guarantees.specs.VerdictMeaning.{rankIn}
-use Rattle.checker.specs.Activate.{tableChecks, activateRefusal, activateTable}
-use Rattle.checker.specs.Run.{sequenceOk, runRefusal, runTable}
+use Rattle.refusals.specs.Refusals.{tableChecks, activateRefusal, sequenceOk, runRefusal}
+use Rattle.checker.specs.Activate.{activateTable}
+use Rattle.checker.specs.Run.{runTable}
 use Rattle.guarantees.specs.Series.{Call, activateCall, runCall, callPlan, callList, callRefusal, bufferAfter, callActs, seriesBuffer, seriesActs, ForThis, Enough, EverySeriesSettles, EverySeriesGoesOn}
 use Rattle.checker.proofs.Refused.{when-refused, when-given}
 use Rattle.guarantees.proofs.VerdictMeaning.{ranked, settled-alone}

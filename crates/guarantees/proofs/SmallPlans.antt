@@ -23,15 +23,15 @@ use Rattle.graph.specs.Rank.{rankOver, rankRounds, rank}
 use Rattle.graph.specs.Cycle.{start, next, walk, second, first, lap, cycleIn, cycle}
 use Rattle.settling.specs.Settled.{chooseAll, chosenAfter, settledTable}
 use Rattle.activation.specs.TableBytes.{readRoute, tableOf, tableBytes, activateBytes, runBytes}
-use Rattle.checker.specs.Verdict.{isStable, labelsOf, ranksOf, highestOf, settledBytes, cycleOf, verdictRefusal, verdictOf, verdictAnswer, labelsAfter, ranksAfter, tableAfter, cycleAfter}
-use Rattle.checker.specs.Activate.{tableChecks}
-use Rattle.checker.specs.Run.{sequenceOk, runRefusal, runApplied, runRounds, runExhausted, runTable}
+use Rattle.refusals.specs.Refusals.{buffersOk, verdictRefusal, tableChecks, sequenceOk, runRefusal}
+use Rattle.checker.specs.Verdict.{isStable, labelsOf, ranksOf, highestOf, settledBytes, cycleOf, verdictOf, verdictAnswer, labelsAfter, ranksAfter, tableAfter, cycleAfter}
+use Rattle.checker.specs.Run.{runApplied, runRounds, runExhausted, runTable}
 use Rattle.guarantees.specs.SmallPlans.{smallRouters, smallSessions, smallDistances, smallLists, smallPlan, answerTo, bothClients, cyclePlan, emptyTable, M1, M2, M3, M4, M5, M6, M7, M8, M9, smallPlans, SmallPlansHold}
 
 pub small-plans : SmallPlansHold
 unfolding
     smallRouters smallSessions smallDistances smallLists smallPlan answerTo bothClients cyclePlan emptyTable M1 M2 M3 M4 M5 M6 M7 M8 M9 smallPlans
-    isStable labelsOf ranksOf highestOf settledBytes cycleOf verdictRefusal verdictOf verdictAnswer labelsAfter ranksAfter tableAfter cycleAfter
+    isStable labelsOf ranksOf highestOf settledBytes cycleOf buffersOk verdictRefusal verdictOf verdictAnswer labelsAfter ranksAfter tableAfter cycleAfter
     tableChecks sequenceOk runRefusal runApplied runRounds runExhausted runTable
     readRoute tableOf tableBytes activateBytes runBytes chooseAll chosenAfter settledTable start next walk second first lap cycleIn cycle
     rankOver rankRounds rank together label stable grouped closing acted roundsFrom rounds

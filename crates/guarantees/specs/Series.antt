@@ -13,8 +13,9 @@ use Rattle.network.specs.FromPlan.{instanceOf}
 use Rattle.activation.specs.TableBytes.{tableOf, activateBytes}
 use Rattle.checker.specs.Refused.{unlessRefused}
 use Rattle.checker.specs.Verdict.{isStable, highestOf, settledBytes}
-use Rattle.checker.specs.Activate.{tableChecks, activateRefusal, activateTable}
-use Rattle.checker.specs.Run.{runRefusal, runTable}
+use Rattle.refusals.specs.Refusals.{tableChecks, activateRefusal, runRefusal}
+use Rattle.checker.specs.Activate.{activateTable}
+use Rattle.checker.specs.Run.{runTable}
 
 -- "any number of act and run calls, mixed in any order": what such a call is handed beside the buffer, which may be anything
 pub data Call : Type 0 where

@@ -8,8 +8,9 @@ use Rattle.routing.specs.Instance.{Route, nothing, via}
 use Rattle.activation.specs.TableBytes.{tableBytes}
 use Rattle.checker.specs.declared.verdict.VerdictAnswer.{VerdictAnswer}
 use Rattle.checker.specs.declared.verdict.VerdictAnswer.the-variants.{Stable, Suspect}
-use Rattle.checker.specs.Verdict.{verdictRefusal, verdictAnswer, labelsAfter, ranksAfter, tableAfter, cycleAfter}
-use Rattle.checker.specs.Run.{runRefusal, runApplied, runRounds, runExhausted, runTable}
+use Rattle.refusals.specs.Refusals.{verdictRefusal, runRefusal}
+use Rattle.checker.specs.Verdict.{verdictAnswer, labelsAfter, ranksAfter, tableAfter, cycleAfter}
+use Rattle.checker.specs.Run.{runApplied, runRounds, runExhausted, runTable}
 
 -- "Two-byte numbers have the low byte first."
 abbrev pub word : ℕ → List ℕ

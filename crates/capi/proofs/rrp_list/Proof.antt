@@ -1,7 +1,7 @@
 use mathlib.Core.Path.{_≡_, _∙_, sym}
 use borrow.Author.Needs.{needs}
-use Rattle.checker.specs.EgressList.{egressListRefusal}
-use Rattle.checker.proofs.ListStretch.{allowed}
+use Rattle.refusals.specs.Refusals.{egressListRefusal}
+use Rattle.refusals.proofs.Asked.{list-asked}
 use Rattle.capi.proofs.Exporting.{list-refused, list-given}
 use Rattle.capi.proofs.rrp_list.Statement.{statement}
 use Rattle.capi.proofs.rrp_list.Tie as tie
@@ -16,5 +16,5 @@ rrp-list-spec =
     (tie.spec
     (λ c κs. search needs)
     (λ c. list-refused _ _ _ _ _ (c .before .egress-list-refusal .ensures) (c .if1 .taken))
-    (λ c κs. let a = allowed _ _ (given c) in (a .plan-ok, a .list-ok))
+    (λ c κs. let a = list-asked _ _ (given c) in (a .planOk, a .list))
     (λ c. list-given _ _ _ _ _ _ (given (c .before)) (c .list-span .ensures)))

@@ -1,15 +1,16 @@
 use mathlib.Core.Path.{_≡_, refl, _∙_, sym, ap}
+use mathlib.Core.Bool.{_&&_}
 use borrow.Author.Needs.{needs}
 use lib.Dec.{lit<}
 use denote.Ref.{now}
 use Rattle.contents.specs.Contents.{distancesBody}
-use Rattle.plan.specs.Refusal.{refuse, planChecks}
 use Rattle.network.specs.Decoded.{decoded}
-use Rattle.network.specs.FromPlan.{instanceOf}
 use Rattle.network.proofs.FromPlan.{well-formed}
 use Rattle.activation.specs.TableBytes.{activateBytes}
-use Rattle.checker.specs.Activate.{tableChecks, activateRefusal}
-use Rattle.checker.proofs.Acting.{asks, ActivateAsked, activate-asked, asked-refused, asked-passed, table-checks, table-passes, activates-not, activates-so}
+use Rattle.refusals.specs.Refusals.{hasList, hasRouter, askedChecks, tableChecks, activateRefusal}
+use Rattle.refusals.proofs.Asked.{asked-refused, asked-passed, RouterAsked, router-asked}
+use Rattle.refusals.proofs.Tables.{table-checks, table-passes}
+use Rattle.checker.proofs.Acting.{activates-not, activates-so}
 use Rattle.checker.proofs.activate.activate.Statement.{statement}
 use Rattle.checker.proofs.activate.activate.Tie as tie
 
@@ -21,11 +22,11 @@ abbrev entry : tie.Else1 → tie.Start
 entry c = c .before .before .before .before
 
 -- the plan, the list and the router pass
-given : (c : tie.Else1) → let a = entry c .args in planChecks (a .plan .now) (refuse (asks (a .plan .now) (a .list) (a .router) (a .table .now)) 8 0) ≡ 0
+given : (c : tie.Else1) → let a = entry c .args in askedChecks (a .plan .now) (hasList (a .plan .now) (a .list) && hasRouter (a .plan .now) (a .router)) 0 ≡ 0
 given c = sym (c .before .router-refusal .ensures) ∙ c .if1 .left
 
-asked : (c : tie.Else1) → let a = entry c .args in ActivateAsked (a .plan .now) (a .list) (a .router) (a .table .now)
-asked c = let a = entry c .args in activate-asked (a .plan .now) (a .list) (a .router) (a .table .now) (given c)
+asked : (c : tie.Else1) → let a = entry c .args in RouterAsked (a .plan .now) (a .list) (a .router)
+asked c = let a = entry c .args in router-asked (a .plan .now) (a .list) (a .router) (given c)
 
 -- the number found is the call's
 number-is : (c : tie.After-table-refusal) → let a = entry (guard c) .args in

@@ -1,5 +1,5 @@
 use native.Mathlib.Omega.{arith}
-use mathlib.Core.Path.{_≡_, refl, _∙_, sym, ap}
+use mathlib.Core.Path.{_≡_, _∙_, sym, ap}
 use borrow.Author.Needs.{needs}
 use lib.Dec.{lit<}
 use lib.ListN.{length}
@@ -8,9 +8,9 @@ use Rattle.bodies.specs.Distances.{distanceIn}
 use Rattle.network.proofs.FromPlan.{distances-length}
 use Rattle.network.specs.FromPlan.{instanceOf}
 use Rattle.routing.specs.Preference.{prefers}
-use Rattle.checker.specs.Compare.{compareRefusal}
-use Rattle.checker.proofs.Asked.{header-long, few-routers}
-use Rattle.checker.proofs.Comparing.{CompareAsked, compare-asked, compares-refused, compares-same, compares-first, compares-second}
+use Rattle.refusals.specs.Refusals.{compareRefusal}
+use Rattle.refusals.proofs.Asked.{header-long, few-routers, CompareAsked, compare-asked}
+use Rattle.checker.proofs.Comparing.{compares-refused, compares-same, compares-first, compares-second}
 use Rattle.checker.proofs.compare.compare.Statement.{statement}
 use Rattle.checker.proofs.compare.compare.Tie as tie
 

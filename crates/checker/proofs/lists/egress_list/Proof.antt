@@ -1,8 +1,9 @@
 use native.Mathlib.Nat.{add-sub-cancel-left}
 use native.Mathlib.Omega.{arith}
-use mathlib.Core.Path.{_≡_, _∙_, sym}
+use mathlib.Core.Path.{_∙_, sym}
 use borrow.Author.Needs.{needs}
-use Rattle.checker.proofs.ListStretch.{allowed, stretch-refused, stretch-given}
+use Rattle.refusals.proofs.Asked.{list-asked}
+use Rattle.checker.proofs.ListStretch.{stretch-refused, stretch-given}
 use Rattle.checker.proofs.lists.egress_list.Statement.{statement}
 use Rattle.checker.proofs.lists.egress_list.Tie as tie
 
@@ -14,8 +15,8 @@ returns c =
 
 list-span-requires : tie.Need-list-span-requires
 list-span-requires c κs =
-    let a = allowed _ _ (sym (c .before .egress-list-refusal .ensures) ∙ c .if1 .left) in
-    (a .plan-ok, a .list-ok)
+    let a = list-asked _ _ (sym (c .before .egress-list-refusal .ensures) ∙ c .if1 .left) in
+    (a .planOk, a .list)
 
 returns-2 : tie.Need-returns-2
 returns-2 c =

@@ -3,11 +3,11 @@ use borrow.Author.Needs.{needs}
 use lib.Dec.{lit<}
 use Rattle.routing.specs.Reliance.{relies}
 use Rattle.network.specs.Decoded.{decoded}
-use Rattle.network.specs.FromPlan.{instanceOf, ReadFrom}
-use Rattle.network.specs.WellFormed.{WellFormed}
+use Rattle.network.specs.FromPlan.{instanceOf}
 use Rattle.network.proofs.FromPlan.{well-formed}
-use Rattle.checker.specs.Relies.{reliesRefusal}
-use Rattle.checker.proofs.Relying.{ReliesAsked, relies-asked, relied-refused, relied-yes, relied-no}
+use Rattle.refusals.specs.Refusals.{reliesRefusal}
+use Rattle.refusals.proofs.Asked.{ReliesAsked, relies-asked}
+use Rattle.checker.proofs.Relying.{relied-refused, relied-yes, relied-no}
 use Rattle.checker.proofs.relies.relies.Statement.{statement}
 use Rattle.checker.proofs.relies.relies.Tie as tie
 

@@ -1,14 +1,15 @@
-use mathlib.Core.Path.{_≡_, refl, _∙_, sym, ap}
+use mathlib.Core.Path.{_≡_, refl, _∙_, sym}
+use mathlib.Core.Bool.{_&&_}
 use borrow.Author.Needs.{needs}
 use lib.Dec.{lit<}
 use denote.Ref.{now}
+use Rattle.contents.specs.Header.{routerCount}
 use Rattle.contents.specs.Contents.{distancesBody}
-use Rattle.plan.specs.Refusal.{refuse, planChecks}
 use Rattle.network.proofs.FromPlan.{well-formed}
-use Rattle.checker.specs.Activate.{tableChecks}
-use Rattle.checker.specs.Run.{runRefusal}
-use Rattle.checker.proofs.Acting.{asked-refused, asked-passed, table-checks, table-passes}
-use Rattle.checker.proofs.Sequences.{runs, RunAsked, run-asked, runs-not, runs-so}
+use Rattle.refusals.specs.Refusals.{hasList, sequenceOk, askedChecks, tableChecks, runRefusal}
+use Rattle.refusals.proofs.Asked.{asked-refused, asked-passed, SequenceAsked, sequence-asked}
+use Rattle.refusals.proofs.Tables.{table-checks, table-passes}
+use Rattle.checker.proofs.Sequences.{runs-not, runs-so}
 use Rattle.checker.proofs.run.run.Statement.{statement}
 use Rattle.checker.proofs.run.run.Tie as tie
 
@@ -20,11 +21,11 @@ abbrev entry : tie.Else1 → tie.Start
 entry c = c .before .before .before .before .before
 
 -- the plan, the list and the sequence pass
-given : (c : tie.Else1) → let a = entry c .args in planChecks (a .plan .now) (refuse (runs (a .plan .now) (a .list) (a .sequence .now)) 8 0) ≡ 0
+given : (c : tie.Else1) → let a = entry c .args in askedChecks (a .plan .now) (hasList (a .plan .now) (a .list) && sequenceOk (a .sequence .now) (routerCount (a .plan .now))) 0 ≡ 0
 given c = sym (c .before .sequence-refusal .ensures) ∙ c .if1 .left
 
-asked : (c : tie.Else1) → let a = entry c .args in RunAsked (a .plan .now) (a .list) (a .sequence .now)
-asked c = let a = entry c .args in run-asked (a .plan .now) (a .list) (a .sequence .now) (given c)
+asked : (c : tie.Else1) → let a = entry c .args in SequenceAsked (a .plan .now) (a .list) (a .sequence .now)
+asked c = let a = entry c .args in sequence-asked (a .plan .now) (a .list) (a .sequence .now) (given c)
 
 -- the number found is the call's
 number-is : (c : tie.After-table-refusal) → let a = entry (guard c) .args in

@@ -5,8 +5,9 @@ use lib.Dec.{lit<}
 use Rattle.network.specs.Decoded.{decoded}
 use Rattle.network.specs.FromPlan.{instanceOf}
 use Rattle.network.proofs.FromPlan.{well-formed}
-use Rattle.checker.specs.Verdict.{verdictRefusal}
-use Rattle.checker.proofs.Judging.{VerdictAsked, verdict-asked, verdict-refused, verdict-given}
+use Rattle.refusals.specs.Refusals.{verdictRefusal}
+use Rattle.refusals.proofs.Asked.{VerdictAsked, verdict-asked}
+use Rattle.checker.proofs.Judging.{verdict-refused, verdict-given}
 use Rattle.checker.proofs.verdict.verdict.Statement.{statement}
 use Rattle.checker.proofs.verdict.verdict.Tie as tie
 

@@ -1,0 +1,149 @@
+-- What a call that is not refused was handed.
+use Prim.Native.Nat.{ℕ, _*_, _≤_, _<_}
+use mathlib.Core.Path.{_≡_, refl, _∙_, sym, ap}
+use mathlib.Core.Bool.{Bool, true, false, _&&_}
+use mathlib.Core.List.{List}
+use borrow.Author.Tests.{ltb-true}
+use lib.ListN.{length, getD}
+use Rattle.base.proofs.Below.{all-at}
+use Rattle.base.proofs.Numbers.{facts}
+use Rattle.contents.specs.Header.{routerCount}
+use Rattle.plan.specs.EgressLists.{listCount}
+use Rattle.plan.specs.Refusal.{refuse, planChecks, planRefusal}
+use Rattle.plan.proofs.Cascade.{call-cascade, plan-passes, plan-of-passed, refuse-passed}
+use Rattle.plan.proofs.Passed.{passed}
+use Rattle.refusals.specs.Refusals.{hasList, hasRouter, sequenceOk, askedChecks, egressListRefusal, compareRefusal, reliesRefusal, buffersOk, verdictRefusal}
+
+module _ (plan : List ℕ) (h : planRefusal plan ≡ 0) where
+  pub header-long : 26 ≤ length plan
+  header-long = passed plan h .header .least
+
+  pub few-routers : routerCount plan ≤ 64
+  few-routers = passed plan h .count .most
+
+module _ (plan : List ℕ) (ok : Bool) where
+  -- a call that is refused by row 8 or before has that number, whatever its other checks
+  pub asked-refused : (rest asked : ℕ) → asked ≡ askedChecks plan ok 0 → (asked ≡ 0 → ⊥) → asked ≡ askedChecks plan ok rest
+  asked-refused rest asked e ne = e ∙ sym (call-cascade plan ok .refused (λ z. ne (e ∙ z)) rest)
+
+  -- .. and one that is not has theirs
+  pub asked-passed : (rest : ℕ) → askedChecks plan ok 0 ≡ 0 → rest ≡ askedChecks plan ok rest
+  asked-passed rest e = sym (call-cascade plan ok .passed e rest)
+
+  -- one condition x of row 8 after others
+  more : (x : Bool) → askedChecks plan ok (refuse x 8 0) ≡ askedChecks plan (ok && x) 0
+  unfolding refuse
+  more x = ap (planChecks plan) (both ok)
+    where
+      both : (b : Bool) → refuse b 8 (refuse x 8 0) ≡ refuse (b && x) 8 0
+      both true = refl
+      both false = refl
+
+  pub more-refused : (x : Bool) (asked : ℕ) → asked ≡ askedChecks plan ok 0 → (asked ≡ 0 → ⊥) → asked ≡ askedChecks plan (ok && x) 0
+  more-refused x asked e ne = asked-refused (refuse x 8 0) asked e ne ∙ more x
+
+  pub more-passed : {x : Bool} (b : Bool) → x ≡ b → askedChecks plan ok 0 ≡ 0 → refuse b 8 0 ≡ askedChecks plan (ok && x) 0
+  more-passed {x} b h z = ap (λ y. refuse y 8 0) (sym h) ∙ asked-passed (refuse x 8 0) z ∙ more x
+
+  -- the plan passes, and so do the call's numbers and the rest
+  pub record Granted (rest : ℕ) : Type 0 where
+    pub planOk : planRefusal plan ≡ 0
+    pub callOk : ok ≡ true
+    pub restOk : rest ≡ 0
+
+  pub granted : (rest : ℕ) → askedChecks plan ok rest ≡ 0 → Granted rest
+  granted rest h =
+      let p : planRefusal plan ≡ 0 = plan-of-passed plan _ h in
+      let q = refuse-passed ok 7 rest (sym (plan-passes plan _ p) ∙ h) in
+      record { planOk = p; callOk = q .0; restOk = q .1 }
+
+pub record ListAsked (plan : List ℕ) (k : ℕ) : Type 0 where
+  pub planOk : planRefusal plan ≡ 0
+  pub list : k < listCount plan
+
+pub list-asked : (plan : List ℕ) (k : ℕ) → egressListRefusal plan k ≡ 0 → ListAsked plan k
+unfolding egressListRefusal
+list-asked plan k h =
+    let g = granted plan _ _ h in
+    record { planOk = g .planOk; list = ltb-true _ _ (g .callOk) }
+
+pub record CompareAsked (plan : List ℕ) (w e f : ℕ) : Type 0 where
+  pub planOk : planRefusal plan ≡ 0
+  pub router : w < routerCount plan
+  pub first : e < routerCount plan
+  pub second : f < routerCount plan
+
+pub compare-asked : (plan : List ℕ) (w e f : ℕ) → compareRefusal plan w e f ≡ 0 → CompareAsked plan w e f
+unfolding compareRefusal
+compare-asked plan w e f h =
+    let g = granted plan _ _ h in
+    let q : ((w < routerCount plan) × (e < routerCount plan)) × (f < routerCount plan) = simp facts at (g .callOk) in
+    record { planOk = g .planOk; router = q .0 .0; first = q .0 .1; second = q .1 }
+
+pub record RouterAsked (plan : List ℕ) (k w : ℕ) : Type 0 where
+  pub planOk : planRefusal plan ≡ 0
+  pub list : k < listCount plan
+  pub router : w < routerCount plan
+
+pub router-asked : (plan : List ℕ) (k w : ℕ) → askedChecks plan (hasList plan k && hasRouter plan w) 0 ≡ 0 → RouterAsked plan k w
+router-asked plan k w h =
+    let g = granted plan _ _ h in
+    let q : (k < listCount plan) × (w < routerCount plan) = simp facts at (g .callOk) in
+    record { planOk = g .planOk; list = q .0; router = q .1 }
+
+pub record ReliesAsked (plan : List ℕ) (k w v : ℕ) : Type 0 where
+  pub planOk : planRefusal plan ≡ 0
+  pub list : k < listCount plan
+  pub router : w < routerCount plan
+  pub other : v < routerCount plan
+
+pub relies-asked : (plan : List ℕ) (k w v : ℕ) → reliesRefusal plan k w v ≡ 0 → ReliesAsked plan k w v
+unfolding reliesRefusal
+relies-asked plan k w v h =
+    let g = granted plan _ _ h in
+    let q : ((k < listCount plan) × (w < routerCount plan)) × (v < routerCount plan) = simp facts at (g .callOk) in
+    record { planOk = g .planOk; list = q .0 .0; router = q .0 .1; other = q .1 }
+
+pub record SequenceAsked (plan : List ℕ) (k : ℕ) (acts : List ℕ) : Type 0 where
+  pub planOk : planRefusal plan ≡ 0
+  pub list : k < listCount plan
+  pub routers : (i : ℕ) → i < length acts → getD acts i 0 < routerCount plan
+  pub some : 0 < routerCount plan
+
+pub sequence-asked : (plan : List ℕ) (k : ℕ) (acts : List ℕ) → askedChecks plan (hasList plan k && sequenceOk acts (routerCount plan)) 0 ≡ 0
+    → SequenceAsked plan k acts
+unfolding sequenceOk
+sequence-asked plan k acts h =
+    let g = granted plan _ _ h in
+    let q : (k < listCount plan) × (sequenceOk acts (routerCount plan) ≡ true) = simp facts at (g .callOk) in
+    record {
+      planOk = g .planOk;
+      list = q .0;
+      routers = λ i l. ltb-true _ _ (all-at _ _ (q .1) i l);
+      some = passed plan (g .planOk) .count .some;
+    }
+
+pub record VerdictAsked (plan : List ℕ) (k : ℕ) (labels ranks table cycle : List ℕ) : Type 0 where
+  pub planOk : planRefusal plan ≡ 0
+  pub list : k < listCount plan
+  pub labelsLong : routerCount plan ≤ length labels
+  pub ranksLong : routerCount plan ≤ length ranks
+  pub tableLong : 2 * routerCount plan ≤ length table
+  pub cycleLong : routerCount plan ≤ length cycle
+
+pub verdict-asked : (plan : List ℕ) (k : ℕ) (labels ranks table cycle : List ℕ) → verdictRefusal plan k labels ranks table cycle ≡ 0
+    → VerdictAsked plan k labels ranks table cycle
+unfolding verdictRefusal buffersOk
+verdict-asked plan k labels ranks table cycle h =
+    let g = granted plan _ _ h in
+    let n = routerCount plan in
+    let q : (((n ≤ length labels) × (n ≤ length ranks)) × (2 * n ≤ length table)) × (n ≤ length cycle)
+    = simp facts at (refuse-passed _ 8 0 (g .restOk) .0) in
+    record {
+      planOk = g .planOk;
+      list = ltb-true _ _ (g .callOk);
+      labelsLong = q .0 .0 .0;
+      ranksLong = q .0 .0 .1;
+      tableLong = q .0 .1;
+      cycleLong = q .1;
+    }

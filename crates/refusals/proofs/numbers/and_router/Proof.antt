@@ -1,0 +1,29 @@
+use native.Mathlib.Omega.{arith}
+use mathlib.Core.Path.{_∙_, sym}
+use mathlib.Core.Bool.{true, false}
+use borrow.Author.Tests.{lt-ltb, le-ltb}
+use Rattle.plan.specs.Refusal.{refuse}
+use Rattle.refusals.proofs.Asked.{header-long, few-routers, more-refused, more-passed}
+use Rattle.refusals.proofs.numbers.and_router.Statement.{statement}
+use Rattle.refusals.proofs.numbers.and_router.Tie as tie
+
+returns : tie.Need-returns
+returns c ok e = more-refused _ ok _ _ e (c .if1 .taken)
+
+returns-2 : tie.Need-returns-2
+unfolding refuse
+returns-2 c ok e = more-passed _ ok false (le-ltb _ _ (c .if2 .taken)) (sym e ∙ c .before .before .if1 .left)
+
+returns-3 : tie.Need-returns-3
+unfolding refuse
+returns-3 c ok e = more-passed _ ok true (lt-ltb _ _ (c .if2 .left)) (sym e ∙ c .before .before .if1 .left)
+
+pub and-router-spec : {M : Type 1} → statement M
+and-router-spec =
+    tie.close
+    (tie.spec
+    returns
+    (λ c. omega (arith, header-long _ (c .before .before .pre (c .before .if1 .left))))
+    (λ c. omega (arith, few-routers _ (c .before .before .pre (c .before .if1 .left))))
+    returns-2
+    returns-3)

@@ -1,0 +1,20 @@
+use mathlib.Core.Path.{_∙_, sym}
+use borrow.Author.Needs.{needs}
+use Rattle.refusals.specs.Refusals.{hasList, egressListRefusal}
+use Rattle.refusals.proofs.Asked.{list-asked}
+use Rattle.refusals.proofs.numbers.router_refusal.Statement.{statement}
+use Rattle.refusals.proofs.numbers.router_refusal.Tie as tie
+
+returns : tie.Need-returns
+unfolding egressListRefusal
+returns c =
+    let a = c .before .before .before .args in
+    c .and-router .ensures (hasList (a .plan .now) (a .list)) (c .before .list-refusal .ensures)
+
+pub router-refusal-spec : {M : Type 1} → statement M
+router-refusal-spec =
+    tie.close
+    (tie.spec
+    (λ c κs. search needs)
+    (λ c κs z. list-asked _ _ (sym (c .list-refusal .ensures) ∙ z) .planOk)
+    returns)

@@ -1,0 +1,63 @@
+// Rows 9 and 10: the buffers that a call is lent, and the table that it is handed.
+
+use network::Network;
+ghost use mathlib.Core.Path.{_≡_};
+ghost use mathlib.Core.List.{List};
+ghost use Prim.Native.Nat.{ℕ, _*_, _≤_};
+ghost use lib.Dec.{leb};
+ghost use lib.ListN.{length};
+ghost use Rattle.plan.specs.Refusal.{refuse};
+ghost use Rattle.routing.specs.Activation.{tableOk};
+ghost use Rattle.network.specs.Decoded.{decoded};
+ghost use Rattle.activation.specs.TableBytes.{tableOf};
+ghost use Rattle.refusals.specs.Refusals.{buffersOk, verdictRefusal};
+
+fn buffers_ok(n: usize, labels: &[u8], ranks: &[u8], table: &[u8], cycle: &[u8]) -> bool
+    requires { ⌜ n ≤ 64 ⌝ }
+    ensures { λ r. ⌜ r ≡ buffersOk n (now (labels .entry)) (now (ranks .entry)) (now (table .entry)) (now (cycle .entry)) ⌝ }
+{
+    if labels.len() < n {
+        return false;
+    }
+    if ranks.len() < n {
+        return false;
+    }
+    if table.len() < 2 * n {
+        return false;
+    }
+    n <= cycle.len()
+}
+
+pub fn verdict_refusal(
+    plan: &[u8],
+    list: usize,
+    labels: &[u8],
+    ranks: &[u8],
+    table: &[u8],
+    cycle: &[u8],
+) -> u8
+    ensures { λ r. ⌜ r ≡ verdictRefusal (now (plan .entry)) list (now (labels .entry)) (now (ranks .entry)) (now (table .entry)) (now (cycle .entry)) ⌝ }
+{
+    let refused = crate::numbers::list_refusal(plan, list);
+    if refused != 0 {
+        return refused;
+    }
+    if !buffers_ok(plan[4] as usize, labels, ranks, table, cycle) {
+        return 9;
+    }
+    0
+}
+
+// Rows 9 and 10 of a call that takes a table, whatever the distances.
+pub fn table_refusal(net: Network, rows: &[u64; 64], table: &[u8]) -> u8
+    requires { ⌜ net .n ≤ 64 ⌝ }
+    ensures { λ r. ⌜ ((distances : List ℕ) → r ≡ refuse (leb (2 * net .n) (length (now (table .entry)))) 9 (refuse (tableOk (decoded net (now (rows .entry)) distances) (tableOf (now (table .entry)) (net .n))) 10 0)) ⌝ }
+{
+    if table.len() < 2 * net.n {
+        return 9;
+    }
+    if !activation::table::table_ok(net, rows, table) {
+        return 10;
+    }
+    0
+}

@@ -1,0 +1,84 @@
+// Row 8: the lists and routers that a call asks for.
+
+ghost use mathlib.Core.Path.{_≡_};
+ghost use mathlib.Core.Bool.{Bool, _&&_};
+ghost use Rattle.contents.specs.Header.{routerCount};
+ghost use Rattle.plan.specs.Refusal.{planRefusal};
+ghost use Rattle.refusals.specs.Refusals.{askedChecks, hasList, hasRouter, sequenceOk, egressListRefusal, compareRefusal, reliesRefusal};
+
+pub fn list_refusal(plan: &[u8], list: usize) -> u8
+    ensures { λ r. ⌜ r ≡ egressListRefusal (now (plan .entry)) list ⌝ }
+{
+    let refused = plan::refusal::refusal(plan);
+    if refused != 0 {
+        return refused;
+    }
+    if plan::lists::list_count(plan) <= list {
+        return 8;
+    }
+    0
+}
+
+// One router more; `refused` is what the checks before it gave.
+fn and_router(plan: &[u8], refused: u8, router: usize) -> u8
+    requires { ⌜ (refused ≡ 0 → planRefusal (now plan) ≡ 0) ⌝ }
+    ensures { λ r. ⌜ ((ok : Bool) → refused ≡ askedChecks (now (plan .entry)) ok 0 → r ≡ askedChecks (now (plan .entry)) (ok && hasRouter (now (plan .entry)) router) 0) ⌝ }
+{
+    if refused != 0 {
+        return refused;
+    }
+    let n = plan[4] as usize;
+    if n <= router {
+        return 8;
+    }
+    0
+}
+
+pub fn compare_refusal(plan: &[u8], router: usize, first: usize, second: usize) -> u8
+    ensures { λ r. ⌜ r ≡ compareRefusal (now (plan .entry)) router first second ⌝ }
+{
+    let at = and_router(plan, plan::refusal::refusal(plan), router);
+    let with_first = and_router(plan, at, first);
+    and_router(plan, with_first, second)
+}
+
+// Rows 1 to 8 of an activation.
+pub fn router_refusal(plan: &[u8], list: usize, router: usize) -> u8
+    ensures { λ r. ⌜ r ≡ askedChecks (now (plan .entry)) (hasList (now (plan .entry)) list && hasRouter (now (plan .entry)) router) 0 ⌝ }
+{
+    and_router(plan, list_refusal(plan, list), router)
+}
+
+pub fn relies_refusal(plan: &[u8], list: usize, router: usize, other: usize) -> u8
+    ensures { λ r. ⌜ r ≡ reliesRefusal (now (plan .entry)) list router other ⌝ }
+{
+    and_router(plan, router_refusal(plan, list, router), other)
+}
+
+fn sequence_ok(sequence: &[u8], n: usize) -> bool
+    ensures { λ r. ⌜ r ≡ sequenceOk (now (sequence .entry)) n ⌝ }
+{
+    let mut i = 0;
+    while i < sequence.len() {
+        let router = sequence[i] as usize;
+        if n <= router {
+            return false;
+        }
+        i += 1;
+    }
+    true
+}
+
+// Rows 1 to 8 of a run.
+pub fn sequence_refusal(plan: &[u8], list: usize, sequence: &[u8]) -> u8
+    ensures { λ r. ⌜ r ≡ askedChecks (now (plan .entry)) (hasList (now (plan .entry)) list && sequenceOk (now (sequence .entry)) (routerCount (now (plan .entry)))) 0 ⌝ }
+{
+    let refused = list_refusal(plan, list);
+    if refused != 0 {
+        return refused;
+    }
+    if !sequence_ok(sequence, plan[4] as usize) {
+        return 8;
+    }
+    0
+}
