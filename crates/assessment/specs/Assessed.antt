@@ -25,8 +25,19 @@ reliance I w v = flag (relies I w v)
 abbrev pub isStable : Instance → Bool
 isStable I = stable (closure (reliance I) (I .n)) (I .n)
 
+-- the lowest router of each router's group
+abbrev pub labelsOf : Instance → List ℕ
+labelsOf I = tab (label (closure (reliance I) (I .n))) (I .n)
+
+abbrev pub ranksOf : Instance → List ℕ
+ranksOf I = tab (rank (reliance I) (I .n)) (I .n)
+
 abbrev pub highestOf : Instance → ℕ
 highestOf I = highestRank (reliance I) (I .n)
+
+-- "The settled table is the one held-route table that no act changes", in bytes
+abbrev pub settledBytes : Instance → List ℕ
+settledBytes I = tableBytes (settledTable I (highestOf I))
 
 -- the paper's ring
 abbrev pub cycleOf : Instance → List ℕ
@@ -37,8 +48,8 @@ pub record Assessed (I : Instance) (r : Assessment) (labels labels′ ranks rank
   -- "Stable returns the highest rank .. suspect returns the ring's length"
   pub verdict : r ≡ cond (isStable I) (Stable (highestOf I)) (Suspect (length (cycleOf I)))
   -- "Labels are written with either verdict."
-  pub labelled : labels′ ≡ tab (label (closure (reliance I) (I .n))) (I .n) ++ drop (I .n) labels
+  pub labelled : labels′ ≡ labelsOf I ++ drop (I .n) labels
   -- "Stable .. writes ranks and table; suspect .. writes that many ring bytes. Other bytes are untouched."
-  pub ranked : ranks′ ≡ cond (isStable I) (tab (rank (reliance I) (I .n)) (I .n) ++ drop (I .n) ranks) ranks
-  pub settled : table′ ≡ cond (isStable I) (tableBytes (settledTable I (highestOf I)) ++ drop (2 * I .n) table) table
+  pub ranked : ranks′ ≡ cond (isStable I) (ranksOf I ++ drop (I .n) ranks) ranks
+  pub settled : table′ ≡ cond (isStable I) (settledBytes I ++ drop (2 * I .n) table) table
   pub cycled : shown′ ≡ cond (isStable I) shown (cycleOf I ++ drop (length (cycleOf I)) shown)

@@ -4,48 +4,38 @@ use mathlib.Core.Path.{_≡_}
 use mathlib.Core.List.{List, _++_}
 use mathlib.Core.Bool.{Bool, true, false, cond}
 use lib.ListN.{length, drop}
-use Rattle.base.specs.Seek.{flag}
-use Rattle.base.specs.Tab.{tab}
 use Rattle.contents.specs.Header.{routerCount}
-use Rattle.graph.specs.Closure.{Relation, closure}
-use Rattle.graph.specs.Groups.{label, stable}
-use Rattle.graph.specs.Rank.{rank, highestRank}
-use Rattle.graph.specs.Cycle.{cycle}
-use Rattle.routing.specs.Reliance.{relies}
-use Rattle.settling.specs.Settled.{settledTable}
+use Rattle.graph.specs.Closure.{Relation}
 use Rattle.network.specs.FromPlan.{instanceOf}
-use Rattle.activation.specs.TableBytes.{tableBytes}
 use Rattle.refusals.specs.Refusals.{verdictRefusal}
 use Rattle.checker.specs.declared.verdict.VerdictAnswer.{VerdictAnswer}
 use Rattle.checker.specs.declared.verdict.VerdictAnswer.the-variants.{Refused, Stable, Suspect}
 use Rattle.assessment.specs.declared.Assessment.{Assessment}
 use Rattle.assessment.specs.declared.Assessment.the-variants as assessments
+use Rattle.assessment.specs.Assessed as assessed
 use Rattle.checker.specs.Refused.{unlessRefused, field, flagField}
 
--- who relies on whom in the plan's network for list k, as a relation of the graph part
+-- what the plan's network for list k is found to be
 abbrev pub reliance : List ℕ → ℕ → Relation
-reliance plan k w v = flag (relies (instanceOf plan k) w v)
+reliance plan k = assessed.reliance (instanceOf plan k)
 
--- "Stable: every group has one router."
 unfoldable pub isStable : List ℕ → ℕ → Bool
-isStable plan k = stable (closure (reliance plan k) (routerCount plan)) (routerCount plan)
+isStable plan k = assessed.isStable (instanceOf plan k)
 
 unfoldable pub labelsOf : List ℕ → ℕ → List ℕ
-labelsOf plan k = let C = closure (reliance plan k) (routerCount plan) in tab (label C) (routerCount plan)
+labelsOf plan k = assessed.labelsOf (instanceOf plan k)
 
 unfoldable pub ranksOf : List ℕ → ℕ → List ℕ
-ranksOf plan k = tab (rank (reliance plan k) (routerCount plan)) (routerCount plan)
+ranksOf plan k = assessed.ranksOf (instanceOf plan k)
 
 unfoldable pub highestOf : List ℕ → ℕ → ℕ
-highestOf plan k = highestRank (reliance plan k) (routerCount plan)
+highestOf plan k = assessed.highestOf (instanceOf plan k)
 
--- "The settled table is the one held-route table that no act changes", in bytes
 unfoldable pub settledBytes : List ℕ → ℕ → List ℕ
-settledBytes plan k = tableBytes (settledTable (instanceOf plan k) (highestOf plan k))
+settledBytes plan k = assessed.settledBytes (instanceOf plan k)
 
--- the paper's ring
 unfoldable pub cycleOf : List ℕ → ℕ → List ℕ
-cycleOf plan k = cycle (reliance plan k) (routerCount plan)
+cycleOf plan k = assessed.cycleOf (instanceOf plan k)
 
 -- "Stable returns the highest rank .. suspect returns the ring's length"
 unfoldable pub verdictOf : List ℕ → ℕ → VerdictAnswer

@@ -150,7 +150,7 @@ module _ (I : Instance) (small : I .n ≤ 64) (acts before after : List ℕ) (lo
       applied-rest
 
 pub every-series-settles : EverySeriesSettles
-unfolding settledBytes
+unfolding settledBytes highestOf
 every-series-settles plan k start s calls this =
     record {
       settled = λ enough. table-front after n long ∙ ap tableBytes (reached enough);
