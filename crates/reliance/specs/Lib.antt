@@ -1,1 +1,2 @@
+pub mod OwnClient
 pub mod RelianceRows

@@ -12,6 +12,7 @@ ghost use Rattle.bodies.specs.Distances.{distanceIn};
 ghost use Rattle.routing.specs.Instance.{Instance};
 ghost use Rattle.routing.specs.Preference.{prefers};
 ghost use Rattle.routing.specs.Reliance.{listedClientOf, bestClient, offer, betterOffer, relies};
+ghost use Rattle.reliance.specs.OwnClient.{OwnClient};
 ghost use Rattle.reliance.specs.RelianceRows.{RelianceRow, RelianceRows};
 ghost use Rattle.network.specs.Decoded.{decoded};
 ghost use Rattle.routing.specs.RouterBytes.{asRouter, RouterBelow};
@@ -48,7 +49,7 @@ fn keep_client(net: Network, rows: &[u64; 64], distances: &[u8], v: usize, e: us
     best
 }
 
-pub fn best_client(net: Network, rows: &[u64; 64], distances: &[u8], v: usize) -> u8
+fn best_client(net: Network, rows: &[u64; 64], distances: &[u8], v: usize) -> u8
     requires { ⌜ WellFormed net (now rows) (now distances) × (v < net .n) ⌝ }
     ensures { λ r. ⌜ asRouter r ≡ bestClient (decoded net (now (rows .entry)) (now (distances .entry))) v ⌝ }
 {
@@ -60,6 +61,17 @@ pub fn best_client(net: Network, rows: &[u64; 64], distances: &[u8], v: usize) -
         e += 1;
     }
     best
+}
+
+// A reflector's best client; a client needs none.
+fn own_client(net: Network, rows: &[u64; 64], distances: &[u8], v: usize) -> u8
+    requires { ⌜ WellFormed net (now rows) (now distances) × (v < net .n) ⌝ }
+    ensures { λ r. ⌜ OwnClient (decoded net (now (rows .entry)) (now (distances .entry))) v r ⌝ }
+{
+    if !base::bits::has_bit(net.reflectors, v) {
+        return 255;
+    }
+    best_client(net, rows, distances, v)
 }
 
 // What v offers, where `own` is its best client.
@@ -89,7 +101,7 @@ fn better_offer(distances: &[u8], n: usize, w: usize, offer: u8, own: u8) -> boo
     network::comparison::prefers(distances, n, w, first, second)
 }
 
-// Rule 3, where `own` and `other` are the best clients of w and v.
+// Rule 3, where `own` and `other` are the best clients of w and, if it is a reflector, of v.
 fn reflector_relies(
     net: Network,
     rows: &[u64; 64],
@@ -99,7 +111,7 @@ fn reflector_relies(
     own: u8,
     other: u8,
 ) -> bool
-    requires { ⌜ WellFormed net (now rows) (now distances) × (w < net .n) × (v < net .n) × (asRouter own ≡ bestClient (decoded net (now rows) (now distances)) w) × (asRouter other ≡ bestClient (decoded net (now rows) (now distances)) v) × (decoded net (now rows) (now distances) .listed w ≡ false) × (decoded net (now rows) (now distances) .reflector w ≡ true) ⌝ }
+    requires { ⌜ WellFormed net (now rows) (now distances) × (w < net .n) × (v < net .n) × (asRouter own ≡ bestClient (decoded net (now rows) (now distances)) w) × OwnClient (decoded net (now rows) (now distances)) v other × (decoded net (now rows) (now distances) .listed w ≡ false) × (decoded net (now rows) (now distances) .reflector w ≡ true) ⌝ }
     ensures { λ r. ⌜ r ≡ relies (decoded net (now (rows .entry)) (now (distances .entry))) w v ⌝ }
 {
     if !base::bits::has_bit(net.reflectors, v) {
@@ -111,7 +123,7 @@ fn reflector_relies(
     better_offer(distances, net.n, w, offered(net, v, other), own)
 }
 
-// Whether w relies on v, where `own` and `other` are their best clients.
+// Whether w relies on v, where `own` and `other` are the best clients of those that are reflectors.
 fn relies_by(
     net: Network,
     rows: &[u64; 64],
@@ -121,7 +133,7 @@ fn relies_by(
     own: u8,
     other: u8,
 ) -> bool
-    requires { ⌜ WellFormed net (now rows) (now distances) × (w < net .n) × (v < net .n) × (asRouter own ≡ bestClient (decoded net (now rows) (now distances)) w) × (asRouter other ≡ bestClient (decoded net (now rows) (now distances)) v) ⌝ }
+    requires { ⌜ WellFormed net (now rows) (now distances) × (w < net .n) × (v < net .n) × OwnClient (decoded net (now rows) (now distances)) w own × OwnClient (decoded net (now rows) (now distances)) v other ⌝ }
     ensures { λ r. ⌜ r ≡ relies (decoded net (now (rows .entry)) (now (distances .entry))) w v ⌝ }
 {
     if base::bits::has_bit(net.listed, w) {
@@ -144,21 +156,21 @@ pub fn relies(net: Network, rows: &[u64; 64], distances: &[u8], w: usize, v: usi
     requires { ⌜ WellFormed net (now rows) (now distances) × (w < net .n) × (v < net .n) ⌝ }
     ensures { λ r. ⌜ r ≡ relies (decoded net (now (rows .entry)) (now (distances .entry))) w v ⌝ }
 {
-    let own = best_client(net, rows, distances, w);
-    let other = best_client(net, rows, distances, v);
+    let own = own_client(net, rows, distances, w);
+    let other = own_client(net, rows, distances, v);
     relies_by(net, rows, distances, w, v, own, other)
 }
 
-// The best client of every router.
+// The best client of every reflector.
 fn best_clients(net: Network, rows: &[u64; 64], distances: &[u8]) -> [u8; 64]
     requires { ⌜ WellFormed net (now rows) (now distances) ⌝ }
-    ensures { λ r. ⌜ ((v : ℕ) → v < net .n → asRouter (getD r v 0) ≡ bestClient (decoded net (now (rows .entry)) (now (distances .entry))) v) ⌝ }
+    ensures { λ r. ⌜ ((v : ℕ) → v < net .n → OwnClient (decoded net (now (rows .entry)) (now (distances .entry))) v (getD r v 0)) ⌝ }
 {
     let n = net.n;
     let mut best = [255u8; 64];
     let mut v = 0;
     while v < n {
-        best[v] = best_client(net, rows, distances, v);
+        best[v] = own_client(net, rows, distances, v);
         v += 1;
     }
     best
@@ -175,9 +187,9 @@ fn noted(row: u64, v: usize, relied: bool) -> u64
     row
 }
 
-// The routers that w relies on, where `best` has every router's best client.
+// The routers that w relies on, where `best` has every reflector's best client.
 fn reliance_row(net: Network, rows: &[u64; 64], distances: &[u8], best: &[u8; 64], w: usize) -> u64
-    requires { ⌜ WellFormed net (now rows) (now distances) × (w < net .n) × ((v : ℕ) → v < net .n → asRouter (getD (now best) v 0) ≡ bestClient (decoded net (now rows) (now distances)) v) ⌝ }
+    requires { ⌜ WellFormed net (now rows) (now distances) × (w < net .n) × ((v : ℕ) → v < net .n → OwnClient (decoded net (now rows) (now distances)) v (getD (now best) v 0)) ⌝ }
     ensures { λ r. ⌜ RelianceRow (decoded net (now (rows .entry)) (now (distances .entry))) w (net .n) r ⌝ }
 {
     let n = net.n;

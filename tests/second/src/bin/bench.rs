@@ -1,8 +1,10 @@
 //! Times the checkers in one process on the same inputs.
 //!
-//! The yardstick is the plain array checker. Each figure is the best of
-//! several turns, the checkers taking turns with each other; the ratio is a
-//! checker's time over the plain checker's.
+//! The yardstick is the plain array checker. The checkers take turns; a time
+//! is the best of the turns, and a ratio the median of the turns' ratios to
+//! the plain checker's time in the same turn, so that a machine that is slower
+//! for a while slows both. With a word as argument only the
+//! lines that have it in their names are timed.
 
 use second_checker::arguments;
 use second_checker::checker::{Acts, Checker, ListFields, RunFields, VerdictBuffers, VerdictFields};
@@ -13,11 +15,12 @@ use second_checker::random::Random;
 use second_checker::rules::Case;
 use second_checker::second::Second;
 use std::collections::BTreeSet;
+use std::env;
 use std::hint::black_box;
 use std::time::Instant;
 
 const SIZES: [usize; 5] = [4, 8, 16, 32, 64];
-const TURNS: usize = 7;
+const TURNS: usize = 9;
 const MILLION: usize = 1_000_000;
 
 /// The checkers timed; the first is the yardstick.
@@ -59,7 +62,7 @@ fn dense(random: &mut Random, n: usize) -> Draft {
     Draft { sessions, lists: vec![BTreeSet::from([n - 1])], ..mesh(random, n, false) }
 }
 
-/// Seconds for one call: the best of several turns of many calls.
+/// Seconds for one call, by many of them.
 fn seconds(mut call: impl FnMut(), calls: usize) -> f64 {
     let started = Instant::now();
     (0..calls).for_each(|_| call());
@@ -72,24 +75,41 @@ fn calls_for(mut call: impl FnMut()) -> usize {
     ((0.02 / once) as usize).clamp(1, 1_000_000)
 }
 
-/// Times one piece of work on all checkers, turn by turn, and prints a line.
-/// The set-based checker is left out if `with_sets` is no.
+/// Whether the command's word, if it has one, is in a line's name.
+fn is_asked(name: &str) -> bool {
+    env::args().nth(1).is_none_or(|word| name.contains(&word))
+}
+
+/// Times one piece of work on all checkers, turn by turn, prints a line and
+/// gives the times; none if the line is not asked for. The set-based checker
+/// is left out if `with_sets` is no.
 fn line(name: &str, with_sets: bool, mut work: impl FnMut(&mut dyn Checker)) -> Vec<f64> {
+    if !is_asked(name) {
+        return Vec::new();
+    }
     let mut checkers = checkers();
     checkers.retain(|(name, _)| with_sets || *name != "sets");
-    let mut best = vec![f64::INFINITY; checkers.len()];
     let calls: Vec<usize> = checkers.iter_mut().map(|(_, checker)| calls_for(|| work(checker.as_mut()))).collect();
-    for _ in 0..TURNS {
-        for (place, (_, checker)) in checkers.iter_mut().enumerate() {
-            best[place] = best[place].min(seconds(|| work(checker.as_mut()), calls[place]));
-        }
-    }
+    let turns: Vec<Vec<f64>> = (0..TURNS)
+        .map(|_| {
+            let each = checkers.iter_mut().zip(&calls);
+            each.map(|((_, checker), &calls)| seconds(|| work(checker.as_mut()), calls)).collect()
+        })
+        .collect();
+    let best_at = |place: usize| turns.iter().map(|turn| turn[place]).fold(f64::INFINITY, f64::min);
+    let best: Vec<f64> = (0..checkers.len()).map(best_at).collect();
     print!("{name:<42}");
-    for ((checker, _), time) in checkers.iter().zip(&best) {
-        print!(" {checker} {:>12.3} us ({:>6.2})", time * 1e6, time / best[0]);
+    for (place, (checker, _)) in checkers.iter().enumerate() {
+        let ratio = median(turns.iter().map(|turn| turn[place] / turn[0]).collect());
+        print!(" {checker} {:>12.3} us ({ratio:>6.2})", best[place] * 1e6);
     }
     println!();
     best
+}
+
+fn median(mut values: Vec<f64>) -> f64 {
+    values.sort_by(f64::total_cmp);
+    values[values.len() / 2]
 }
 
 fn verdict(checker: &mut dyn Checker, plan: &[u8]) {
@@ -173,7 +193,7 @@ fn time_growth(random: &mut Random, kind: &str, plan: &[u8], n: usize) {
             let mut lent = table.clone();
             run(checker, plan, &sequence[..length], &mut lent);
         });
-        if let Some(last) = last {
+        if let Some(last) = last.filter(|last| !last.is_empty()) {
             let growth = times.iter().zip(&last).map(|(time, last)| format!(" {:.2}", time / last));
             println!("    ten times the acts take so many times the time:{}", growth.collect::<String>());
         }
@@ -183,7 +203,7 @@ fn time_growth(random: &mut Random, kind: &str, plan: &[u8], n: usize) {
 
 fn main() {
     let mut random = Random::new(4456);
-    println!("best of {TURNS} turns; in brackets the ratio to the plain checker");
+    println!("best of {TURNS} turns; in brackets the median ratio to the plain checker");
     let largest = generate::largest(&mut random).bytes();
     assert_eq!(largest.len(), LONGEST_PLAN);
     line(&format!("check, largest plan, {LONGEST_PLAN} bytes"), true, |checker| {

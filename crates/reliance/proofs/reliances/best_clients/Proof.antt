@@ -6,14 +6,14 @@ use borrow.Author.Count.{below-none, below-more}
 use lib.ListN.{length, getD, length-set}
 use lib.Seq.{getD-set-same, getD-set-other}
 use Rattle.network.specs.Decoded.{decoded}
-use Rattle.routing.specs.Reliance.{bestClient}
 use Rattle.routing.specs.RouterBytes.{asRouter}
 use Rattle.reliance.proofs.reliances.best_clients.Statement.{statement}
+use Rattle.reliance.specs.OwnClient.{OwnClient}
 use Rattle.reliance.proofs.reliances.best_clients.Tie as tie
 
 abbrev Inv-loop : tie.InvT-loop
 Inv-loop net rows distances n best₀ v₀ best v =
-    (v ≤ n) × (length best ≡ 64) × ((k : ℕ) → k < v → asRouter (getD best k 0) ≡ bestClient (decoded net rows distances) k)
+    (v ≤ n) × (length best ≡ 64) × ((k : ℕ) → k < v → OwnClient (decoded net rows distances) k (getD best k 0))
 
 abbrev μ-loop : tie.MeasureT-loop
 μ-loop net rows distances n best₀ v₀ best v = n - v
@@ -26,8 +26,8 @@ loop-again c =
       omega arith,
       length-set (l .best) _ _ ∙ l .inv .1,
       below-more _ (l .v)
-          (λ k h. ap asRouter (getD-set-other (l .best) (l .v) k _ 0 (omega arith)) ∙ l .inv .2 k h)
-          (ap asRouter (getD-set-same (l .best) (l .v) _ 0 (omega (arith, l .inv .1))) ∙ c .best-client .ensures),
+          (λ k h r. ap asRouter (getD-set-other (l .best) (l .v) k _ 0 (omega arith)) ∙ l .inv .2 k h r)
+          (λ r. ap asRouter (getD-set-same (l .best) (l .v) _ 0 (omega (arith, l .inv .1))) ∙ c .own-client .ensures r),
     )
 
 returns : tie.Need-returns Inv-loop μ-loop

@@ -36,8 +36,9 @@ returns-2 c =
 offer-is : (c : tie.After-offered)
     → let d = c .before .before .before .before .before .before .before in asRouter (c .offered .result) ≡ offer (instance d) (d .args .v)
 offer-is c =
-    let d = c .before .before .before .before .before .before .before in
-    c .offered .ensures (d .args .rows .now) (d .args .distances .now) (d .pre .4)
+    let e = c .before .before .before .before in
+    let d = e .before .before .before in
+    c .offered .ensures (d .args .rows .now) (d .args .distances .now) (d .pre .4 (yes _ (e .before .has-bit .ensures) (e .if1 .left)))
 
 better-offer-requires : tie.Need-better-offer-requires
 better-offer-requires c κs =
