@@ -96,4 +96,4 @@ EverySeriesSettles =
 abbrev pub EverySeriesGoesOn : Type 0
 EverySeriesGoesOn =
     (plan : List ℕ) (k : ℕ) (start : List ℕ) → Start plan k start → (calls : List Call) → ForThis plan k calls start
-    → tableChecks plan k (seriesBuffer calls start) ≡ 0
+    → tableChecks (instanceOf plan k) (seriesBuffer calls start) ≡ 0

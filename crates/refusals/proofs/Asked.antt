@@ -3,16 +3,20 @@ use Prim.Native.Nat.{ℕ, _*_, _≤_, _<_}
 use mathlib.Core.Path.{_≡_, refl, _∙_, sym, ap}
 use mathlib.Core.Bool.{Bool, true, false, _&&_}
 use mathlib.Core.List.{List}
-use borrow.Author.Tests.{ltb-true}
+use mathlib.Core.Logic.{⊎-elim}
+use borrow.Author.Tests.{ltb-true, leb-true}
 use lib.ListN.{length, getD}
 use Rattle.base.proofs.Below.{all-at}
-use Rattle.base.proofs.Numbers.{facts}
+use Rattle.base.proofs.Numbers.{facts, eq-or-ne}
 use Rattle.contents.specs.Header.{routerCount}
 use Rattle.plan.specs.EgressLists.{listCount}
 use Rattle.plan.specs.Refusal.{refuse, planChecks, planRefusal}
 use Rattle.plan.proofs.Cascade.{call-cascade, plan-passes, plan-of-passed, refuse-passed}
 use Rattle.plan.proofs.Passed.{passed}
-use Rattle.refusals.specs.Refusals.{hasList, hasRouter, sequenceOk, askedChecks, egressListRefusal, compareRefusal, reliesRefusal, buffersOk, verdictRefusal}
+use Rattle.routing.specs.Instance.{Instance}
+use Rattle.routing.specs.Activation.{tableOk}
+use Rattle.activation.specs.TableBytes.{tableOf}
+use Rattle.refusals.specs.Refusals.{hasList, hasRouter, sequenceOk, askedChecks, egressListRefusal, compareRefusal, reliesRefusal, buffersOk, verdictRefusal, tableChecks}
 
 module _ (plan : List ℕ) (h : planRefusal plan ≡ 0) where
   pub header-long : 26 ≤ length plan
@@ -44,6 +48,12 @@ module _ (plan : List ℕ) (ok : Bool) where
 
   pub more-passed : {x : Bool} (b : Bool) → x ≡ b → askedChecks plan ok 0 ≡ 0 → refuse b 8 0 ≡ askedChecks plan (ok && x) 0
   more-passed {x} b h z = ap (λ y. refuse y 8 0) (sym h) ∙ asked-passed (refuse x 8 0) z ∙ more x
+
+  pub more-asked : (x : Bool) (asked number : ℕ) → asked ≡ askedChecks plan ok 0
+      → (asked ≡ 0 → number ≡ refuse x 8 0) × ((asked ≡ 0 → ⊥) → number ≡ asked) → number ≡ askedChecks plan (ok && x) 0
+  more-asked x asked number e h =
+      ⊎-elim (λ (z : asked ≡ 0). h .0 z ∙ more-passed x refl (sym e ∙ z)) (λ (ne : asked ≡ 0 → ⊥). h .1 ne ∙ more-refused x asked e ne)
+      (eq-or-ne asked 0)
 
   -- the plan passes, and so do the call's numbers and the rest
   pub record Granted (rest : ℕ) : Type 0 where
@@ -147,3 +157,13 @@ verdict-asked plan k labels ranks table cycle h =
       tableLong = q .0 .1;
       cycleLong = q .1;
     }
+
+pub record TableAsked (I : Instance) (table : List ℕ) : Type 0 where
+  pub long : 2 * I .n ≤ length table
+  pub rule : tableOk I (tableOf table (I .n)) ≡ true
+
+pub table-asked : (I : Instance) (table : List ℕ) → tableChecks I table ≡ 0 → TableAsked I table
+unfolding tableChecks
+table-asked I table h =
+    let long = refuse-passed _ 8 _ h in
+    record { long = leb-true _ _ (long .0); rule = refuse-passed _ 9 0 (long .1) .0 }

@@ -1,22 +1,18 @@
 -- Every call's refusal is the number of the first row that fails.
-use Prim.Native.Nat.{ℕ, _*_}
-use mathlib.Core.Path.{_≡_}
+use Prim.Native.Nat.{ℕ}
 use mathlib.Core.Bool.{Bool, true, _&&_}
 use mathlib.Core.List.{List}
-use lib.Dec.{leb}
-use lib.ListN.{length}
 use Rattle.contents.specs.Header.{routerCount}
 use Rattle.plan.specs.Refusal.{refuse}
 use Rattle.plan.proofs.Cascade.{plan-passes, plan-refused}
-use Rattle.routing.specs.Activation.{tableOk}
+use Rattle.routing.specs.Instance.{Instance}
 use Rattle.network.specs.FromPlan.{instanceOf}
-use Rattle.activation.specs.TableBytes.{tableOf}
-use Rattle.refusals.specs.Refusals.{hasList, hasRouter, sequenceOk, askedChecks, egressListRefusal, compareRefusal, reliesRefusal, buffersOk, verdictRefusal, tableChecks, activateRefusal, runRefusal}
+use Rattle.refusals.specs.Refusals.{hasList, hasRouter, sequenceOk, askedChecks, egressListRefusal, compareRefusal, reliesRefusal, buffersOk, verdictRefusal, tableLong, tableRule, tableChecks, activateRefusal, runRefusal}
 use Rattle.refusals.specs.InOrder.{InOrder}
 
-in-order : (plan : List ℕ) (ok long kept : Bool) → InOrder plan ok long kept (askedChecks plan ok (refuse long 9 (refuse kept 10 0)))
+in-order : (plan : List ℕ) (ok long rule : Bool) → InOrder plan ok long rule (askedChecks plan ok (refuse long 9 (refuse rule 10 0)))
 unfolding refuse
-in-order plan ok long kept =
+in-order plan ok long rule =
     record {
       rows-1-to-7 = plan-refused plan _;
       row-8 = λ p a. rw (plan-passes plan _ p, a);
@@ -45,16 +41,15 @@ module _ (plan : List ℕ) where
 
   -- the two calls on a table
   module _ (k : ℕ) (table : List ℕ) where
-    abbrev long : Bool
-    long = leb (2 * routerCount plan) (length table)
+    abbrev I : Instance
+    I = instanceOf plan k
 
-    abbrev kept : Bool
-    kept = tableOk (instanceOf plan k) (tableOf table (routerCount plan))
-
-    pub activate-in-order : (w : ℕ) → InOrder plan (hasList plan k && hasRouter plan w) long kept (activateRefusal plan k w table)
+    pub activate-in-order : (w : ℕ)
+        → InOrder plan (hasList plan k && hasRouter plan w) (tableLong I table) (tableRule I table) (activateRefusal plan k w table)
     unfolding activateRefusal tableChecks
     activate-in-order w = in-order plan _ _ _
 
-    pub run-in-order : (acts : List ℕ) → InOrder plan (hasList plan k && sequenceOk acts (routerCount plan)) long kept (runRefusal plan k acts table)
+    pub run-in-order : (acts : List ℕ)
+        → InOrder plan (hasList plan k && sequenceOk acts (routerCount plan)) (tableLong I table) (tableRule I table) (runRefusal plan k acts table)
     unfolding runRefusal tableChecks
     run-in-order acts = in-order plan _ _ _

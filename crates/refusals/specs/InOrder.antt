@@ -1,14 +1,15 @@
--- Document 01, "Refusal table, in order of checking": the first row that fails decides.
+-- Document 01, "Refusal table, in order of checking": "The lowest number that applies is returned." "Checks 8, 9 and 10 stand only for calls
+-- that take such things": the others pass them.
 use Prim.Native.Nat.{ℕ}
 use mathlib.Core.Path.{_≡_}
 use mathlib.Core.Bool.{Bool, true, false}
 use mathlib.Core.List.{List}
 use Rattle.plan.specs.Refusal.{planRefusal}
 
--- `number` is the refusal of a call whose numbers are `ok`, whose buffers are `long` enough, and whose table is `kept` to its rule
-pub record InOrder (plan : List ℕ) (ok long kept : Bool) (number : ℕ) : Type 0 where
+-- `number` is the refusal of a call: whether its list and routers are `ok`, its buffers `long` enough, and its table obeys its `rule`
+pub record InOrder (plan : List ℕ) (ok long rule : Bool) (number : ℕ) : Type 0 where
   pub rows-1-to-7 : (planRefusal plan ≡ 0 → ⊥) → number ≡ planRefusal plan
   pub row-8 : planRefusal plan ≡ 0 → ok ≡ false → number ≡ 8
   pub row-9 : planRefusal plan ≡ 0 → ok ≡ true → long ≡ false → number ≡ 9
-  pub row-10 : planRefusal plan ≡ 0 → ok ≡ true → long ≡ true → kept ≡ false → number ≡ 10
-  pub none : planRefusal plan ≡ 0 → ok ≡ true → long ≡ true → kept ≡ true → number ≡ 0
+  pub row-10 : planRefusal plan ≡ 0 → ok ≡ true → long ≡ true → rule ≡ false → number ≡ 10
+  pub none : planRefusal plan ≡ 0 → ok ≡ true → long ≡ true → rule ≡ true → number ≡ 0

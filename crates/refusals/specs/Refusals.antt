@@ -8,6 +8,7 @@ use Rattle.base.specs.Below.{allBelow}
 use Rattle.contents.specs.Header.{routerCount}
 use Rattle.plan.specs.EgressLists.{listCount}
 use Rattle.plan.specs.Refusal.{refuse, planChecks}
+use Rattle.routing.specs.Instance.{Instance}
 use Rattle.routing.specs.Activation.{tableOk}
 use Rattle.network.specs.FromPlan.{instanceOf}
 use Rattle.activation.specs.TableBytes.{tableOf}
@@ -23,7 +24,7 @@ hasRouter plan w = ltb w (routerCount plan)
 unfoldable pub sequenceOk : List ℕ → ℕ → Bool
 sequenceOk acts n = allBelow (λ i. ltb (getD acts i 0) n) (length acts)
 
--- rows 1 to 8 of a call whose numbers are `ok`, before its other checks, which are `rest`
+-- rows 1 to 8 of a call whose list and routers are `ok`, before its other checks, which are `rest`
 abbrev pub askedChecks : List ℕ → Bool → ℕ → ℕ
 askedChecks plan ok rest = planChecks plan (refuse ok 8 rest)
 
@@ -47,15 +48,19 @@ unfoldable pub verdictRefusal : List ℕ → ℕ → List ℕ → List ℕ → L
 verdictRefusal plan k labels ranks table cycle =
     askedChecks plan (hasList plan k) (refuse (buffersOk (routerCount plan) labels ranks table cycle) 9 0)
 
--- Rows 9 and 10 of a call that takes a table: "An act or a run needs 2n bytes of table", "a held-route table breaks its rule".
-unfoldable pub tableChecks : List ℕ → ℕ → List ℕ → ℕ
-tableChecks plan k table =
-    refuse (leb (2 * routerCount plan) (length table)) 9
-    (refuse (tableOk (instanceOf plan k) (tableOf table (routerCount plan))) 10 0)
+-- Row 9: "An act or a run needs 2n bytes of table." Row 10: "a held-route table breaks its rule".
+abbrev pub tableLong : Instance → List ℕ → Bool
+tableLong I table = leb (2 * I .n) (length table)
+
+abbrev pub tableRule : Instance → List ℕ → Bool
+tableRule I table = tableOk I (tableOf table (I .n))
+
+unfoldable pub tableChecks : Instance → List ℕ → ℕ
+tableChecks I table = refuse (tableLong I table) 9 (refuse (tableRule I table) 10 0)
 
 unfoldable pub activateRefusal : List ℕ → ℕ → ℕ → List ℕ → ℕ
-activateRefusal plan k w table = askedChecks plan (hasList plan k && hasRouter plan w) (tableChecks plan k table)
+activateRefusal plan k w table = askedChecks plan (hasList plan k && hasRouter plan w) (tableChecks (instanceOf plan k) table)
 
 unfoldable pub runRefusal : List ℕ → ℕ → List ℕ → List ℕ → ℕ
 runRefusal plan k acts table =
-    askedChecks plan (hasList plan k && sequenceOk acts (routerCount plan)) (tableChecks plan k table)
+    askedChecks plan (hasList plan k && sequenceOk acts (routerCount plan)) (tableChecks (instanceOf plan k) table)

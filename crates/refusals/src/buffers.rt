@@ -1,16 +1,11 @@
-// Rows 9 and 10: the buffers that a call is lent, and the table that it is handed.
+// The refusals of calls that are lent buffers or handed a table: rows 9 and 10, after row 8.
 
 use network::Network;
 ghost use mathlib.Core.Path.{_≡_};
 ghost use mathlib.Core.List.{List};
 ghost use Prim.Native.Nat.{ℕ, _*_, _≤_};
-ghost use lib.Dec.{leb};
-ghost use lib.ListN.{length};
-ghost use Rattle.plan.specs.Refusal.{refuse};
-ghost use Rattle.routing.specs.Activation.{tableOk};
 ghost use Rattle.network.specs.Decoded.{decoded};
-ghost use Rattle.activation.specs.TableBytes.{tableOf};
-ghost use Rattle.refusals.specs.Refusals.{buffersOk, verdictRefusal};
+ghost use Rattle.refusals.specs.Refusals.{buffersOk, verdictRefusal, tableChecks};
 
 fn buffers_ok(n: usize, labels: &[u8], ranks: &[u8], table: &[u8], cycle: &[u8]) -> bool
     requires { ⌜ n ≤ 64 ⌝ }
@@ -28,6 +23,7 @@ fn buffers_ok(n: usize, labels: &[u8], ranks: &[u8], table: &[u8], cycle: &[u8])
     n <= cycle.len()
 }
 
+// Rows 1 to 9 of a verdict.
 pub fn verdict_refusal(
     plan: &[u8],
     list: usize,
@@ -51,7 +47,7 @@ pub fn verdict_refusal(
 // Rows 9 and 10 of a call that takes a table, whatever the distances.
 pub fn table_refusal(net: Network, rows: &[u64; 64], table: &[u8]) -> u8
     requires { ⌜ net .n ≤ 64 ⌝ }
-    ensures { λ r. ⌜ ((distances : List ℕ) → r ≡ refuse (leb (2 * net .n) (length (now (table .entry)))) 9 (refuse (tableOk (decoded net (now (rows .entry)) distances) (tableOf (now (table .entry)) (net .n))) 10 0)) ⌝ }
+    ensures { λ r. ⌜ ((distances : List ℕ) → r ≡ tableChecks (decoded net (now (rows .entry)) distances) (now (table .entry))) ⌝ }
 {
     if table.len() < 2 * net.n {
         return 9;

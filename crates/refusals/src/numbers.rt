@@ -1,11 +1,12 @@
-// Row 8: the lists and routers that a call asks for.
+// The refusals of a call by its list and routers: row 8, after the rows of the plan.
 
 ghost use mathlib.Core.Path.{_≡_};
-ghost use mathlib.Core.Bool.{Bool, _&&_};
+ghost use mathlib.Core.Bool.{_&&_};
 ghost use Rattle.contents.specs.Header.{routerCount};
-ghost use Rattle.plan.specs.Refusal.{planRefusal};
+ghost use Rattle.plan.specs.Refusal.{refuse, planRefusal};
 ghost use Rattle.refusals.specs.Refusals.{askedChecks, hasList, hasRouter, sequenceOk, egressListRefusal, compareRefusal, reliesRefusal};
 
+// Rows 1 to 8 of a call that asks for a list.
 pub fn list_refusal(plan: &[u8], list: usize) -> u8
     ensures { λ r. ⌜ r ≡ egressListRefusal (now (plan .entry)) list ⌝ }
 {
@@ -19,10 +20,10 @@ pub fn list_refusal(plan: &[u8], list: usize) -> u8
     0
 }
 
-// One router more; `refused` is what the checks before it gave.
+// One router more that is asked for; `refused` is what the checks before it gave.
 fn and_router(plan: &[u8], refused: u8, router: usize) -> u8
     requires { ⌜ (refused ≡ 0 → planRefusal (now plan) ≡ 0) ⌝ }
-    ensures { λ r. ⌜ ((ok : Bool) → refused ≡ askedChecks (now (plan .entry)) ok 0 → r ≡ askedChecks (now (plan .entry)) (ok && hasRouter (now (plan .entry)) router) 0) ⌝ }
+    ensures { λ r. ⌜ (refused ≡ 0 → r ≡ refuse (hasRouter (now (plan .entry)) router) 8 0) × ((refused ≡ 0 → ⊥) → r ≡ refused) ⌝ }
 {
     if refused != 0 {
         return refused;
@@ -34,6 +35,7 @@ fn and_router(plan: &[u8], refused: u8, router: usize) -> u8
     0
 }
 
+// Rows 1 to 8 of a comparison.
 pub fn compare_refusal(plan: &[u8], router: usize, first: usize, second: usize) -> u8
     ensures { λ r. ⌜ r ≡ compareRefusal (now (plan .entry)) router first second ⌝ }
 {
@@ -42,13 +44,14 @@ pub fn compare_refusal(plan: &[u8], router: usize, first: usize, second: usize) 
     and_router(plan, with_first, second)
 }
 
-// Rows 1 to 8 of an activation.
+// Rows 1 to 8 of a call that asks for a list and a router.
 pub fn router_refusal(plan: &[u8], list: usize, router: usize) -> u8
     ensures { λ r. ⌜ r ≡ askedChecks (now (plan .entry)) (hasList (now (plan .entry)) list && hasRouter (now (plan .entry)) router) 0 ⌝ }
 {
     and_router(plan, list_refusal(plan, list), router)
 }
 
+// Rows 1 to 8 of a question on reliance.
 pub fn relies_refusal(plan: &[u8], list: usize, router: usize, other: usize) -> u8
     ensures { λ r. ⌜ r ≡ reliesRefusal (now (plan .entry)) list router other ⌝ }
 {

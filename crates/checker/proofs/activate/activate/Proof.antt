@@ -5,11 +5,11 @@ use lib.Dec.{lit<}
 use denote.Ref.{now}
 use Rattle.contents.specs.Contents.{distancesBody}
 use Rattle.network.specs.Decoded.{decoded}
+use Rattle.network.specs.FromPlan.{instanceOf}
 use Rattle.network.proofs.FromPlan.{well-formed}
 use Rattle.activation.specs.TableBytes.{activateBytes}
 use Rattle.refusals.specs.Refusals.{hasList, hasRouter, askedChecks, tableChecks, activateRefusal}
-use Rattle.refusals.proofs.Asked.{asked-refused, asked-passed, RouterAsked, router-asked}
-use Rattle.refusals.proofs.Tables.{table-checks, table-passes}
+use Rattle.refusals.proofs.Asked.{asked-refused, asked-passed, RouterAsked, router-asked, table-asked}
 use Rattle.checker.proofs.Acting.{activates-not, activates-so}
 use Rattle.checker.proofs.activate.activate.Statement.{statement}
 use Rattle.checker.proofs.activate.activate.Tie as tie
@@ -36,8 +36,8 @@ number-is c =
     let a = entry (guard c) .args in
     let plan = a .plan .now in
     c .table-refusal .ensures (distancesBody plan)
-    ∙ table-checks plan (a .list) _ _ (a .table .now) (c .before .before .before .decode .ensures)
-    ∙ asked-passed plan _ (tableChecks plan (a .list) (a .table .now)) (given (guard c))
+    ∙ ap (λ I. tableChecks I (a .table .now)) (c .before .before .before .decode .ensures .same)
+    ∙ asked-passed plan _ (tableChecks (instanceOf plan (a .list)) (a .table .now)) (given (guard c))
 
 returns : tie.Need-returns
 unfolding activateRefusal
@@ -53,10 +53,10 @@ activate-requires c κs =
     let read = e .decode .ensures in
     let part = now (c .before .part .result) in
     let t =
-    table-passes (a .plan .now) (a .list) (e .decode .result) (e .decode .last .1 .1 .0) (a .table .now) part
+    table-asked (decoded (e .decode .result) (e .decode .last .1 .1 .0) part) (a .table .now)
     (sym (d .before .table-refusal .ensures part) ∙ d .if2 .left)
     in
-    (rw (c .before .part .ensures) (well-formed _ _ _ _ (q .planOk) (q .list) read), rw (read .count) (q .router), t .0, t .1)
+    (rw (c .before .part .ensures) (well-formed _ _ _ _ (q .planOk) (q .list) read), rw (read .count) (q .router), t .long, t .rule)
 
 returns-3 : tie.Need-returns-3
 returns-3 c =

@@ -1,14 +1,15 @@
-use mathlib.Core.Path.{_≡_, refl, _∙_, sym}
+use mathlib.Core.Path.{_≡_, refl, _∙_, sym, ap}
 use mathlib.Core.Bool.{_&&_}
 use borrow.Author.Needs.{needs}
 use lib.Dec.{lit<}
 use denote.Ref.{now}
 use Rattle.contents.specs.Header.{routerCount}
 use Rattle.contents.specs.Contents.{distancesBody}
+use Rattle.network.specs.Decoded.{decoded}
+use Rattle.network.specs.FromPlan.{instanceOf}
 use Rattle.network.proofs.FromPlan.{well-formed}
 use Rattle.refusals.specs.Refusals.{hasList, sequenceOk, askedChecks, tableChecks, runRefusal}
-use Rattle.refusals.proofs.Asked.{asked-refused, asked-passed, SequenceAsked, sequence-asked}
-use Rattle.refusals.proofs.Tables.{table-checks, table-passes}
+use Rattle.refusals.proofs.Asked.{asked-refused, asked-passed, SequenceAsked, sequence-asked, table-asked}
 use Rattle.checker.proofs.Sequences.{runs-not, runs-so}
 use Rattle.checker.proofs.run.run.Statement.{statement}
 use Rattle.checker.proofs.run.run.Tie as tie
@@ -35,8 +36,8 @@ number-is c =
     let a = entry (guard c) .args in
     let plan = a .plan .now in
     c .table-refusal .ensures (distancesBody plan)
-    ∙ table-checks plan (a .list) _ _ (a .table .now) (c .before .before .before .decode .ensures)
-    ∙ asked-passed plan _ (tableChecks plan (a .list) (a .table .now)) (given (guard c))
+    ∙ ap (λ I. tableChecks I (a .table .now)) (c .before .before .before .decode .ensures .same)
+    ∙ asked-passed plan _ (tableChecks (instanceOf plan (a .list)) (a .table .now)) (given (guard c))
 
 returns : tie.Need-returns
 unfolding runRefusal
@@ -58,13 +59,13 @@ apply-requires c κs =
     let read = e .decode .ensures in
     let part = now (c .before .part .result) in
     let t =
-    table-passes (a .plan .now) (a .list) (e .decode .result) (e .decode .last .1 .1 .0) (a .table .now) part
+    table-asked (decoded (e .decode .result) (e .decode .last .1 .1 .0) part) (a .table .now)
     (sym (d .before .table-refusal .ensures part) ∙ d .if2 .left)
     in (
       rw (c .before .part .ensures) (well-formed _ _ _ _ (q .planOk) (q .list) read),
       rw (read .count) (q .some),
-      t .0,
-      t .1,
+      t .long,
+      t .rule,
       λ i l. rw (read .count) (q .routers i l),
     )
 

@@ -1,22 +1,21 @@
 use native.Mathlib.Omega.{arith}
-use mathlib.Core.Path.{_∙_, sym}
-use mathlib.Core.Bool.{true, false}
+use mathlib.Core.Path.{refl}
 use borrow.Author.Tests.{lt-ltb, le-ltb}
 use Rattle.plan.specs.Refusal.{refuse}
-use Rattle.refusals.proofs.Asked.{header-long, few-routers, more-refused, more-passed}
+use Rattle.refusals.proofs.Asked.{header-long, few-routers}
 use Rattle.refusals.proofs.numbers.and_router.Statement.{statement}
 use Rattle.refusals.proofs.numbers.and_router.Tie as tie
 
 returns : tie.Need-returns
-returns c ok e = more-refused _ ok _ _ e (c .if1 .taken)
+returns c = (λ z. absurd (c .if1 .taken z), λ ne. refl)
 
 returns-2 : tie.Need-returns-2
 unfolding refuse
-returns-2 c ok e = more-passed _ ok false (le-ltb _ _ (c .if2 .taken)) (sym e ∙ c .before .before .if1 .left)
+returns-2 c = (λ z. rw (le-ltb _ _ (c .if2 .taken)), λ ne. absurd (ne (c .before .before .if1 .left)))
 
 returns-3 : tie.Need-returns-3
 unfolding refuse
-returns-3 c ok e = more-passed _ ok true (lt-ltb _ _ (c .if2 .left)) (sym e ∙ c .before .before .if1 .left)
+returns-3 c = (λ z. rw (lt-ltb _ _ (c .if2 .left)), λ ne. absurd (ne (c .before .before .if1 .left)))
 
 pub and-router-spec : {M : Type 1} → statement M
 and-router-spec =

@@ -5,6 +5,7 @@ use borrow.Author.Needs.{needs}
 use Rattle.plan.specs.Refusal.{refuse, planRefusal}
 use Rattle.plan.proofs.Cascade.{plan-of-passed}
 use Rattle.refusals.specs.Refusals.{hasRouter, askedChecks, compareRefusal}
+use Rattle.refusals.proofs.Asked.{more-asked}
 use Rattle.refusals.proofs.numbers.compare_refusal.Statement.{statement}
 use Rattle.refusals.proofs.numbers.compare_refusal.Tie as tie
 
@@ -21,16 +22,16 @@ start c = c .before .before .before
 -- what the first check gives, and the first two
 at : (c : tie.After-and-router) → let s = start c in c .and-router .result ≡ checks s (ok s (s .args .router))
 unfolding planRefusal refuse
-at c = c .and-router .ensures true (c .before .refusal .ensures)
+at c = let s = start c in more-asked (s .args .plan .now) true (ok s (s .args .router)) _ _ (c .before .refusal .ensures) (c .and-router .ensures)
 
 with-first : (c : tie.After-and-router2) → let s = start (c .before) in c .and-router2 .result ≡ checks s (ok s (s .args .router) && ok s (s .args .first))
-with-first c = let s = start (c .before) in c .and-router2 .ensures (ok s (s .args .router)) (at (c .before))
+with-first c = let s = start (c .before) in more-asked (s .args .plan .now) (ok s (s .args .router)) _ _ _ (at (c .before)) (c .and-router2 .ensures)
 
 returns : tie.Need-returns
 unfolding compareRefusal
 returns c =
     let s = start (c .before .before) in
-    c .and-router3 .ensures (ok s (s .args .router) && ok s (s .args .first)) (with-first (c .before))
+    more-asked (s .args .plan .now) (ok s (s .args .router) && ok s (s .args .first)) _ _ _ (with-first (c .before)) (c .and-router3 .ensures)
 
 pub compare-refusal-spec : {M : Type 1} → statement M
 compare-refusal-spec =

@@ -2,7 +2,7 @@ use mathlib.Core.Path.{_∙_, sym}
 use mathlib.Core.Bool.{_&&_}
 use borrow.Author.Needs.{needs}
 use Rattle.refusals.specs.Refusals.{hasList, hasRouter, reliesRefusal}
-use Rattle.refusals.proofs.Asked.{router-asked}
+use Rattle.refusals.proofs.Asked.{more-asked, router-asked}
 use Rattle.refusals.proofs.numbers.relies_refusal.Statement.{statement}
 use Rattle.refusals.proofs.numbers.relies_refusal.Tie as tie
 
@@ -10,7 +10,7 @@ returns : tie.Need-returns
 unfolding reliesRefusal
 returns c =
     let a = c .before .before .before .args in
-    c .and-router .ensures (hasList (a .plan .now) (a .list) && hasRouter (a .plan .now) (a .router)) (c .before .router-refusal .ensures)
+    more-asked (a .plan .now) (hasList (a .plan .now) (a .list) && hasRouter (a .plan .now) (a .router)) _ _ _ (c .before .router-refusal .ensures) (c .and-router .ensures)
 
 pub relies-refusal-spec : {M : Type 1} → statement M
 relies-refusal-spec =

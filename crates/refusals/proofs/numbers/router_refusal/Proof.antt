@@ -1,7 +1,7 @@
 use mathlib.Core.Path.{_∙_, sym}
 use borrow.Author.Needs.{needs}
 use Rattle.refusals.specs.Refusals.{hasList, egressListRefusal}
-use Rattle.refusals.proofs.Asked.{list-asked}
+use Rattle.refusals.proofs.Asked.{more-asked, list-asked}
 use Rattle.refusals.proofs.numbers.router_refusal.Statement.{statement}
 use Rattle.refusals.proofs.numbers.router_refusal.Tie as tie
 
@@ -9,7 +9,7 @@ returns : tie.Need-returns
 unfolding egressListRefusal
 returns c =
     let a = c .before .before .before .args in
-    c .and-router .ensures (hasList (a .plan .now) (a .list)) (c .before .list-refusal .ensures)
+    more-asked (a .plan .now) (hasList (a .plan .now) (a .list)) _ _ _ (c .before .list-refusal .ensures) (c .and-router .ensures)
 
 pub router-refusal-spec : {M : Type 1} → statement M
 router-refusal-spec =
