@@ -41,13 +41,6 @@ module _ (e s : ℕ) where
       go true p false q = (cc, cc)
       go false p b q = (cc, cc)
 
--- different bytes are different routes
-pub read-injective : (e s f r : ℕ) → readRoute e s ≡ readRoute f r → (e ≡ f) × (s ≡ r)
-read-injective e s f r h = (
-  sym (read-bytes e s .0) ∙ ap egressByte h ∙ read-bytes f r .0,
-  sym (read-bytes e s .1) ∙ ap senderByte h ∙ read-bytes f r .1,
-)
-
 -- a route that its two bytes give back
 abbrev pub Written : Route → Type 0
 Written x = readRoute (egressByte x) (senderByte x) ≡ x

@@ -1,7 +1,6 @@
 -- What a run of a sequence with a limit leaves (document 01, "A run applies a sequence of acts, at most a given limit of them").
 use Prim.Native.Nat.{ℕ, min}
 use mathlib.Core.Path.{_≡_}
-use mathlib.Core.Bool.{Bool}
 use mathlib.Core.List.{List}
 use lib.Dec.{ltb}
 use lib.ListN.{length, take}

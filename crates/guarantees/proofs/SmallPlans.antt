@@ -1,5 +1,5 @@
 -- The small plans of document 01, worked out from the definitions that the contracts cite.
-use mathlib.Core.Path.{_≡_, refl}
+use mathlib.Core.Path.{refl}
 use mathlib.Core.List.{flatMap}
 use Rattle.base.specs.Below.{allBelow, anyBelow}
 use Rattle.base.specs.Best.{keepBest, best}

@@ -48,7 +48,7 @@ compose {first} {more} f g =
     opens : first (more 0) ≡ 0 → first 0 ≡ 0
     opens e = ⊎-elim (λ z. z) (λ (z : first 0 ≡ 0 → ⊥). sym (f .refused z _) ∙ e) (eq-or-ne (first 0) 0)
 
--- the plan's checks and row 8, before those of a table
+-- the plan's checks and row 8, before a call's later checks
 pub call-cascade : (plan : List ℕ) (ok : Bool) → Cascade (λ rest. planChecks plan (refuse ok 8 rest))
 call-cascade plan ok = compose (plan-cascade plan) (one-more ok 7 no-checks)
 

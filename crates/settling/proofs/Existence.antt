@@ -4,11 +4,11 @@ use native.Mathlib.Omega.{arith}
 use mathlib.Core.Path.{_≡_, refl, _∙_, sym, ap}
 use mathlib.Core.Bool.{true}
 use mathlib.Core.List.{List, [], _∷_}
-use mathlib.Core.Logic.{_⊎_, inl, inr, ⊎-elim}
-use lib.ListN.{length, getD, set, length-append, length-replicate, List·getD-append}
-use lib.Seq.{getD-at, set-getD}
+use mathlib.Core.Logic.{_⊎_, inl, inr}
+use lib.ListN.{length, set, length-replicate}
+use lib.Seq.{set-getD}
 use Rattle.base.proofs.Below.{all-intro}
-use Rattle.base.proofs.Numbers.{eq-or-ne, lt-or-le}
+use Rattle.base.proofs.Numbers.{lt-or-le}
 use Rattle.base.proofs.Tab.{length-tab, getD-tab}
 use Rattle.routing.specs.Instance.{Instance, Route, nothing}
 use Rattle.routing.specs.Reliance.{relies}

@@ -1,4 +1,3 @@
-use mathlib.Core.Path.{_≡_, _∙_, sym}
 use borrow.Author.Needs.{needs}
 use Rattle.base.proofs.Numbers.{no, not-both}
 use Rattle.reliance.proofs.reliances.own_client.Statement.{statement}
