@@ -77,6 +77,7 @@ second() {
 }
 
 mkdir -p "$out"
+rm -f "$out/verdicts" "$out/stack"
 try "the library" rt staticlib capi
 try "the C example" gcc -std=c11 -Wall -Wextra -Werror -O2 -Iinclude examples/verdicts.c -L"$archive" -lcapi -o "$out/verdicts"
 try "the C example's verdicts" writes examples/m3.verdicts "$out/verdicts" examples/m3.plan
