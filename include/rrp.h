@@ -24,8 +24,11 @@
  * 255 255 is none. A router of the list holds its own route: its number twice. To start from nothing, put those in and
  * 255 255 everywhere else.
  *
- * Pointers are not null, even with a length of 0. The buffers and result variables of one call do not overlap each other or the
- * plan. The library keeps nothing between calls and allocates nothing, so calls may run at once in several threads. */
+ * Routers are activated one at a time. A round ends as soon as every router has been activated since the last one ended.
+ *
+ * Pointers are not null, even with a length of 0. The plan, the sequence, the buffers and the result variables of one call do not
+ * overlap one another. The library is built for a 64-bit machine: a size_t has 64 bits. It keeps nothing between calls and
+ * allocates nothing, so calls may run at once in several threads. */
 #ifndef RRP_H
 #define RRP_H
 
@@ -67,8 +70,8 @@ uint8_t rrp_verdict(const uint8_t *plan, size_t plan_len, size_t list, uint8_t *
 uint8_t rrp_activate(const uint8_t *plan, size_t plan_len, size_t list, size_t router, uint8_t *table, size_t table_len);
 
 /* Activates the routers of a sequence, one byte each, in order, at most limit of them, in the table's 2n bytes. *applied is the
- * number of activations made, *rounds how many times every router had its turn among them, and *exhausted 1 if the limit stopped
- * the sequence before its end, else 0. Refusals 1 to 10. */
+ * number of activations made, *rounds the number of rounds that ended among them (with two routers, 0 0 1 1 makes one round), and
+ * *exhausted 1 if the limit stopped the sequence before its end, else 0. Refusals 1 to 10. */
 uint8_t rrp_run(const uint8_t *plan, size_t plan_len, size_t list, const uint8_t *sequence, size_t sequence_len, uint64_t limit,
                 uint8_t *table, size_t table_len, uint64_t *applied, uint64_t *rounds, uint8_t *exhausted);
 

@@ -1,5 +1,6 @@
 #!/usr/bin/env bash
-# Builds the library for C and runs what embeds it: the C example, and the second checker held against the library.
+# Builds the library for C and runs what embeds it: the C example, the second checker held against the library, the program that measures the stack.
+# Also holds the plain checker (the yardstick of the bench) and the verdict program against the second checker, and builds the bench.
 # usage: tests/run-embedding.sh [SEED]        (needs rt, gcc and cargo)
 set -uo pipefail
 cd "$(dirname "$0")/.."
@@ -57,19 +58,36 @@ verdict_agrees() {
     [ "$count" -gt 0 ]
 }
 
-# `second` with the words given, linked with the library.
-second() {
+# No call is refused, and so none goes unmeasured, on the plan with the highest rank.
+measures_deepest() {
+    second plan deepest >"$out/deepest.plan" && "$out/stack" "$out/deepest.plan"
+}
+
+# A cargo command on the second checker, linked with the library.
+linked() {
+    local command=$1
+    shift
     RRP_LIB_DIR=$PWD/$archive RRP_LIB_NAME=capi CARGO_TARGET_DIR=$PWD/$out/second \
-        cargo run --quiet --release --offline --features library --manifest-path tests/second/Cargo.toml --bin second -- "$@"
+        cargo "$command" --quiet --release --offline --features library --manifest-path tests/second/Cargo.toml "$@"
+}
+
+# `second` with the words given.
+second() {
+    linked run --bin second -- "$@"
 }
 
 mkdir -p "$out"
+rm -f "$out/verdicts" "$out/stack"
 try "the library" rt staticlib capi
 try "the C example" gcc -std=c11 -Wall -Wextra -Werror -O2 -Iinclude examples/verdicts.c -L"$archive" -lcapi -o "$out/verdicts"
 try "the C example's verdicts" writes examples/m3.verdicts "$out/verdicts" examples/m3.plan
 try "the C example's refusal" refuses_cut_plan
 try "the second checker alone" second self
 try "the library against the second checker" second --seed "$seed" --plans "$plans"
+try "the plain checker against the second checker" second --against plain --seed "$seed" --plans 2000
+try "the bench program" linked build --bin bench
+try "the stack program" gcc -std=gnu11 -Wall -Wextra -Werror -O2 -Iinclude tests/stack.c -L"$archive" -lcapi -o "$out/stack"
+try "the stack of each call on the deepest plan" measures_deepest
 
 try "the verdict program" rt check verdict
 try "the verdict program's refusals" verdict_refuses

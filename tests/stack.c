@@ -1,55 +1,116 @@
-/* Measures the stack that each call of the library uses on a plan: the call runs on a stack of its own that was filled with a pattern.
- * usage: stack PLAN        Prints a line a call, in bytes. */
+/* Measures the stack that each call of the library uses on a plan and its list 0. A call runs on a stack of its own that was filled with a
+ * pattern; what it uses is all from the first changed byte to the caller's frame, its return address and the arguments handed over on the stack
+ * included. Each call is made for every router of the plan, and the most is printed.
+ * usage: stack PLAN        Prints a line for the verdict found, then one a call, in bytes. Fails if a call is refused. */
 #include <stdio.h>
 #include <stdlib.h>
 #include <string.h>
 #include <ucontext.h>
 #include "rrp.h"
 
-enum { STACK = 1 << 20, PATTERN = 0xa5, LONGEST = 16732, ROUTERS = 64, ACTS = 1000 };
+enum { STACK = 1 << 16, PATTERN = 0xa5, NOTHING = 255, LONGEST = 16731, ROUTERS = 64, ACTS = 1000 };
 
-static unsigned char stack[STACK], plan[LONGEST], labels[ROUTERS], ranks[ROUTERS], table[2 * ROUTERS], cycle[ROUTERS], acts[ACTS];
-static size_t size;
+static unsigned char stack[STACK];
 static ucontext_t caller, callee;
 
+/* One byte more than the longest plan, so that a longer file is refused and not cut. */
+static uint8_t plan[LONGEST + 1];
+static size_t size, router, other;
+static uint8_t labels[ROUTERS], ranks[ROUTERS], settled[2 * ROUTERS], cycle[ROUTERS], table[2 * ROUTERS], acts[ACTS];
+static uint8_t refused, better, relied, stable, exhausted;
+static uint64_t start, count, found, applied, rounds;
+
 static void nothing(void) {}
-static void check(void) { rrp_check(plan, size); }
-static void verdict(void) {
-    uint8_t stable;
-    uint64_t count;
-    rrp_verdict(plan, size, 0, labels, ROUTERS, ranks, ROUTERS, table, 2 * ROUTERS, cycle, ROUTERS, &stable, &count);
+static void check(void) { refused = rrp_check(plan, size); }
+static void list(void) { refused = rrp_list(plan, size, 0, &start, &count); }
+static void compare(void) { refused = rrp_compare(plan, size, router, router, other, &better); }
+static void relies(void) { refused = rrp_relies(plan, size, 0, router, other, &relied); }
+static void verdict(void)
+{
+    refused = rrp_verdict(plan, size, 0, labels, sizeof labels, ranks, sizeof ranks, settled, sizeof settled, cycle, sizeof cycle, &stable, &found);
 }
-static void activate(void) { rrp_activate(plan, size, 0, 0, table, 2 * ROUTERS); }
-static void run(void) {
-    uint64_t applied, rounds;
-    uint8_t exhausted;
-    rrp_run(plan, size, 0, acts, ACTS, ACTS, table, 2 * ROUTERS, &applied, &rounds, &exhausted);
+static void activate(void) { refused = rrp_activate(plan, size, 0, router, table, sizeof table); }
+static void run(void) { refused = rrp_run(plan, size, 0, acts, ACTS, ACTS, table, sizeof table, &applied, &rounds, &exhausted); }
+
+static const struct {
+    const char *name;
+    void (*make)(void);
+} calls[] = {
+    { "rrp_check", check },       { "rrp_list", list },         { "rrp_compare", compare }, { "rrp_relies", relies },
+    { "rrp_verdict", verdict },   { "rrp_activate", activate }, { "rrp_run", run },
+};
+
+/* Ends the program if the last call was refused. */
+static void accept(const char *name)
+{
+    if (refused == 0)
+        return;
+    fprintf(stderr, "stack: %s was refused with %u\n", name, (unsigned)refused);
+    exit(1);
 }
 
-/* The bytes of the stack that a call leaves changed, from the first changed one to the top. */
-static size_t used(void (*call)(void)) {
+/* The bytes of the stack from the first one that a call changed to the top. */
+static size_t used(void (*make)(void))
+{
     memset(stack, PATTERN, STACK);
     getcontext(&callee);
     callee.uc_stack.ss_sp = stack;
     callee.uc_stack.ss_size = STACK;
     callee.uc_link = &caller;
-    makecontext(&callee, call, 0);
+    makecontext(&callee, make, 0);
     swapcontext(&caller, &callee);
     size_t at = 0;
-    while (at < STACK && stack[at] == PATTERN) at++;
+    while (at < STACK && stack[at] == PATTERN)
+        at++;
     return STACK - at;
 }
 
-int main(int argc, char **argv) {
-    FILE *file = argc == 2 ? fopen(argv[1], "rb") : NULL;
-    if (!file) return fprintf(stderr, "usage: stack PLAN\n"), 1;
-    size = fread(plan, 1, LONGEST, file);
+/* The most that a call uses, over all routers, beyond what an empty function uses. */
+static size_t most(const char *name, void (*make)(void), size_t routers)
+{
+    size_t highest = 0, none = used(nothing);
+    for (router = 0; router < routers; router++) {
+        other = (router + 1) % routers;
+        size_t bytes = used(make);
+        accept(name);
+        if (bytes > highest)
+            highest = bytes;
+    }
+    return highest - none;
+}
+
+/* The table in which the listed routers hold their own routes and the others nothing. */
+static void start_table(void)
+{
+    memset(table, NOTHING, sizeof table);
+    for (uint64_t at = start; at < start + count; at++)
+        table[2 * plan[at]] = table[2 * plan[at] + 1] = plan[at];
+}
+
+int main(int words, char **word)
+{
+    FILE *file = words == 2 ? fopen(word[1], "rb") : NULL;
+    if (file == NULL) {
+        fprintf(stderr, "usage: stack PLAN\n");
+        return 2;
+    }
+    size = fread(plan, 1, sizeof plan, file);
     fclose(file);
-    for (int i = 0; i < ACTS; i++) acts[i] = (unsigned char)(i % (size > 4 && plan[4] ? plan[4] : 1));
-    size_t none = used(nothing);
-    printf("check %zu\n", used(check) - none);
-    printf("verdict %zu\n", used(verdict) - none);
-    printf("activate %zu\n", used(activate) - none);
-    printf("run %zu\n", used(run) - none);
+
+    list();
+    accept("rrp_list");
+    start_table();
+    size_t routers = plan[4];
+    for (size_t i = 0; i < ACTS; i++)
+        acts[i] = (uint8_t)(i % routers);
+    /* Each call once unmeasured: what the program's loader does at a first call is no part of it. */
+    for (size_t i = 0; i < sizeof calls / sizeof calls[0]; i++) {
+        calls[i].make();
+        accept(calls[i].name);
+    }
+    start_table();
+    printf("%zu bytes, %zu routers, list 0 %s %llu\n", size, routers, stable ? "stable" : "suspect", (unsigned long long)found);
+    for (size_t i = 0; i < sizeof calls / sizeof calls[0]; i++)
+        printf("%s %zu\n", calls[i].name, most(calls[i].name, calls[i].make, routers));
     return 0;
 }

@@ -1,7 +1,7 @@
 //! Links the proved library when the feature `library` is on.
 //!
 //! RRP_LIB_DIR   the folder that holds the static library (needed)
-//! RRP_LIB_NAME  its name without `lib` and `.a` (default `rrp`)
+//! RRP_LIB_NAME  its name without `lib` and `.a` (default `capi`)
 //! RRP_LIB_MORE  further libraries it needs, parted by commas (default none)
 
 use std::env;
@@ -15,7 +15,7 @@ fn main() {
         return;
     }
     let folder = env::var("RRP_LIB_DIR").expect("RRP_LIB_DIR names the folder of the static library");
-    let name = env::var("RRP_LIB_NAME").unwrap_or_else(|_| "rrp".to_string());
+    let name = env::var("RRP_LIB_NAME").unwrap_or_else(|_| "capi".to_string());
     println!("cargo:rustc-link-search=native={folder}");
     println!("cargo:rustc-link-lib=static={name}");
     println!("cargo:rerun-if-changed={folder}/lib{name}.a");

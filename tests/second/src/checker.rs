@@ -9,6 +9,26 @@ pub struct VerdictBuffers<'a> {
     pub cycle: &'a mut [u8],
 }
 
+/// A result variable of one byte between known bytes, so that a write wider
+/// than a byte is seen.
+#[derive(Clone, Copy)]
+#[repr(C)]
+pub struct Flag {
+    before: [u8; 8],
+    pub value: u8,
+    pub after: [u8; 15],
+}
+
+impl Flag {
+    pub fn new(value: u8) -> Self {
+        Flag { before: [0xA5; 8], value, after: [0x5A; 15] }
+    }
+
+    fn is_whole(&self) -> bool {
+        self.before == [0xA5; 8] && self.after == [0x5A; 15]
+    }
+}
+
 #[derive(Clone, Copy)]
 pub struct ListFields {
     pub start: u64,
@@ -17,7 +37,7 @@ pub struct ListFields {
 
 #[derive(Clone, Copy)]
 pub struct VerdictFields {
-    pub stable: u8,
+    pub stable: Flag,
     pub size: u64,
 }
 
@@ -25,7 +45,7 @@ pub struct VerdictFields {
 pub struct RunFields {
     pub applied: u64,
     pub rounds: u64,
-    pub exhausted: u8,
+    pub exhausted: Flag,
 }
 
 /// Each call returns its refusal number, 0 for none. A refused call leaves
@@ -97,14 +117,24 @@ pub struct Answer {
     pub fields: Vec<u64>,
     /// Every byte of every lent buffer after the call.
     pub buffers: Vec<Vec<u8>>,
-    /// The bytes before and after each buffer, the plan and the sequence are
-    /// as they were.
+    /// The bytes before and after each buffer and each result variable of one
+    /// byte, the plan and the sequence are as they were.
     pub surroundings_kept: bool,
 }
 
 impl Answer {
     fn new(refusal: u8, fields: Vec<u64>) -> Self {
         Answer { refusal, fields, buffers: Vec::new(), surroundings_kept: true }
+    }
+
+    /// An answer with one result variable of one byte.
+    fn of(refusal: u8, result: Flag) -> Self {
+        Answer::new(refusal, vec![u64::from(result.value)]).beside(result)
+    }
+
+    fn beside(mut self, result: Flag) -> Self {
+        self.surroundings_kept &= result.is_whole();
+        self
     }
 
     fn with(mut self, buffers: &[Guarded]) -> Self {
@@ -153,14 +183,14 @@ pub fn perform(checker: &mut dyn Checker, plan: &[u8], call: &Call, prior: u64) 
             Answer::new(refusal, vec![fields.start, fields.count])
         }
         Call::Compare { router, first, second } => {
-            let mut better = prior as u8;
-            let refusal = checker.compare(&lent_plan, *router, (*first, *second), &mut better);
-            Answer::new(refusal, vec![u64::from(better)])
+            let mut better = Flag::new(prior as u8);
+            let refusal = checker.compare(&lent_plan, *router, (*first, *second), &mut better.value);
+            Answer::of(refusal, better)
         }
         Call::Relies { list, router, other } => {
-            let mut relies = prior as u8;
-            let refusal = checker.relies(&lent_plan, *list, (*router, *other), &mut relies);
-            Answer::new(refusal, vec![u64::from(relies)])
+            let mut relies = Flag::new(prior as u8);
+            let refusal = checker.relies(&lent_plan, *list, (*router, *other), &mut relies.value);
+            Answer::of(refusal, relies)
         }
         Call::Verdict { list, buffers } => perform_verdict(checker, &lent_plan, *list, buffers, prior),
         Call::Activate { list, router, table } => {
@@ -184,21 +214,22 @@ fn perform_verdict(
     buffers: &[Vec<u8>; 4],
     prior: u64,
 ) -> Answer {
-    let mut fields = VerdictFields { stable: prior as u8, size: prior };
+    let mut fields = VerdictFields { stable: Flag::new(prior as u8), size: prior };
     let mut lent = buffers.each_ref().map(|buffer| Guarded::new(buffer));
     let [labels, ranks, table, cycle] = lent.each_mut().map(Guarded::lent);
     let refusal = checker.verdict(plan, list, VerdictBuffers { labels, ranks, table, cycle }, &mut fields);
-    Answer::new(refusal, vec![u64::from(fields.stable), fields.size]).with(&lent)
+    let results = vec![u64::from(fields.stable.value), fields.size];
+    Answer::new(refusal, results).with(&lent).beside(fields.stable)
 }
 
 fn perform_run(checker: &mut dyn Checker, plan: &[u8], list: usize, acts: Acts, table: &[u8], prior: u64) -> Answer {
     let lent_sequence = acts.sequence.to_vec();
-    let mut fields = RunFields { applied: prior, rounds: !prior, exhausted: prior as u8 };
+    let mut fields = RunFields { applied: prior, rounds: !prior, exhausted: Flag::new(prior as u8) };
     let mut lent = [Guarded::new(table)];
     let lent_acts = Acts { sequence: &lent_sequence, ..acts };
     let refusal = checker.run(plan, list, lent_acts, lent[0].lent(), &mut fields);
-    let results = vec![fields.applied, fields.rounds, u64::from(fields.exhausted)];
-    let mut answer = Answer::new(refusal, results).with(&lent);
+    let results = vec![fields.applied, fields.rounds, u64::from(fields.exhausted.value)];
+    let mut answer = Answer::new(refusal, results).with(&lent).beside(fields.exhausted);
     answer.surroundings_kept &= lent_sequence == acts.sequence;
     answer
 }

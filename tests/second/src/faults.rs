@@ -110,11 +110,12 @@ pub enum Slip {
     FieldsClearedOnRefusal,
     ByteAfterTheTable,
     ByteAfterTheCycle,
+    FlagWrittenAsAWord,
     SuspectToAll,
     LongPlanAccepted,
 }
 
-pub const SLIPS: [Slip; 13] = [
+pub const SLIPS: [Slip; 14] = [
     Slip::FirstActOnly,
     Slip::ActLeavesTable,
     Slip::ExhaustedAtTheLimit,
@@ -126,6 +127,7 @@ pub const SLIPS: [Slip; 13] = [
     Slip::FieldsClearedOnRefusal,
     Slip::ByteAfterTheTable,
     Slip::ByteAfterTheCycle,
+    Slip::FlagWrittenAsAWord,
     Slip::SuspectToAll,
     Slip::LongPlanAccepted,
 ];
@@ -175,10 +177,13 @@ impl Checker for Careless {
         let again = VerdictBuffers { labels, ranks, table, cycle: &mut *cycle };
         let refusal = self.inner.verdict(plan, list, again, fields);
         if refusal == 0 && self.is(Slip::SuspectToAll) {
-            fields.stable = 0;
+            fields.stable.value = 0;
+        }
+        if refusal == 0 && self.is(Slip::FlagWrittenAsAWord) {
+            fields.stable.after[..3].fill(0);
         }
         let after = fields.size as usize;
-        if refusal == 0 && fields.stable == 0 && self.is(Slip::ByteAfterTheCycle) && after < cycle.len() {
+        if refusal == 0 && fields.stable.value == 0 && self.is(Slip::ByteAfterTheCycle) && after < cycle.len() {
             cycle[after] = 255;
         }
         refusal
@@ -215,7 +220,7 @@ impl Checker for Careless {
             return refusal;
         }
         match self.slip {
-            Slip::ExhaustedAtTheLimit => fields.exhausted = u8::from(length >= acts.limit),
+            Slip::ExhaustedAtTheLimit => fields.exhausted.value = u8::from(length >= acts.limit),
             Slip::RoundsByDivision => fields.rounds = fields.applied / u64::from(plan[4]),
             _ => (),
         }

@@ -98,7 +98,7 @@ impl Checker for Library {
                 lent.table.len(),
                 lent.cycle.as_mut_ptr(),
                 lent.cycle.len(),
-                &mut fields.stable,
+                &mut fields.stable.value,
                 &mut fields.size,
             )
         }
@@ -123,7 +123,7 @@ impl Checker for Library {
                 table.len(),
                 &mut fields.applied,
                 &mut fields.rounds,
-                &mut fields.exhausted,
+                &mut fields.exhausted.value,
             )
         }
     }

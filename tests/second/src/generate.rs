@@ -89,6 +89,43 @@ pub fn largest(random: &mut Random) -> Draft {
     draft
 }
 
+/// A plan whose highest rank is 61, the highest that any plan can have, with
+/// the router of that rank first, so that all ranks below are still to be found.
+///
+/// Take a chain of reliances of length r >= 5, v(r) to v(0). No one relies on an
+/// unlisted client, and a listed router relies on none, so v(r-1) to v(1) are
+/// unlisted reflectors, and v(0) is listed: an unlisted reflector that relies on
+/// none offers nothing. Each of v(1) to v(r-2) is relied on by a reflector and
+/// so has a best client c(k), which is listed; c(k) outdoes c(k+1) at v(k+1), so
+/// neighbouring ones differ. c(1) and c(3) differ too, or v(2) and v(3) would
+/// rely on one another. Of three listed clients at least two are not on the
+/// chain: 62 of 64 routers at most are on it, and r is at most 61.
+pub fn deepest() -> Draft {
+    let n = MOST_ROUTERS;
+    let clients = n - 3;
+    // Router 0 is an unlisted client; 1 to 60 are reflectors in a path, each
+    // with one of three listed clients, in turn; each favours the next one's.
+    let reflectors = 1..clients;
+    let client_of = |reflector: Router| clients + reflector % 3;
+    let mut sessions: BTreeSet<(Router, Router)> = (1..clients).map(|router| (router - 1, router)).collect();
+    sessions.extend(reflectors.clone().map(|reflector| (reflector, client_of(reflector))));
+    let distance = |from: Router, to: Router| match to {
+        _ if from == to => 0,
+        _ if !reflectors.contains(&from) => 30,
+        _ if to == client_of(from + 1) => 6,
+        _ if to == client_of(from) => 10,
+        _ if to == client_of(from + 2) => 14,
+        _ => 30,
+    };
+    Draft {
+        reflector: (0..n).map(|router| reflectors.contains(&router)).collect(),
+        identifiers: (1..=n as u32).map(|place| 10 * place).collect(),
+        sessions,
+        distances: (0..n).map(|from| (0..n).map(|to| distance(from, to)).collect()).collect(),
+        lists: vec![(clients..n).collect()],
+    }
+}
+
 fn router_count(random: &mut Random) -> usize {
     match random.below(20) {
         0..=1 => random.between(1, 6),

@@ -1,6 +1,7 @@
 //! Holds a checker of route-reflection plans against the second checker.
 
 use second_checker::checker::Checker;
+use second_checker::generate;
 use second_checker::plain::Plain;
 use second_checker::random::Random;
 use second_checker::selftest::{self, DEFAULT_SEED};
@@ -17,7 +18,8 @@ const USAGE: &str = "\
 second [--seed S] [--first K] [--plans N] [--against library|plain]   hold a checker against the second one
 second self [--seed S] [--plans N]                                    test the second checker alone
 second verdict                                                        print the verdicts of the plan on standard input
-second write FOLDER [--seed S] [--plans N]                            write plans and the verdict lines due for each";
+second write FOLDER [--seed S] [--plans N]                            write plans and the verdict lines due for each
+second plan largest|deepest                                           write a fixed plan to standard output";
 
 const DEFAULT_PLANS: u64 = 20_000;
 
@@ -83,7 +85,8 @@ fn self_test(options: &Options) -> Result<bool, Box<dyn Error>> {
     small_plans::runs()?;
     small_plans::bounds()?;
     small_plans::example()?;
-    println!("small plans M1 to M9, bounds and example output: as the paper gives them");
+    small_plans::deepest()?;
+    println!("small plans M1 to M9, bounds and example output: as the paper gives them; deepest plan: rank 61");
     selftest::damage_hits(500)?;
     println!("damage aimed at refusals 1 to 7: refused so");
     selftest::faults_are_found()?;
@@ -118,6 +121,17 @@ fn write_plans(folder: &str, options: &Options) -> Result<bool, Box<dyn Error>> 
     Ok(true)
 }
 
+/// Writes the plan with the most bytes, or the one with the highest rank.
+fn write_fixed_plan(name: &str, options: &Options) -> Result<bool, Box<dyn Error>> {
+    let draft = match name {
+        "largest" => generate::largest(&mut Random::new(options.seed)),
+        "deepest" => generate::deepest(),
+        other => return Err(format!("no fixed plan {other}").into()),
+    };
+    io::stdout().write_all(&draft.bytes())?;
+    Ok(true)
+}
+
 fn program() -> Result<bool, Box<dyn Error>> {
     let options = options()?;
     let words: Vec<&str> = options.words.iter().map(String::as_str).collect();
@@ -125,6 +139,7 @@ fn program() -> Result<bool, Box<dyn Error>> {
         [] => compare(&options),
         ["self"] => self_test(&options),
         ["verdict"] => print_verdicts(),
+        ["plan", name] => write_fixed_plan(name, &options),
         ["write", folder] => write_plans(folder, &options),
         _ => Err("unknown words".into()),
     }

@@ -8,7 +8,7 @@ mod reader;
 mod rules;
 mod verdict;
 
-use crate::checker::{Acts, Checker, ListFields, RunFields, VerdictBuffers, VerdictFields};
+use crate::checker::{Acts, Checker, Flag, ListFields, RunFields, VerdictBuffers, VerdictFields};
 use reader::{check, read};
 use verdict::verdict;
 
@@ -41,7 +41,7 @@ fn run(bytes: &[u8], list: usize, acts: Acts, table: &mut [u8]) -> Result<RunFie
             rounds += 1;
         }
     }
-    Ok(RunFields { applied, rounds, exhausted: u8::from(length > acts.limit) })
+    Ok(RunFields { applied, rounds, exhausted: Flag::new(u8::from(length > acts.limit)) })
 }
 
 /// Stores the result, or gives the refusal number and leaves it as it was.

@@ -1,6 +1,6 @@
 //! The second checker behind the interface of the calls.
 
-use crate::checker::{Acts, Checker, ListFields, RunFields, VerdictBuffers, VerdictFields};
+use crate::checker::{Acts, Checker, Flag, ListFields, RunFields, VerdictBuffers, VerdictFields};
 use crate::plan::{self, Plan};
 use crate::rules::{Case, Right, Rules};
 use crate::simulate;
@@ -119,12 +119,12 @@ impl<R: Rules> Second<R> {
         match verdict.outcome {
             Outcome::Stable { ranks, table } => {
                 let highest = ranks.values().copied().max().unwrap_or(0);
-                *fields = VerdictFields { stable: 1, size: highest as u64 };
+                *fields = VerdictFields { stable: Flag::new(1), size: highest as u64 };
                 fill(lent.ranks, ranks.into_values());
                 lent.table[..2 * n].copy_from_slice(&simulate::table_bytes(&table, n));
             }
             Outcome::Suspect { cycle } => {
-                *fields = VerdictFields { stable: 0, size: cycle.len() as u64 };
+                *fields = VerdictFields { stable: Flag::new(0), size: cycle.len() as u64 };
                 fill(lent.cycle, cycle);
             }
         }
@@ -157,7 +157,7 @@ impl<R: Rules> Second<R> {
         let length = acts.sequence.len() as u64;
         let applied = length.min(acts.limit);
         let rounds = simulate::run(&self.rules, case, &mut held, &acts.sequence[..applied as usize]);
-        *fields = RunFields { applied, rounds, exhausted: u8::from(length > acts.limit) };
+        *fields = RunFields { applied, rounds, exhausted: Flag::new(u8::from(length > acts.limit)) };
         lent.copy_from_slice(&simulate::table_bytes(&held, case.plan.n));
         Ok(())
     }

@@ -57,6 +57,7 @@ fn hold_numbered(comparison: &mut Comparison, seed: u64, number: u64) -> calls::
     comparison.reseed(own_seed);
     let bytes = match number {
         0 => generate::largest(&mut random).bytes(),
+        1 => generate::deepest().bytes(),
         _ => numbered_plan(&mut random, number),
     };
     calls::hold(comparison, &mut random, &bytes)?;
@@ -241,6 +242,11 @@ mod tests {
     #[test]
     fn example_output() {
         must(small_plans::example());
+    }
+
+    #[test]
+    fn deepest_plan() {
+        must(small_plans::deepest());
     }
 
     #[test]

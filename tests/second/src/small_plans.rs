@@ -1,7 +1,7 @@
 //! The small plans M1 to M9 and the output of the verdict program.
 
 use crate::checker::{perform, Answer, Call};
-use crate::generate::Draft;
+use crate::generate::{self, Draft};
 use crate::plan;
 use crate::second::Second;
 use std::collections::BTreeSet;
@@ -108,6 +108,12 @@ pub fn bounds() -> Result<(), String> {
     same("65 routers", check(&routers(65)), 2)?;
     same("distance 65534", check(&draft(65_534, 6, &[&[0]])), 0)?;
     same("distance 65535", check(&draft(65_535, 6, &[&[0]])), 6)
+}
+
+/// The plan made for it has the highest rank that a plan can have.
+pub fn deepest() -> Result<(), String> {
+    let expected = "routers 64 lists 1\n0 stable 61\n".to_string();
+    same("deepest plan", verdict_lines(&generate::deepest().bytes()), expected)
 }
 
 /// What the verdict program prints for a plan.

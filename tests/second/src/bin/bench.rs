@@ -7,7 +7,7 @@
 //! lines that have it in their names are timed.
 
 use second_checker::arguments;
-use second_checker::checker::{Acts, Checker, ListFields, RunFields, VerdictBuffers, VerdictFields};
+use second_checker::checker::{Acts, Checker, Flag, ListFields, RunFields, VerdictBuffers, VerdictFields};
 use second_checker::generate::{self, Draft};
 use second_checker::plain::Plain;
 use second_checker::plan::{self, LONGEST_PLAN};
@@ -115,7 +115,7 @@ fn median(mut values: Vec<f64>) -> f64 {
 fn verdict(checker: &mut dyn Checker, plan: &[u8]) {
     let (mut labels, mut ranks, mut table, mut cycle) = ([0; 64], [0; 64], [0; 128], [0; 64]);
     let lent = VerdictBuffers { labels: &mut labels, ranks: &mut ranks, table: &mut table, cycle: &mut cycle };
-    let mut fields = VerdictFields { stable: 0, size: 0 };
+    let mut fields = VerdictFields { stable: Flag::new(0), size: 0 };
     assert_eq!(checker.verdict(black_box(plan), 0, lent, &mut fields), 0);
     black_box((labels, ranks, table, cycle, fields.size));
 }
@@ -139,7 +139,7 @@ fn relies(checker: &mut dyn Checker, plan: &[u8]) {
 }
 
 fn run(checker: &mut dyn Checker, plan: &[u8], sequence: &[u8], table: &mut [u8]) -> u64 {
-    let mut fields = RunFields { applied: 0, rounds: 0, exhausted: 0 };
+    let mut fields = RunFields { applied: 0, rounds: 0, exhausted: Flag::new(0) };
     let acts = Acts { sequence: black_box(sequence), limit: u64::MAX };
     assert_eq!(checker.run(black_box(plan), 0, acts, table, &mut fields), 0);
     assert_eq!(fields.applied, sequence.len() as u64);

@@ -2,7 +2,7 @@
 
 use super::reader::{read, PlanView};
 use super::{Matrix, MOST, NOTHING};
-use crate::checker::{VerdictBuffers, VerdictFields};
+use crate::checker::{Flag, VerdictBuffers, VerdictFields};
 
 /// Reaching by one or more reliances (Warshall).
 fn closure(n: usize, relies: &Matrix) -> Matrix {
@@ -89,7 +89,7 @@ pub fn verdict(bytes: &[u8], list: usize, lent: VerdictBuffers) -> Result<Verdic
         lent.labels[u] = label as u8;
     }
     Ok(match (0..n).find(|&u| reach[u][u]) {
-        None => VerdictFields { stable: 1, size: write_stable(&plan, &listed, &relies, lent) },
-        Some(u) => VerdictFields { stable: 0, size: write_cycle(n, &relies, lent.labels, u, lent.cycle) },
+        None => VerdictFields { stable: Flag::new(1), size: write_stable(&plan, &listed, &relies, lent) },
+        Some(u) => VerdictFields { stable: Flag::new(0), size: write_cycle(n, &relies, lent.labels, u, lent.cycle) },
     })
 }
