@@ -80,12 +80,11 @@ fn is_asked(name: &str) -> bool {
     env::args().nth(1).is_none_or(|word| name.contains(&word))
 }
 
-/// Times one piece of work on all checkers, turn by turn, prints a line and
-/// gives the times; none if the line is not asked for. The set-based checker
-/// is left out if `with_sets` is no.
-fn line(name: &str, with_sets: bool, mut work: impl FnMut(&mut dyn Checker)) -> Vec<f64> {
+/// Times one piece of work on all checkers, turn by turn, and prints a line if
+/// it is asked for. The set-based checker is left out if `with_sets` is no.
+fn line(name: &str, with_sets: bool, mut work: impl FnMut(&mut dyn Checker)) {
     if !is_asked(name) {
-        return Vec::new();
+        return;
     }
     let mut checkers = checkers();
     checkers.retain(|(name, _)| with_sets || *name != "sets");
@@ -96,15 +95,13 @@ fn line(name: &str, with_sets: bool, mut work: impl FnMut(&mut dyn Checker)) -> 
             each.map(|((_, checker), &calls)| seconds(|| work(checker.as_mut()), calls)).collect()
         })
         .collect();
-    let best_at = |place: usize| turns.iter().map(|turn| turn[place]).fold(f64::INFINITY, f64::min);
-    let best: Vec<f64> = (0..checkers.len()).map(best_at).collect();
-    print!("{name:<42}");
+    print!("{name:<46}");
     for (place, (checker, _)) in checkers.iter().enumerate() {
+        let best = turns.iter().map(|turn| turn[place]).fold(f64::INFINITY, f64::min);
         let ratio = median(turns.iter().map(|turn| turn[place] / turn[0]).collect());
-        print!(" {checker} {:>12.3} us ({ratio:>6.2})", best[place] * 1e6);
+        print!(" {checker} {:>12.3} us ({ratio:>6.2})", best * 1e6);
     }
     println!();
-    best
 }
 
 fn median(mut values: Vec<f64>) -> f64 {
@@ -187,17 +184,22 @@ fn time_runs(random: &mut Random) {
 fn time_growth(random: &mut Random, kind: &str, plan: &[u8], n: usize) {
     let table = start_table(random, plan);
     let sequence: Vec<u8> = (0..MILLION).map(|_| random.below(n) as u8).collect();
-    let mut last: Option<Vec<f64>> = None;
     for length in [MILLION / 100, MILLION / 10, MILLION] {
-        let times = line(&format!("run, {length} acts, {kind}, n = {n}"), length < MILLION / 10, |checker| {
-            let mut lent = table.clone();
-            run(checker, plan, &sequence[..length], &mut lent);
+        line(&format!("run, {length} acts, {kind}, n = {n}"), length < MILLION / 10, |checker| {
+            run(checker, plan, &sequence[..length], &mut table.clone());
         });
-        if let Some(last) = last.filter(|last| !last.is_empty()) {
-            let growth = times.iter().zip(&last).map(|(time, last)| format!(" {:.2}", time / last));
-            println!("    ten times the acts take so many times the time:{}", growth.collect::<String>());
+    }
+    let name = format!("run, ten times the acts, {kind}, n = {n}");
+    if is_asked(&name) {
+        print!("{name:<46}");
+        for (checker, subject) in checkers().iter_mut().filter(|(checker, _)| *checker != "sets") {
+            let mut time = |length: usize| {
+                seconds(|| _ = run(subject.as_mut(), plan, &sequence[..length], &mut table.clone()), MILLION / length)
+            };
+            let growth = (0..TURNS).map(|_| time(MILLION / 10) / time(MILLION / 100)).collect();
+            print!(" {checker} {:>12.2} times", median(growth));
         }
-        last = Some(times);
+        println!();
     }
 }
 
