@@ -1,0 +1,19 @@
+-- The line that says an answer of the verdict call.
+use Prim.Native.Nat.{ℕ, _≤_, _<_}
+use mathlib.Core.List.{List}
+use lib.ListN.{length, take}
+use Rattle.checker.specs.declared.verdict.VerdictAnswer.{VerdictAnswer}
+use Rattle.checker.specs.declared.verdict.VerdictAnswer.the-variants.{Refused, Stable, Suspect}
+use Rattle.report.specs.Text.{refusedLine, stableLine, suspectLine}
+
+-- of list k, where `shown` is the buffer lent for the cycle
+abbrev pub answerLine : VerdictAnswer → ℕ → List ℕ → List ℕ
+answerLine (Refused number) k shown = refusedLine number
+answerLine (Stable highest) k shown = stableLine k highest
+answerLine (Suspect count) k shown = suspectLine k (take count shown)
+
+-- a line has room for it
+abbrev pub Sayable : VerdictAnswer → ℕ → List ℕ → Type 0
+Sayable (Refused number) k shown = Unit {0}
+Sayable (Stable highest) k shown = (k < 1000) × (highest < 1000)
+Sayable (Suspect count) k shown = (k < 1000) × (count ≤ length shown) × (count ≤ 64)
