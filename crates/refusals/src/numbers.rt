@@ -63,8 +63,8 @@ fn sequence_ok(sequence: &[u8], n: usize) -> bool
 {
     let mut i = 0;
     while i < sequence.len() {
-        let router = sequence[i] as usize;
-        if n <= router {
+        let named = sequence[i] as usize;
+        if n <= named {
             return false;
         }
         i += 1;
