@@ -30,7 +30,7 @@ use Rattle.checker.proofs.Refused.{when-refused, when-given}
 use Rattle.report.specs.Buffer.{LineAtFront}
 use Rattle.report.specs.Text.{headLine, refusedLine, stableLine, suspectLine}
 use Rattle.listing.specs.Listing.{firstLine, verdictLine, listLine}
-use Rattle.listing.specs.Answer.{answerLine, Sayable}
+use Rattle.listing.specs.Answer.{answerLine, Printable}
 
 -- a line lies within the buffer that it was written to
 pub line-within : (buffer line after : List ℕ) (size : ℕ) → LineAtFront buffer line after size → size ≤ length after
@@ -48,6 +48,7 @@ module _ (plan : List ℕ) where
   pub few-lists : planRefusal plan ≡ 0 → listCount plan ≤ 64
   few-lists h = passed plan h .lists .most
 
+-- 1 for a refusal
 abbrev kind : VerdictAnswer → ℕ
 kind (Refused number) = 1
 kind (Stable highest) = 0
@@ -120,7 +121,7 @@ module _ (plan : List ℕ) (k : ℕ) (labels ranks table cycle : List ℕ)
     cycle-after z s = when-given _ _ _ z ∙ ap (λ b. cond b cycle (cycleOf plan k ++ drop (length (cycleOf plan k)) cycle)) s
 
     -- the answer's line is the list's
-    pub said : (r : VerdictAnswer) → length cycle′ ≤ 64 → Answered r → Sayable r k cycle′ × (listLine plan k ≡ answerLine r k cycle′)
+    pub said : (r : VerdictAnswer) → length cycle′ ≤ 64 → Answered r → Printable r k cycle′ × (listLine plan k ≡ answerLine r k cycle′)
     said (Refused number) short a = (tt, said-refused number a)
     said (Stable highest) short a =
         let z : N ≡ 0 = sym (a .numbered) in

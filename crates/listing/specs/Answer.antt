@@ -1,4 +1,4 @@
--- The line that says an answer of the verdict call.
+-- The line of an answer of the verdict call.
 use Prim.Native.Nat.{ℕ, _≤_, _<_}
 use mathlib.Core.List.{List}
 use lib.ListN.{length, take}
@@ -12,8 +12,8 @@ answerLine (Refused number) k shown = refusedLine number
 answerLine (Stable highest) k shown = stableLine k highest
 answerLine (Suspect count) k shown = suspectLine k (take count shown)
 
--- a line has room for it
-abbrev pub Sayable : VerdictAnswer → ℕ → List ℕ → Type 0
-Sayable (Refused number) k shown = Unit {0}
-Sayable (Stable highest) k shown = (k < 1000) × (highest < 1000)
-Sayable (Suspect count) k shown = (k < 1000) × (count ≤ length shown) × (count ≤ 64)
+-- its numbers fit a line
+abbrev pub Printable : VerdictAnswer → ℕ → List ℕ → Type 0
+Printable (Refused number) k shown = Unit {0}
+Printable (Stable highest) k shown = (k < 1000) × (highest < 1000)
+Printable (Suspect count) k shown = (k < 1000) × (count ≤ length shown) × (count ≤ 64)

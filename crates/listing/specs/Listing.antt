@@ -10,15 +10,15 @@ use Rattle.checker.specs.Refused.{unlessRefused}
 use Rattle.checker.specs.Verdict.{isStable, highestOf, cycleOf}
 use Rattle.report.specs.Text.{headLine, refusedLine, stableLine, suspectLine}
 
--- "The first line gives n and m after their words .. A refused plan gives the single line `refused`, a space and its number."
+-- "The first line gives n and m after their words." "A refused plan gives the single line `refused`, a space and its number."
 unfoldable pub firstLine : List ℕ → List ℕ
 firstLine plan =
     unlessRefused (planRefusal plan) (refusedLine (planRefusal plan)) (headLine (routerCount plan) (listCount plan))
 
--- "list number, verdict, then highest rank, or ring length and ring"
+-- "In each later line the fields are list number, verdict, then ring length and ring, or highest rank." The ring is called cycle.
 unfoldable pub verdictLine : List ℕ → ℕ → List ℕ
 verdictLine plan k = cond (isStable plan k) (stableLine k (highestOf plan k)) (suspectLine k (cycleOf plan k))
 
--- .. of any list number
+-- the same of any list number; the program asks for those of the plan alone
 unfoldable pub listLine : List ℕ → ℕ → List ℕ
 listLine plan k = unlessRefused (egressListRefusal plan k) (refusedLine (egressListRefusal plan k)) (verdictLine plan k)

@@ -5,7 +5,7 @@ ghost use Prim.Native.Nat.{_≤_};
 ghost use lib.ListN.{length};
 ghost use Rattle.report.specs.Buffer.{LineAtFront, lineRoom};
 ghost use Rattle.listing.specs.Listing.{firstLine, listLine};
-ghost use Rattle.listing.specs.Answer.{answerLine, Sayable};
+ghost use Rattle.listing.specs.Answer.{answerLine, Printable};
 
 // The first line: how many routers and lists the plan has, or its refusal.
 pub fn first_line(plan: &[u8], out: &mut [u8]) -> usize
@@ -20,9 +20,9 @@ pub fn first_line(plan: &[u8], out: &mut [u8]) -> usize
     report::head_line(out, n, plan::lists::list_count(plan))
 }
 
-// The line that says what the verdict call answered; `cycle` is the buffer that was lent for the cycle.
+// The line of an answer of the verdict call; `cycle` is the buffer that was lent for the cycle.
 fn answer_line(answer: VerdictAnswer, list: usize, cycle: &[u8], out: &mut [u8]) -> usize
-    requires { ⌜ (lineRoom ≤ length (now out)) × Sayable answer list (now cycle) ⌝ }
+    requires { ⌜ (lineRoom ≤ length (now out)) × Printable answer list (now cycle) ⌝ }
     ensures { λ r. ⌜ LineAtFront (now (out .entry)) (answerLine answer list (now (cycle .entry))) (now (out .exit)) r ⌝ }
 {
     match answer {

@@ -5,7 +5,7 @@ use mathlib.Core.Path.{_≡_, subst}
 use borrow.Author.Needs.{needs}
 use lib.ListN.{length}
 use lib.Seq.{length-take-le}
-use Rattle.listing.specs.Answer.{Sayable}
+use Rattle.listing.specs.Answer.{Printable}
 use Rattle.listing.proofs.answer_line.Statement.{statement}
 use Rattle.listing.proofs.answer_line.Tie as tie
 
@@ -24,7 +24,7 @@ module _ (c : tie.After-suspect-line-arg) where
   count = c .before .before .answer3 .given .0 .0
 
   fits : (start .args .list < 1000) × (count ≤ length (start .args .cycle .now)) × (count ≤ 64)
-  fits = subst (λ r. Sayable r (start .args .list) (start .args .cycle .now)) (c .before .before .answer3 .given .1) (start .pre .1)
+  fits = subst (λ r. Printable r (start .args .list) (start .args .cycle .now)) (c .before .before .answer3 .given .1) (start .pre .1)
 
 suspect-line-requires : tie.Need-suspect-line-requires
 suspect-line-requires c κs =

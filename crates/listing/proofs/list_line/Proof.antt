@@ -4,7 +4,7 @@ use native.Mathlib.Omega.{arith}
 use borrow.Author.Needs.{needs}
 use lib.ListN.{length}
 use Rattle.listing.specs.Listing.{listLine}
-use Rattle.listing.specs.Answer.{Sayable, answerLine}
+use Rattle.listing.specs.Answer.{Printable, answerLine}
 use Rattle.listing.proofs.Lines.{said}
 use Rattle.listing.proofs.list_line.Statement.{statement}
 use Rattle.listing.proofs.list_line.Tie as tie
@@ -20,7 +20,7 @@ short : (c : tie.After-answer-line-arg) → length (judged c .verdict .last .1 .
 short c = search needs
 
 says : (c : tie.After-answer-line-arg) → let v = judged c .verdict in let a = start c .args in
-    Sayable (v .result) (a .list) (v .last .1 .1 .1 .1 .1 .0) × (listLine (a .plan .now) (a .list) ≡ answerLine (v .result) (a .list) (v .last .1 .1 .1 .1 .1 .0))
+    Printable (v .result) (a .list) (v .last .1 .1 .1 .1 .1 .0) × (listLine (a .plan .now) (a .list) ≡ answerLine (v .result) (a .list) (v .last .1 .1 .1 .1 .1 .0))
 says c = said _ _ _ _ _ _ (omega arith, omega arith, omega arith, omega arith) _ _ _ _ (judged c .verdict .result) (omega (arith, short c)) (judged c .verdict .ensures)
 
 pub list-line-spec : {M : Type 1} → statement M
