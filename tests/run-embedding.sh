@@ -67,7 +67,7 @@ measures_deepest() {
 linked() {
     local command=$1
     shift
-    RRP_LIB_DIR=$PWD/$archive RRP_LIB_NAME=capi CARGO_TARGET_DIR=$PWD/$out/second \
+    RRP_LIB_DIR=$PWD/$archive RRP_LIB_NAME=rrp CARGO_TARGET_DIR=$PWD/$out/second \
         cargo "$command" --quiet --release --offline --features library --manifest-path tests/second/Cargo.toml "$@"
 }
 
@@ -78,15 +78,15 @@ second() {
 
 mkdir -p "$out"
 rm -f "$out/verdicts" "$out/stack"
-try "the library" rt staticlib capi
-try "the C example" gcc -std=c11 -Wall -Wextra -Werror -O2 -Iinclude examples/verdicts.c -L"$archive" -lcapi -o "$out/verdicts"
+try "the library" rt staticlib rrp
+try "the C example" gcc -std=c11 -Wall -Wextra -Werror -O2 -Iinclude examples/verdicts.c -L"$archive" -lrrp -o "$out/verdicts"
 try "the C example's verdicts" writes examples/m3.verdicts "$out/verdicts" examples/m3.plan
 try "the C example's refusal" refuses_cut_plan
 try "the second checker alone" second self
 try "the library against the second checker" second --seed "$seed" --plans "$plans"
 try "the plain checker against the second checker" second --against plain --seed "$seed" --plans 2000
 try "the bench program" linked build --bin bench
-try "the stack program" gcc -std=gnu11 -Wall -Wextra -Werror -O2 -Iinclude tests/stack.c -L"$archive" -lcapi -o "$out/stack"
+try "the stack program" gcc -std=gnu11 -Wall -Wextra -Werror -O2 -Iinclude tests/stack.c -L"$archive" -lrrp -o "$out/stack"
 try "the stack of each call on the deepest plan" measures_deepest
 
 try "the verdict program" rt check verdict

@@ -7,7 +7,7 @@ use checker::verdict::VerdictAnswer;
 ghost use mathlib.Core.Path.{_≡_};
 ghost use Rattle.plan.specs.Refusal.{planRefusal};
 ghost use Rattle.checker.specs.Activate.{Activates};
-ghost use Rattle.capi.specs.Exports.{ListExport, CompareExport, ReliesExport, VerdictExport, RunExport};
+ghost use Rattle.rrp.specs.Exports.{ListExport, CompareExport, ReliesExport, VerdictExport, RunExport};
 
 #[no_mangle]
 pub extern "C" fn rrp_check(plan: &[u8]) -> u8

@@ -2,9 +2,9 @@ use mathlib.Core.Path.{ap}
 use mathlib.Core.Bool.{true, false}
 use borrow.Author.Needs.{needs}
 use Rattle.checker.specs.Verdict.{verdictNumber, verdictIsStable, verdictSize}
-use Rattle.capi.proofs.Exporting.{verdict-refused, verdict-given}
-use Rattle.capi.proofs.rrp_verdict.Statement.{statement}
-use Rattle.capi.proofs.rrp_verdict.Tie as tie
+use Rattle.rrp.proofs.Exporting.{verdict-refused, verdict-given}
+use Rattle.rrp.proofs.rrp_verdict.Statement.{statement}
+use Rattle.rrp.proofs.rrp_verdict.Tie as tie
 
 returns : tie.Need-returns
 returns c = verdict-refused _ _ _ _ _ _ _ _ _ _ _ (c .before .before .before .before .before .before .before .before .before .before .before .verdict .ensures) _ _ _ (c .before .answer .given .1)

@@ -3,9 +3,9 @@ use mathlib.Core.Bool.{Bool, true, false}
 use borrow.Author.Needs.{needs}
 use mir.Val.{boolByte}
 use Rattle.base.specs.Seek.{flag}
-use Rattle.capi.proofs.Exporting.{run-refused, run-given}
-use Rattle.capi.proofs.rrp_run.Statement.{statement}
-use Rattle.capi.proofs.rrp_run.Tie as tie
+use Rattle.rrp.proofs.Exporting.{run-refused, run-given}
+use Rattle.rrp.proofs.rrp_run.Statement.{statement}
+use Rattle.rrp.proofs.rrp_run.Tie as tie
 
 as-byte : (b : Bool) → boolByte b ≡ flag b
 as-byte true = refl

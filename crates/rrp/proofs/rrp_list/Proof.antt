@@ -2,9 +2,9 @@ use mathlib.Core.Path.{_≡_, _∙_, sym}
 use borrow.Author.Needs.{needs}
 use Rattle.refusals.specs.Refusals.{egressListRefusal}
 use Rattle.refusals.proofs.Asked.{list-asked}
-use Rattle.capi.proofs.Exporting.{list-refused, list-given}
-use Rattle.capi.proofs.rrp_list.Statement.{statement}
-use Rattle.capi.proofs.rrp_list.Tie as tie
+use Rattle.rrp.proofs.Exporting.{list-refused, list-given}
+use Rattle.rrp.proofs.rrp_list.Statement.{statement}
+use Rattle.rrp.proofs.rrp_list.Tie as tie
 
 -- nothing is refused
 given : (c : tie.Else1) → let a = c .before .before .before .args in egressListRefusal (a .plan .now) (a .list) ≡ 0

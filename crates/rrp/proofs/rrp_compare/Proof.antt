@@ -1,9 +1,9 @@
 use mathlib.Core.Path.{ap}
 use borrow.Author.Needs.{needs}
 use Rattle.checker.specs.Compare.{compareNumber, compareBetter}
-use Rattle.capi.proofs.Exporting.{compare-refused, compare-given}
-use Rattle.capi.proofs.rrp_compare.Statement.{statement}
-use Rattle.capi.proofs.rrp_compare.Tie as tie
+use Rattle.rrp.proofs.Exporting.{compare-refused, compare-given}
+use Rattle.rrp.proofs.rrp_compare.Statement.{statement}
+use Rattle.rrp.proofs.rrp_compare.Tie as tie
 
 -- an arm knows the answer that it matched
 pub rrp-compare-spec : {M : Type 1} → statement M

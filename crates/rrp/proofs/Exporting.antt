@@ -23,8 +23,8 @@ use Rattle.checker.specs.Run.{Runs}
 use Rattle.checker.proofs.Refused.{when-refused, when-given}
 use Rattle.plan.specs.EgressLists.{SpanOf}
 use Rattle.checker.proofs.ListStretch.{stretch-given}
-use Rattle.capi.specs.Exports.{ListExport, CompareExport, ReliesExport, VerdictExport, RunExport}
-use Rattle.capi.proofs.Written.{written, refused-by}
+use Rattle.rrp.specs.Exports.{ListExport, CompareExport, ReliesExport, VerdictExport, RunExport}
+use Rattle.rrp.proofs.Written.{written, refused-by}
 
 module _ (plan : List ℕ) (k : ℕ) (start count : ℕ) where
   pub list-refused : (number : ℕ) → number ≡ egressListRefusal plan k → (number ≡ 0 → ⊥) → ListExport plan k number start start count count

@@ -2,9 +2,9 @@ use mathlib.Core.Path.{ap}
 use mathlib.Core.Bool.{true, false}
 use borrow.Author.Needs.{needs}
 use Rattle.checker.specs.Relies.{reliesNumber, reliesFlag}
-use Rattle.capi.proofs.Exporting.{relies-refused, relies-given}
-use Rattle.capi.proofs.rrp_relies.Statement.{statement}
-use Rattle.capi.proofs.rrp_relies.Tie as tie
+use Rattle.rrp.proofs.Exporting.{relies-refused, relies-given}
+use Rattle.rrp.proofs.rrp_relies.Statement.{statement}
+use Rattle.rrp.proofs.rrp_relies.Tie as tie
 
 -- an arm knows the answer that it matched
 pub rrp-relies-spec : {M : Type 1} → statement M
