@@ -11,7 +11,7 @@ use borrow.Author.Count.{below-more}
 use borrow.Author.Tests.{eq-eqb}
 use Rattle.base.proofs.Below.{all-at, all-intro}
 use Rattle.base.proofs.Numbers.{eq-or-ne, lt-or-le}
-use Rattle.graph.specs.Rank.{entry}
+use Rattle.ranking.specs.Rank.{entry}
 use Rattle.routing.specs.Instance.{Instance, Route, nothing, via}
 use Rattle.routing.specs.Activation.{held, entryOk, tableOk}
 use Rattle.settling.specs.Settled.{settledTable}

@@ -12,12 +12,12 @@ use Rattle.base.proofs.Seek.{highest-cong, highest-over}
 use Rattle.base.proofs.Tab.{getD-written}
 use Rattle.graph.specs.Closure.{closure, Agree, Irreflexive, Acyclic}
 use Rattle.graph.specs.Groups.{label, stable}
-use Rattle.graph.specs.Rank.{entry, rank, highestRank}
-use Rattle.graph.specs.Cycle.{cycle, CycleAsked}
-use Rattle.graph.proofs.Chains.{closure-cong}
+use Rattle.ranking.specs.Rank.{entry, rank, highestRank}
+use Rattle.cycles.specs.Cycle.{cycle, CycleAsked}
+use Rattle.graph.proofs.Chains.{closure-cong, acyclic-cong}
 use Rattle.graph.proofs.Sharing.{labels-cong, stable-cong, stable-acyclic}
-use Rattle.graph.proofs.Ranking.{rank-cong, highest-rank-cong, acyclic-cong, rank-falls}
-use Rattle.graph.proofs.Walking.{cycle-cong}
+use Rattle.ranking.proofs.RankRule.{rank-cong, highest-rank-cong, rank-falls}
+use Rattle.cycles.proofs.Walking.{cycle-cong}
 use Rattle.routing.specs.Instance.{Instance}
 use Rattle.routing.proofs.Reliance.{relies-other}
 use Rattle.settling.specs.Settled.{settledTable}

@@ -8,8 +8,8 @@ use Rattle.base.specs.Seek.{flag}
 use Rattle.base.specs.Tab.{tab}
 use Rattle.graph.specs.Closure.{Relation, closure}
 use Rattle.graph.specs.Groups.{label, stable}
-use Rattle.graph.specs.Rank.{rank, highestRank}
-use Rattle.graph.specs.Cycle.{cycle}
+use Rattle.ranking.specs.Rank.{rank, highestRank}
+use Rattle.cycles.specs.Cycle.{cycle}
 use Rattle.routing.specs.Instance.{Instance}
 use Rattle.routing.specs.Reliance.{relies}
 use Rattle.settling.specs.Settled.{settledTable}

@@ -6,7 +6,7 @@ use mathlib.Core.List.{List}
 use mathlib.Core.Logic.{_⊎_}
 use lib.ListN.{length, drop}
 use Rattle.base.specs.Seek.{highest}
-use Rattle.graph.specs.Rank.{entry}
+use Rattle.ranking.specs.Rank.{entry}
 use Rattle.routing.specs.Instance.{Instance, Route, nothing, via}
 use Rattle.routing.specs.Activation.{held}
 use Rattle.settling.specs.Settled.{settledTable}

@@ -35,9 +35,9 @@ pub fn assess(
     graph::closing::close(&mut closed, n);
     graph::groups::labels(&closed, n, labels);
     if graph::groups::is_stable(&closed, n) {
-        let highest = graph::ranks::ranks(&relied, n, ranks);
+        let highest = ranking::ranks(&relied, n, ranks);
         settled::settle(net, rows, distances, ranks, highest, table);
         return Assessment::Stable(highest);
     }
-    Assessment::Suspect(graph::cycles::cycle(&relied, &closed, n, cycle))
+    Assessment::Suspect(cycles::cycle(&relied, &closed, n, cycle))
 }

@@ -1,14 +1,14 @@
 -- The closure is who reaches whom by chains.
 use Prim.Native.Nat.{ℕ, zero, suc, _≤_, _<_, min, max}
 use native.Mathlib.Omega.{arith}
-use mathlib.Core.Path.{_≡_, _∙_, ap}
+use mathlib.Core.Path.{_≡_, _∙_, sym, ap}
 use mathlib.Core.List.{[]}
 use mathlib.Core.Logic.{_⊎_, inl, inr, ⊎-elim, _↔_}
 use lib.ListN.{getD}
 use Rattle.base.specs.Tab.{tab}
 use Rattle.base.proofs.Tab.{getD-tab, tab-cong}
 use Rattle.base.proofs.Numbers.{eq-or-ne}
-use Rattle.graph.specs.Closure.{Relation, table, cell, through, closing, closure, Chain, step, more, Agree}
+use Rattle.graph.specs.Closure.{Relation, table, cell, through, closing, closure, Chain, step, more, Agree, Acyclic}
 
 cell-table : (R : Relation) (n i j : ℕ) → i < n → j < n → cell (table R n) i j ≡ R i j
 cell-table R n i j l m =
@@ -122,3 +122,6 @@ closing-cong R S n (suc k) h = ap (λ t. table (through (cell t) k) n) (closing-
 
 pub closure-cong : (R S : Relation) (n : ℕ) → Agree R S n → closure R n ≡ closure S n
 closure-cong R S n h = ap cell (closing-cong R S n n h)
+
+pub acyclic-cong : (R S : Relation) (n : ℕ) → Agree R S n → Acyclic R n → Acyclic S n
+acyclic-cong R S n h q i l = sym (ap (λ C. C i i) (closure-cong R S n h)) ∙ q i l

@@ -1,6 +1,4 @@
-// Groups, ranks and cycles of any relation between at most 64 routers, given as rows of bits: bit v of row w says that w is related to v.
+// The closure and the groups of any relation between at most 64 routers, given as rows of bits: bit v of row w says that w is related to v.
 
 pub mod closing;
-pub mod cycles;
 pub mod groups;
-pub mod ranks;

@@ -19,8 +19,8 @@ use Rattle.routing.specs.Activation.{reflects, advertises, hears, senderOf, rou
 use Rattle.routing.specs.Rounds.{acted, roundsFrom, rounds}
 use Rattle.graph.specs.Closure.{closing}
 use Rattle.graph.specs.Groups.{together, label, stable, grouped}
-use Rattle.graph.specs.Rank.{rankOver, rankRounds, rank}
-use Rattle.graph.specs.Cycle.{start, next, walk, second, first, lap, cycleIn, cycle}
+use Rattle.ranking.specs.Rank.{rankOver, rankRounds, rank}
+use Rattle.cycles.specs.Cycle.{start, next, walk, second, first, lap, cycleIn, cycle}
 use Rattle.settling.specs.Settled.{chooseAll, chosenAfter, settledTable}
 use Rattle.activation.specs.TableBytes.{readRoute, tableOf, tableBytes, activateBytes, runBytes}
 use Rattle.refusals.specs.Refusals.{buffersOk, verdictRefusal, tableChecks, sequenceOk, runRefusal}

@@ -12,8 +12,8 @@ use Rattle.graph.specs.Closure.{closure, Irreflexive, Acyclic}
 use Rattle.graph.specs.Groups.{together}
 use Rattle.graph.proofs.Chains.{closure-is}
 use Rattle.graph.proofs.Sharing.{together-cases, together-self, together-both, label-upto, label-shares, label-lowest, stable-groups, stable-chains, stable-acyclic}
-use Rattle.graph.proofs.Ranking.{Below, rank-none, rank-falls, rank-top}
-use Rattle.graph.proofs.Walking.{cycle-is}
+use Rattle.ranking.proofs.RankRule.{Below, rank-none, rank-falls, rank-top}
+use Rattle.cycles.proofs.Walking.{cycle-is}
 use Rattle.routing.specs.Reliance.{relies}
 use Rattle.routing.proofs.Reliance.{relies-other}
 use Rattle.settling.specs.Claims.{Ranked, OneSteadyTable}

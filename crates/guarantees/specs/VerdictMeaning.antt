@@ -7,8 +7,8 @@ use mathlib.Core.Logic.{_⊎_, _↔_}
 use Rattle.contents.specs.Header.{routerCount}
 use Rattle.graph.specs.Closure.{closure, Chain}
 use Rattle.graph.specs.Groups.{label}
-use Rattle.graph.specs.Rank.{rank}
-use Rattle.graph.specs.Cycle.{IsCycle}
+use Rattle.ranking.specs.Rank.{rank}
+use Rattle.cycles.specs.Cycle.{IsCycle}
 use Rattle.routing.specs.Reliance.{relies}
 use Rattle.settling.specs.Claims.{OneSteadyTable}
 use Rattle.network.specs.FromPlan.{instanceOf}

@@ -15,8 +15,8 @@ use Rattle.contents.specs.Header.{routerCount}
 use Rattle.plan.specs.Refusal.{refuse, planRefusal}
 use Rattle.plan.specs.EgressLists.{listCount}
 use Rattle.plan.proofs.Passed.{passed}
-use Rattle.graph.specs.Rank.{rank}
-use Rattle.graph.proofs.Ranking.{rank-below}
+use Rattle.ranking.specs.Rank.{rank}
+use Rattle.ranking.proofs.RankRule.{rank-below}
 use Rattle.graph.proofs.Sharing.{stable-acyclic}
 use Rattle.routing.proofs.Reliance.{relies-other}
 use Rattle.network.specs.FromPlan.{instanceOf}

@@ -6,7 +6,7 @@ use mathlib.Core.List.{_++_}
 use borrow.Author.Needs.{needs}
 use lib.ListN.{length, drop}
 use Rattle.base.proofs.Seek.{highest-under}
-use Rattle.graph.specs.Rank.{entry}
+use Rattle.ranking.specs.Rank.{entry}
 use Rattle.settling.specs.Settled.{settledTable}
 use Rattle.network.specs.Decoded.{decoded}
 use Rattle.activation.specs.TableBytes.{tableBytes}

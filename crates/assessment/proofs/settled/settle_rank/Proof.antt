@@ -4,7 +4,7 @@ use native.Mathlib.Omega.{arith}
 use mathlib.Core.Path.{_≡_, _∙_, sym}
 use borrow.Author.Needs.{needs}
 use lib.ListN.{length}
-use Rattle.graph.specs.Rank.{entry}
+use Rattle.ranking.specs.Rank.{entry}
 use Rattle.network.specs.Decoded.{decoded}
 use Rattle.assessment.proofs.ByRank.{Turn, below-legal, turn-start, turn-skip, turn-act, turn-done}
 use Rattle.assessment.proofs.settled.settle_rank.Statement.{statement}

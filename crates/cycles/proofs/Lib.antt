@@ -1,0 +1,3 @@
+pub mod Walking
+pub mod InGroup
+pub mod Following

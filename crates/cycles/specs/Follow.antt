@@ -1,0 +1,17 @@
+-- What following the walk asks, and what it finds.
+use Prim.Native.Nat.{ℕ, _<_}
+use mathlib.Core.Path.{_≡_}
+use mathlib.Core.List.{List}
+use lib.ListN.{getD}
+use Rattle.graph.specs.Closure.{Relation}
+use Rattle.cycles.specs.Cycle.{trail, first, second}
+
+-- the walk stays among the routers below n
+abbrev pub Stays : Relation → Relation → ℕ → Type 0
+Stays R C n = (k : ℕ) → trail R C n k < n
+
+-- what following the walk f finds: where the lap starts and ends, and the routers up to there, in order
+pub record Followed (f : ℕ → ℕ) (n : ℕ) (path : List ℕ) (from upto : ℕ) : Type 0 where
+  pub starts : from ≡ first f n
+  pub ends : upto ≡ second f n
+  pub kept : (i : ℕ) → i < upto → getD path i 0 ≡ f i

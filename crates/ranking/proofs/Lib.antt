@@ -1,0 +1,2 @@
+pub mod RankRule
+pub mod RankBuffer
