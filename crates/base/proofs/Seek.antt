@@ -198,3 +198,27 @@ count-less f g (suc n) x l p q h =
     (λ (k : f n ≤ 0). omega (arith, count-suc f n, count-suc g n))
     (lt-or-le 0 (f n)))
     (eq-or-ne x n)
+
+pub count-cong : (f g : ℕ → ℕ) (n : ℕ) → ((i : ℕ) → i < n → f i ≡ g i) → count f n ≡ count g n
+count-cong f g n h =
+    omega (arith, count-mono f g n (λ i l m. omega (arith, h i l)), count-mono g f n (λ i l m. omega (arith, h i l)))
+
+-- a test that says yes everywhere counts n, and one that says no somewhere counts fewer
+pub count-all : (f : ℕ → ℕ) (n : ℕ) → ((i : ℕ) → i < n → 1 ≤ f i) → count f n ≡ n
+count-all f zero h = count-none f
+count-all f (suc n) h = omega (arith, count-suc f n, count-all f n (λ i l. h i (omega arith)), h n (omega arith))
+
+pub count-few : (f : ℕ → ℕ) (n i : ℕ) → i < n → f i ≡ 0 → count f n < n
+count-few f n i l h =
+    let g : count f n < count (λ j. 1) n = count-less f (λ j. 1) n i l h (omega arith) (λ j m k. omega arith) in
+    omega (arith, count-le (λ j. 1) n)
+
+-- a test that says yes once more than another, and is the same elsewhere, counts one more
+pub count-one-more : (f g : ℕ → ℕ) (x n : ℕ) → x < n → f x ≡ 0 → 1 ≤ g x → ((i : ℕ) → (x ≡ i → ⊥) → g i ≡ f i)
+    → count g n ≡ count f n + 1
+count-one-more f g x zero l p q h = absurd (omega arith)
+count-one-more f g x (suc n) l p q h =
+    ⊎-elim (λ (e : x ≡ n).
+    omega (arith, count-suc f n, count-suc g n, ap f e, ap g e, count-cong g f n (λ i k. h i (omega arith))))
+    (λ (e : x ≡ n → ⊥). omega (arith, count-suc f n, count-suc g n, h n e, count-one-more f g x n (omega arith) p q h))
+    (eq-or-ne x n)

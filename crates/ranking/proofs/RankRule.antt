@@ -3,9 +3,9 @@ use Prim.Native.Nat.{ℕ, zero, suc, _≤_, _<_}
 use native.Mathlib.Omega.{arith}
 use mathlib.Core.Path.{_≡_, refl, _∙_, sym, ap}
 use Rattle.base.specs.Tab.{tab}
-use Rattle.base.specs.Seek.{highest, count}
+use Rattle.base.specs.Seek.{highest}
 use Rattle.base.proofs.Tab.{getD-tab, tab-cong}
-use Rattle.base.proofs.Seek.{highest-cong, highest-over, highest-under, Top, highest-top, count-less, count-le}
+use Rattle.base.proofs.Seek.{highest-cong, highest-over, highest-under, Top, highest-top, count-less, count-few}
 use Rattle.graph.specs.Closure.{Relation, closure, Agree, Acyclic}
 use Rattle.ranking.specs.Rank.{onTop, rankOver, entry, rankRounds, rank, highestRank}
 use Rattle.ranking.specs.Search.{reached}
@@ -62,10 +62,7 @@ module _ (R : Relation) (n : ℕ) (q : Acyclic R n) where
 
   pub reached-few : (w : ℕ) → w < n → reached R n w < n
   unfolding reached
-  reached-few w l =
-      let h : count (closure R n w) n < count (λ u. 1) n
-      = count-less (closure R n w) (λ u. 1) n w l (q w l) (omega arith) (λ u o g. omega arith) in
-      omega (arith, count-le (λ u. 1) n)
+  reached-few w l = count-few (closure R n w) n w l (q w l)
 
   rounds-still : (k w : ℕ) → w < n → reached R n w < k → entry (rankRounds R n (suc k)) w ≡ entry (rankRounds R n k) w
   rounds-still zero w l h = absurd (omega arith)

@@ -12,12 +12,13 @@ use lib.ListN.{length, getD}
 use lib.Pow.{pow-pos}
 use borrow.Author.Tests.{eq-eqb, ne-eqb}
 use Rattle.base.specs.Below.{allBelow}
+use Rattle.base.specs.Seek.{flag, count}
 use Rattle.base.proofs.Below.{all-at, all-intro}
-use Rattle.base.proofs.Numbers.{eq-or-ne, not-both}
+use Rattle.base.proofs.Seek.{count-cong, count-all, count-few, count-one-more}
+use Rattle.base.proofs.Numbers.{eq-or-ne, true-or-false, not-both}
 use Rattle.routing.specs.Rounds.{acted, roundsFrom, rounds, Tally, freshTally, tallyAct, tallyActs}
 use Rattle.base.specs.Bits.{bitN}
 use Rattle.base.proofs.BitLaws.{bit-or, bit-pow-same, bit-pow-other}
-use Rattle.routing.proofs.Counting.{count, count-all, all-count, count-same, count-one-more}
 
 pub acted-none : (v : ℕ) → acted [] v ≡ false
 unfolding acted
@@ -35,10 +36,25 @@ acted-again : (a : ℕ) (since : List ℕ) → acted since a ≡ true → (v : �
 acted-again a since h v =
     ⊎-elim (λ (e : a ≡ v). ap (acted (a ∷ since)) (sym e) ∙ acted-now a since ∙ sym h ∙ ap (acted since) e) (acted-before a since v) (eq-or-ne a v)
 
-count-none : (n : ℕ) → count (acted []) n ≡ 0
+-- how many of the n routers have acted
+abbrev actedCount : List ℕ → ℕ → ℕ
+actedCount since n = count (λ v. flag (acted since v)) n
+
+none-acted : (n : ℕ) → actedCount [] n ≡ 0
 unfolding count acted
-count-none zero = refl
-count-none (suc n) = omega (arith, count-none n)
+none-acted zero = refl
+none-acted (suc n) = omega (arith, none-acted n)
+
+-- all of them exactly if every router has acted
+all-acted : (n : ℕ) (since : List ℕ) → allBelow (acted since) n ≡ true → actedCount since n ≡ n
+all-acted n since h = count-all _ n (λ v l. rw (all-at (acted since) n h v l) (omega arith))
+
+acted-all : (n : ℕ) (since : List ℕ) → actedCount since n ≡ n → allBelow (acted since) n ≡ true
+acted-all n since h =
+    all-intro (acted since) n (λ v l.
+    ⊎-elim (λ (e : acted since v ≡ true). e)
+    (λ (e : acted since v ≡ false). absurd (omega (arith, count-few (λ u. flag (acted since u)) n v l (ap flag e))))
+    (true-or-false (acted since v)))
 
 -- the two ways of an act: the round ends with it, or not
 pub rounds-end : (n a : ℕ) (since acts : List ℕ) → allBelow (acted (a ∷ since)) n ≡ true → roundsFrom n since (a ∷ acts) ≡ suc (roundsFrom n [] acts)
@@ -56,7 +72,7 @@ rounds-done n since = refl
 -- the tally after k rounds and the acts `since`
 record TallyOf (n : ℕ) (since : List ℕ) (k : ℕ) (t : Tally) : Type 0 where
   bits : (v : ℕ) → v < n → eqb (bitN (t .seen) v) 1 ≡ acted since v
-  missing : t .missing + count (acted since) n ≡ n
+  missing : t .missing + actedCount since n ≡ n
   waiting : 0 < n → 0 < t .missing
   ended : t .ended ≡ k
 
@@ -65,20 +81,23 @@ round-starts : (n k : ℕ) (t : Tally) → t .seen ≡ 0 → t .missing ≡ n �
 round-starts n k t s m e =
     record {
       bits = λ v l. ap (λ x. eqb (bitN x v) 1) s ∙ ap (λ x. eqb (x % 2) 1) (div-eq-of-lt (pow-pos v)) ∙ sym (acted-none v);
-      missing = omega (arith, count-none n);
+      missing = omega (arith, none-acted n);
       waiting = omega arith;
       ended = e;
     }
 
 module _ (n a : ℕ) (t : Tally) (since : List ℕ) (k : ℕ) (w : TallyOf n since k t) (l : a < n) where
   -- a router that has acted in this round acts again
+  same-many : acted since a ≡ true → actedCount (a ∷ since) n ≡ actedCount since n
+  same-many h = count-cong _ _ n (λ v m. ap flag (acted-again a since h v))
+
   again : acted since a ≡ true → TallyOf n (a ∷ since) k (tallyAct n t a)
   unfolding tallyAct
   again h =
       rw (w .bits a l ∙ h)
       (record {
         bits = λ v m. w .bits v m ∙ sym (acted-again a since h v);
-        missing = omega (arith, w .missing, count-same (acted (a ∷ since)) (acted since) n (λ v m. acted-again a since h v));
+        missing = omega (arith, w .missing, same-many h);
         waiting = w .waiting;
         ended = w .ended;
       })
@@ -89,13 +108,14 @@ module _ (n a : ℕ) (t : Tally) (since : List ℕ) (k : ℕ) (w : TallyOf n sin
         arith,
         w .missing,
         w .waiting (omega arith),
-        count-same (acted (a ∷ since)) (acted since) n (λ v m. acted-again a since h v),
-        all-count (acted (a ∷ since)) n (all-at (acted (a ∷ since)) n q),
+        same-many h,
+        all-acted n (a ∷ since) q,
       )
 
   module _ (h : acted since a ≡ false) where
-    one-more : count (acted (a ∷ since)) n ≡ count (acted since) n + 1
-    one-more = count-one-more (acted since) (acted (a ∷ since)) a n l h (acted-now a since) (acted-before a since)
+    one-more : actedCount (a ∷ since) n ≡ actedCount since n + 1
+    one-more =
+        count-one-more _ _ a n l (ap flag h) (rw (acted-now a since) (omega arith)) (λ v e. ap flag (acted-before a since v e))
 
     -- the last one that was missing acts
     last : t .missing ≡ 1 → TallyOf n [] (k + 1) (tallyAct n t a)
@@ -103,7 +123,7 @@ module _ (n a : ℕ) (t : Tally) (since : List ℕ) (k : ℕ) (w : TallyOf n sin
     last q = rw (w .bits a l ∙ h, eq-eqb (t .missing) 1 q) (round-starts n (k + 1) _ refl refl (ap (λ x. x + 1) (w .ended)))
 
     last-closed : t .missing ≡ 1 → allBelow (acted (a ∷ since)) n ≡ true
-    last-closed q = all-intro (acted (a ∷ since)) n (count-all (acted (a ∷ since)) n (omega (arith, w .missing, one-more)))
+    last-closed q = acted-all n (a ∷ since) (omega (arith, w .missing, one-more))
 
     seen-bits : (v : ℕ) → v < n → eqb (bitN (bitOr (t .seen) (2 ^ a)) v) 1 ≡ acted (a ∷ since) v
     seen-bits v m = go (eq-or-ne a v)
@@ -133,7 +153,7 @@ module _ (n a : ℕ) (t : Tally) (since : List ℕ) (k : ℕ) (w : TallyOf n sin
 
     more-open : (t .missing ≡ 1 → ⊥) → allBelow (acted (a ∷ since)) n ≡ true → ⊥
     more-open q p =
-        omega (arith, w .missing, w .waiting (omega arith), one-more, all-count (acted (a ∷ since)) n (all-at (acted (a ∷ since)) n p))
+        omega (arith, w .missing, w .waiting (omega arith), one-more, all-acted n (a ∷ since) p)
 
 -- every act is of a router below n
 abbrev pub ActsBelow : ℕ → List ℕ → Type 0
