@@ -3,6 +3,7 @@
 use Prim.Native.Nat.{ℕ}
 use mathlib.Core.List.{List}
 use lib.Dec.{eqb}
+use denote.Ref.{RefT, now}
 use Rattle.base.specs.Bits.{bitN, bits}
 use Rattle.bodies.specs.Distances.{distanceIn}
 use Rattle.network.specs.declared.Network.{Network}
@@ -17,3 +18,7 @@ decoded net rows distances =
       dist = distanceIn distances (net .n);
       listed = λ v. eqb (bitN (net .listed) v) 1;
     }
+
+-- the instance that the code is lent: its words by value, the rows and the distances behind references
+abbrev pub instance : Network → RefT (List ℕ) → RefT (List ℕ) → Instance
+instance net rows distances = decoded net (now rows) (now distances)

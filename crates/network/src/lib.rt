@@ -3,6 +3,9 @@
 pub mod comparison;
 pub mod decode;
 
+// The byte that stands for no router.
+pub const NO_ROUTER: u8 = 255;
+
 // Bit v of a word stands for router v.
 pub struct Network {
     pub n: usize,
