@@ -1,20 +1,19 @@
-// Best clients, offers and reliances. A router is a byte here, 255 for none.
+// Best clients, offers and reliances. A router is a byte here, NO_ROUTER for none.
 
+use network::NO_ROUTER;
 use network::Network;
 ghost use mathlib.Core.Path.{_≡_};
-ghost use mathlib.Core.Bool.{true, false, cond};
+ghost use mathlib.Core.Bool.{cond};
 ghost use mathlib.Core.List.{List};
 ghost use Prim.Native.Nat.{ℕ, _*_, _≤_, _<_, _^_};
 ghost use lib.Bits.{bitOr};
-ghost use lib.ListN.{length, getD};
-ghost use Rattle.base.specs.Best.{keepBest};
+ghost use lib.ListN.{length};
 ghost use Rattle.bodies.specs.Distances.{distanceIn};
 ghost use Rattle.routing.specs.Instance.{Instance};
-ghost use Rattle.routing.specs.Preference.{prefers};
 ghost use Rattle.routing.specs.Reliance.{listedClientOf, bestClient, offer, betterOffer, relies};
-ghost use Rattle.reliance.specs.OwnClient.{OwnClient};
+ghost use Rattle.reliance.specs.OwnClient.{keepClient, OwnClient, OwnClients, UnlistedReflector};
 ghost use Rattle.reliance.specs.RelianceRows.{RelianceRow, RelianceRows};
-ghost use Rattle.network.specs.Decoded.{decoded};
+ghost use Rattle.network.specs.Decoded.{decoded, instance};
 ghost use Rattle.routing.specs.RouterBytes.{asRouter, RouterBelow};
 ghost use Rattle.network.specs.WellFormed.{WellFormed};
 
@@ -35,12 +34,12 @@ fn is_listed_client(net: Network, rows: &[u64; 64], v: usize, e: usize) -> bool
 // Of the best client so far and e.
 fn keep_client(net: Network, rows: &[u64; 64], distances: &[u8], v: usize, e: usize, best: u8) -> u8
     requires { ⌜ WellFormed net (now rows) (now distances) × (v < net .n) × (e < net .n) × RouterBelow (net .n) (asRouter best) ⌝ }
-    ensures { λ r. ⌜ asRouter r ≡ keepBest (prefers (decoded net (now (rows .entry)) (now (distances .entry))) v) (listedClientOf (decoded net (now (rows .entry)) (now (distances .entry))) v e) e (asRouter best) ⌝ }
+    ensures { λ r. ⌜ asRouter r ≡ keepClient (instance net (rows .entry) (distances .entry)) v e (asRouter best) ⌝ }
 {
     if !is_listed_client(net, rows, v, e) {
         return best;
     }
-    if best == 255 {
+    if best == NO_ROUTER {
         return e as u8;
     }
     if network::comparison::prefers(distances, net.n, v, e, base::wide(best)) {
@@ -51,10 +50,10 @@ fn keep_client(net: Network, rows: &[u64; 64], distances: &[u8], v: usize, e: us
 
 fn best_client(net: Network, rows: &[u64; 64], distances: &[u8], v: usize) -> u8
     requires { ⌜ WellFormed net (now rows) (now distances) × (v < net .n) ⌝ }
-    ensures { λ r. ⌜ asRouter r ≡ bestClient (decoded net (now (rows .entry)) (now (distances .entry))) v ⌝ }
+    ensures { λ r. ⌜ asRouter r ≡ bestClient (instance net (rows .entry) (distances .entry)) v ⌝ }
 {
     let n = net.n;
-    let mut best: u8 = 255;
+    let mut best = NO_ROUTER;
     let mut e = 0;
     while e < n {
         best = keep_client(net, rows, distances, v, e, best);
@@ -66,10 +65,10 @@ fn best_client(net: Network, rows: &[u64; 64], distances: &[u8], v: usize) -> u8
 // A reflector's best client; a client needs none.
 fn own_client(net: Network, rows: &[u64; 64], distances: &[u8], v: usize) -> u8
     requires { ⌜ WellFormed net (now rows) (now distances) × (v < net .n) ⌝ }
-    ensures { λ r. ⌜ OwnClient (decoded net (now (rows .entry)) (now (distances .entry))) v r ⌝ }
+    ensures { λ r. ⌜ OwnClient (instance net (rows .entry) (distances .entry)) v r ⌝ }
 {
     if !base::bits::has_bit(net.reflectors, v) {
-        return 255;
+        return NO_ROUTER;
     }
     best_client(net, rows, distances, v)
 }
@@ -77,7 +76,8 @@ fn own_client(net: Network, rows: &[u64; 64], distances: &[u8], v: usize) -> u8
 // What v offers, where `own` is its best client.
 fn offered(net: Network, v: usize, own: u8) -> u8
     requires { ⌜ (net .n ≤ 64) × (v < net .n) ⌝ }
-    ensures { λ r. ⌜ ((rows distances : List ℕ) → asRouter own ≡ bestClient (decoded net rows distances) v → asRouter r ≡ offer (decoded net rows distances) v) ⌝ }
+    ensures { λ r. ⌜ ((rows distances : List ℕ)
+        → asRouter own ≡ bestClient (decoded net rows distances) v → asRouter r ≡ offer (decoded net rows distances) v) ⌝ }
 {
     let itself = v as u8;
     if base::bits::has_bit(net.listed, v) {
@@ -87,13 +87,15 @@ fn offered(net: Network, v: usize, own: u8) -> u8
 }
 
 fn better_offer(distances: &[u8], n: usize, w: usize, offer: u8, own: u8) -> bool
-    requires { ⌜ (w < n) × (n ≤ 64) × (2 * (n * n) ≤ length (now distances)) × RouterBelow n (asRouter offer) × RouterBelow n (asRouter own) ⌝ }
-    ensures { λ r. ⌜ ((I : Instance) → I .dist ≡ distanceIn (now (distances .entry)) n → r ≡ betterOffer I w (asRouter offer) (asRouter own)) ⌝ }
+    requires { ⌜ (w < n) × (n ≤ 64) × (2 * (n * n) ≤ length (now distances))
+        × RouterBelow n (asRouter offer) × RouterBelow n (asRouter own) ⌝ }
+    ensures { λ r. ⌜ ((I : Instance) → I .dist ≡ distanceIn (now (distances .entry)) n
+        → r ≡ betterOffer I w (asRouter offer) (asRouter own)) ⌝ }
 {
-    if offer == 255 {
+    if offer == NO_ROUTER {
         return false;
     }
-    if own == 255 {
+    if own == NO_ROUTER {
         return true;
     }
     let first = base::wide(offer);
@@ -111,8 +113,9 @@ fn reflector_relies(
     own: u8,
     other: u8,
 ) -> bool
-    requires { ⌜ WellFormed net (now rows) (now distances) × (w < net .n) × (v < net .n) × (asRouter own ≡ bestClient (decoded net (now rows) (now distances)) w) × OwnClient (decoded net (now rows) (now distances)) v other × (decoded net (now rows) (now distances) .listed w ≡ false) × (decoded net (now rows) (now distances) .reflector w ≡ true) ⌝ }
-    ensures { λ r. ⌜ r ≡ relies (decoded net (now (rows .entry)) (now (distances .entry))) w v ⌝ }
+    requires { ⌜ WellFormed net (now rows) (now distances) × (w < net .n) × (v < net .n)
+        × UnlistedReflector (instance net rows distances) w own × OwnClient (instance net rows distances) v other ⌝ }
+    ensures { λ r. ⌜ r ≡ relies (instance net (rows .entry) (distances .entry)) w v ⌝ }
 {
     if !base::bits::has_bit(net.reflectors, v) {
         return base::wide(own) == v;
@@ -133,8 +136,9 @@ fn relies_by(
     own: u8,
     other: u8,
 ) -> bool
-    requires { ⌜ WellFormed net (now rows) (now distances) × (w < net .n) × (v < net .n) × OwnClient (decoded net (now rows) (now distances)) w own × OwnClient (decoded net (now rows) (now distances)) v other ⌝ }
-    ensures { λ r. ⌜ r ≡ relies (decoded net (now (rows .entry)) (now (distances .entry))) w v ⌝ }
+    requires { ⌜ WellFormed net (now rows) (now distances) × (w < net .n) × (v < net .n)
+        × OwnClient (instance net rows distances) w own × OwnClient (instance net rows distances) v other ⌝ }
+    ensures { λ r. ⌜ r ≡ relies (instance net (rows .entry) (distances .entry)) w v ⌝ }
 {
     if base::bits::has_bit(net.listed, w) {
         return false;
@@ -154,7 +158,7 @@ fn relies_by(
 // Whether w relies on v.
 pub fn relies(net: Network, rows: &[u64; 64], distances: &[u8], w: usize, v: usize) -> bool
     requires { ⌜ WellFormed net (now rows) (now distances) × (w < net .n) × (v < net .n) ⌝ }
-    ensures { λ r. ⌜ r ≡ relies (decoded net (now (rows .entry)) (now (distances .entry))) w v ⌝ }
+    ensures { λ r. ⌜ r ≡ relies (instance net (rows .entry) (distances .entry)) w v ⌝ }
 {
     let own = own_client(net, rows, distances, w);
     let other = own_client(net, rows, distances, v);
@@ -164,10 +168,10 @@ pub fn relies(net: Network, rows: &[u64; 64], distances: &[u8], w: usize, v: usi
 // The best client of every reflector.
 fn best_clients(net: Network, rows: &[u64; 64], distances: &[u8]) -> [u8; 64]
     requires { ⌜ WellFormed net (now rows) (now distances) ⌝ }
-    ensures { λ r. ⌜ ((v : ℕ) → v < net .n → OwnClient (decoded net (now (rows .entry)) (now (distances .entry))) v (getD r v 0)) ⌝ }
+    ensures { λ r. ⌜ OwnClients (instance net (rows .entry) (distances .entry)) r ⌝ }
 {
     let n = net.n;
-    let mut best = [255u8; 64];
+    let mut best = [NO_ROUTER; 64];
     let mut v = 0;
     while v < n {
         best[v] = own_client(net, rows, distances, v);
@@ -189,8 +193,8 @@ fn noted(row: u64, v: usize, relied: bool) -> u64
 
 // The routers that w relies on, where `best` has every reflector's best client.
 fn reliance_row(net: Network, rows: &[u64; 64], distances: &[u8], best: &[u8; 64], w: usize) -> u64
-    requires { ⌜ WellFormed net (now rows) (now distances) × (w < net .n) × ((v : ℕ) → v < net .n → OwnClient (decoded net (now rows) (now distances)) v (getD (now best) v 0)) ⌝ }
-    ensures { λ r. ⌜ RelianceRow (decoded net (now (rows .entry)) (now (distances .entry))) w (net .n) r ⌝ }
+    requires { ⌜ WellFormed net (now rows) (now distances) × (w < net .n) × OwnClients (instance net rows distances) (now best) ⌝ }
+    ensures { λ r. ⌜ RelianceRow (instance net (rows .entry) (distances .entry)) w (net .n) r ⌝ }
 {
     let n = net.n;
     let own = best[w];
@@ -206,7 +210,7 @@ fn reliance_row(net: Network, rows: &[u64; 64], distances: &[u8], best: &[u8; 64
 // The routers that each router relies on.
 pub fn reliance_rows(net: Network, rows: &[u64; 64], distances: &[u8], out: &mut [u64; 64])
     requires { ⌜ WellFormed net (now rows) (now distances) × (length (now out) ≡ 64) ⌝ }
-    ensures { λ _. ⌜ RelianceRows (decoded net (now (rows .entry)) (now (distances .entry))) (now (out .entry)) (now (out .exit)) ⌝ }
+    ensures { λ _. ⌜ RelianceRows (instance net (rows .entry) (distances .entry)) (now (out .entry)) (now (out .exit)) ⌝ }
 {
     let n = net.n;
     let best = best_clients(net, rows, distances);

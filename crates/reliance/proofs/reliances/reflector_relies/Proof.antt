@@ -22,15 +22,15 @@ returns c =
     let d = e .before .before .before in
     let a = d .args in
     ap (λ x. eqb x (a .v)) (c .wide .ensures .0)
-    ∙ sym (relies-own (instance d) _ _ (d .pre .5) (d .pre .6) (no _ (e .before .has-bit .ensures) (e .if1 .taken))
-    ∙ ap (isRouter (a .v)) (sym (d .pre .3))
+    ∙ sym (relies-own (instance d) _ _ (d .pre .3 .unlisted) (d .pre .3 .reflector) (no _ (e .before .has-bit .ensures) (e .if1 .taken))
+    ∙ ap (isRouter (a .v)) (sym (d .pre .3 .client))
     ∙ router-is _ _ (omega arith))
 
 returns-2 : tie.Need-returns-2
 returns-2 c =
     let e = c .before .before .before in
     let d = e .before .before .before in
-    sym (offer-stranger (instance d) _ _ (d .pre .5) (d .pre .6) (yes _ (e .before .has-bit .ensures) (e .if1 .left)) (no _ (c .before .has-bit2 .ensures) (c .if2 .taken)))
+    sym (offer-stranger (instance d) _ _ (d .pre .3 .unlisted) (d .pre .3 .reflector) (yes _ (e .before .has-bit .ensures) (e .if1 .left)) (no _ (c .before .has-bit2 .ensures) (c .if2 .taken)))
 
 -- v's offer, from its best client
 offer-is : (c : tie.After-offered)
@@ -48,7 +48,7 @@ better-offer-requires c κs =
       p .0 .count,
       p .0 .pairs,
       rw (offer-is c) (offer-below (instance d) _ (p .2)),
-      rw (p .3) (bestClient-below (instance d) _),
+      rw (p .3 .client) (bestClient-below (instance d) _),
     )
 
 returns-3 : tie.Need-returns-3
@@ -57,8 +57,8 @@ returns-3 c =
     let e = g .before .before .before in
     let d = e .before .before .before in
     c .better-offer .ensures (instance d) refl
-    ∙ ap₂ (betterOffer (instance d) (d .args .w)) (offer-is (c .before)) (d .pre .3)
-    ∙ sym (offer-neighbour (instance d) _ _ (d .pre .5) (d .pre .6) (yes _ (e .before .has-bit .ensures) (e .if1 .left)) (yes _ (g .before .has-bit2 .ensures) (g .if2 .left)))
+    ∙ ap₂ (betterOffer (instance d) (d .args .w)) (offer-is (c .before)) (d .pre .3 .client)
+    ∙ sym (offer-neighbour (instance d) _ _ (d .pre .3 .unlisted) (d .pre .3 .reflector) (yes _ (e .before .has-bit .ensures) (e .if1 .left)) (yes _ (g .before .has-bit2 .ensures) (g .if2 .left)))
 
 pub reflector-relies-spec : {M : Type 1} → statement M
 reflector-relies-spec =

@@ -21,7 +21,8 @@ reflector-relies-requires c κs =
     let e = c .before .before in
     let p = e .before .before .before .pre in
     let reflector = sym (c .before .has-bit2 .ensures) ∙ c .if2 .taken in
-    (p .0, p .1, p .2, p .3 reflector, p .4, sym (e .before .has-bit .ensures) ∙ e .if1 .left, reflector)
+    let unlisted = sym (e .before .has-bit .ensures) ∙ e .if1 .left in
+    (p .0, p .1, p .2, record { unlisted = unlisted; reflector = reflector; client = p .3 reflector }, p .4)
 
 -- where w is an unlisted client
 module _ (c : tie.Else2) where
