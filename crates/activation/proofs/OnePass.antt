@@ -15,7 +15,7 @@ use Rattle.routing.specs.Preference.{prefers}
 use Rattle.routing.specs.Activation.{reflects, advertises, hears, choose}
 use Rattle.activation.specs.TableBytes.{RouteBelow, readRoute}
 use Rattle.routing.specs.RouterBytes.{RouterBelow}
-use Rattle.activation.specs.OnePass.{toldBy, keepRoute, kept, keptHeard}
+use Rattle.activation.specs.OnePass.{toldBy, keepRoute, keepHeard, kept, keptHeard}
 use Rattle.activation.proofs.TableBytes.{read-via}
 use Rattle.routing.proofs.Preference.{prefers-order}
 use Rattle.routing.proofs.Activation.{isRouter-same, isRouter-some, ChoiceIs, choice-unique, choose-is, advertises-listed, advertises-client, advertises-reflector}
@@ -233,7 +233,7 @@ module _ (I : Instance) where
   heard-none w view = refl
 
   pub heard-more : (w : ℕ) (view : ℕ → Route) (v : ℕ)
-      → keptHeard I w view (v + 1) ≡ keepRoute (prefers I w) v (toldBy I w v (view v)) (keptHeard I w view v)
+      → keptHeard I w view (v + 1) ≡ keepHeard I w v (view v) (keptHeard I w view v)
   unfolding keptHeard kept
   heard-more w view v = ap (keptHeard I w view) (add-one v)
 

@@ -1,17 +1,15 @@
 -- A run act by act: what its loop keeps, and what the loop's ways out leave.
-use Prim.Native.Nat.{ℕ, _+_, _*_, _≤_, _<_}
+use Prim.Native.Nat.{ℕ, _+_, _≤_, _<_}
 use native.Mathlib.Numerals.{add-one}
 use native.Mathlib.Omega.{arith}
 use mathlib.Core.Path.{_≡_, refl, _∙_, sym, ap}
-use mathlib.Core.Bool.{true}
 use mathlib.Core.List.{List, [], _∷_, _++_}
 use lib.ListN.{length, getD, take, length-take}
 use lib.Seq.{take-suc, take-all, getD-take}
 use Rattle.routing.specs.Instance.{Instance}
-use Rattle.routing.specs.Activation.{tableOk}
-use Rattle.routing.specs.Rounds.{rounds, Tally, freshTally, tallyAct, tallyActs}
-use Rattle.routing.proofs.Rounds.{ActsBelow, tally-counts, tally-append, tally-waits, tally-at-most}
-use Rattle.activation.specs.TableBytes.{tableOf, activateBytes, runBytes}
+use Rattle.routing.specs.Rounds.{ActsBelow, rounds, Tally, freshTally, tallyAct, tallyActs}
+use Rattle.routing.proofs.Rounds.{tally-counts, tally-append, tally-waits, tally-at-most}
+use Rattle.activation.specs.TableBytes.{TableIn, activateBytes, runBytes}
 use Rattle.activation.proofs.TableBytes.{act-length, act-ok, run-bytes-append}
 
 -- after i acts the table is the run's and the tally counts them
@@ -19,7 +17,7 @@ pub record Ran (I : Instance) (acts start : List ℕ) (i : ℕ) (table : List �
   pub upto : i ≤ length acts
   pub bytes : table ≡ runBytes I start (take i acts)
   pub counted : t ≡ tallyActs (I .n) (freshTally (I .n)) (take i acts)
-  pub legal : tableOk I (tableOf table (I .n)) ≡ true
+  pub legal : TableIn I table
   pub long : length table ≡ length start
   pub waits : 0 < t .missing
   pub few : t .ended ≤ i
@@ -36,7 +34,7 @@ module _ (I : Instance) (acts start : List ℕ) where
   taken : (i : ℕ) → i < length acts → take (i + 1) acts ≡ take i acts ++ (getD acts i 0 ∷ [])
   taken i l = ap (λ k. take k acts) (add-one i) ∙ take-suc acts i 0 l
 
-  pub ran-none : 0 < I .n → tableOk I (tableOf start (I .n)) ≡ true → (t : Tally) → t ≡ freshTally (I .n) → Ran I acts start 0 start t
+  pub ran-none : 0 < I .n → TableIn I start → (t : Tally) → t ≡ freshTally (I .n) → Ran I acts start 0 start t
   unfolding runBytes tallyActs
   ran-none some ok t e =
       record {
@@ -50,9 +48,9 @@ module _ (I : Instance) (acts start : List ℕ) where
       }
 
   module _ (i : ℕ) (table : List ℕ) (t : Tally) (r : Ran I acts start i table t) (l : i < length acts) where
-    pub ran-more : I .n ≤ 64 → 2 * I .n ≤ length table → getD acts i 0 < I .n
+    pub ran-more : I .n ≤ 64 → getD acts i 0 < I .n
         → Ran I acts start (i + 1) (activateBytes I (getD acts i 0) table) (tallyAct (I .n) t (getD acts i 0))
-    ran-more small room below =
+    ran-more small below =
         let w = getD acts i 0 in
         record {
           upto = omega arith;
@@ -62,7 +60,7 @@ module _ (I : Instance) (acts start : List ℕ) where
           counted =
               ap (λ u. tallyAct (I .n) u w) (r .counted)
               ∙ sym (ap (tallyActs (I .n) (freshTally (I .n))) (taken i l) ∙ tally-append (I .n) _ (take i acts) (w ∷ []) ∙ one-tally _ w);
-          legal = act-ok I w table small below room (r .legal);
+          legal = act-ok I w table small below (r .legal);
           long = act-length I w table ∙ r .long;
           waits = tally-waits (I .n) t w (omega arith) (r .waits);
           few = omega (arith, tally-at-most (I .n) t w, r .few);

@@ -17,10 +17,10 @@ use Rattle.base.proofs.Tab.{tab-none, tab-suc, length-tab, getD-tab}
 use Rattle.routing.specs.Instance.{Instance, Route, nothing, via}
 use Rattle.routing.specs.Activation.{hears, choose, held, entryOk, tableOk, activate, runActs}
 use Rattle.routing.specs.Preference.{prefers}
-use Rattle.activation.specs.TableBytes.{readRoute, egressByte, senderByte, RouteBelow, routeAt, putRoute, tableOf, tableBytes, activateBytes, runBytes}
+use Rattle.routing.specs.Rounds.{ActsBelow}
+use Rattle.activation.specs.TableBytes.{readRoute, egressByte, senderByte, RouteBelow, routeAt, putRoute, tableOf, tableBytes, TableIn, RoutesIn, activateBytes, runBytes}
 use Rattle.routing.proofs.Preference.{prefers-order}
 use Rattle.routing.proofs.Activation.{ChoiceIs, choice-unique, choose-listed, choose-is, activate-length, activate-own, activate-other, activate-ok}
-use Rattle.routing.proofs.Rounds.{ActsBelow}
 
 -- two bytes as a route, and back
 pub read-nothing : readRoute 255 255 ≡ nothing
@@ -230,9 +230,12 @@ module _ (I : Instance) where
           (λ v m. act-entry v (omega (arith, table-length (activateBytes I w buffer) (I .n))) (eq-or-ne v w))
 
   -- an act leaves a table that obeys its rule
-  pub act-ok : (w : ℕ) (buffer : List ℕ) → I .n ≤ 64 → w < I .n → 2 * I .n ≤ length buffer → tableOk I (tableOf buffer (I .n)) ≡ true
-      → tableOk I (tableOf (activateBytes I w buffer) (I .n)) ≡ true
-  act-ok w buffer small l h ok = ap (tableOk I) (act-table w buffer small l h) ∙ activate-ok I w (tableOf buffer (I .n)) ok
+  pub act-ok : (w : ℕ) (buffer : List ℕ) → I .n ≤ 64 → w < I .n → TableIn I buffer → TableIn I (activateBytes I w buffer)
+  act-ok w buffer small l t =
+      record {
+        long = omega (arith, act-length w buffer, t .long);
+        rule = ap (tableOk I) (act-table w buffer small l (t .long)) ∙ activate-ok I w (tableOf buffer (I .n)) (t .rule);
+      }
 
   pub run-bytes-length : (buffer acts : List ℕ) → length (runBytes I buffer acts) ≡ length buffer
   unfolding runBytes
@@ -274,8 +277,13 @@ module _ (I : Instance) (neighbours : (w v : ℕ) → I .neighbour w v ≡ true 
           let q : (ltb e (I .n) && I .neighbour v s) ≡ true = rw p at h in
           (ltb-true e (I .n) (both-left (ltb e (I .n)) (I .neighbour v s) q), neighbours v s (both-right (ltb e (I .n)) (I .neighbour v s) q))
 
-  pub table-below : (buffer : List ℕ) → tableOk I (tableOf buffer (I .n)) ≡ true → (v : ℕ) → v < I .n → RouteBelow (I .n) (routeAt buffer v)
+  pub table-below : (buffer : List ℕ) → TableIn I buffer → RoutesIn (I .n) buffer
   unfolding tableOk
-  table-below buffer h v l =
-      entry-below v (routeAt buffer v) l
-      (ap (entryOk I v) (sym (table-held buffer (I .n) v l)) ∙ all-at (λ v. entryOk I v (held (tableOf buffer (I .n)) v)) (I .n) h v l)
+  table-below buffer t =
+      record {
+        long = t .long;
+        below = λ v l.
+            entry-below v (routeAt buffer v) l
+            (ap (entryOk I v) (sym (table-held buffer (I .n) v l))
+            ∙ all-at (λ v. entryOk I v (held (tableOf buffer (I .n)) v)) (I .n) (t .rule) v l);
+      }

@@ -9,8 +9,8 @@ use Rattle.routing.specs.Rounds.{rounds}
 use Rattle.activation.specs.declared.runs.Applied.{Applied}
 use Rattle.activation.specs.TableBytes.{runBytes}
 
--- "the acts applied (the smaller of limit and sequence length), the whole rounds in them, and 'spent' exactly if the sequence is longer than
--- the limit"; spent is called exhausted here. The table's bytes before the run are `table`, and after it `after`.
+-- "the acts applied (the smaller of limit and sequence length), the whole rounds in them, and 'spent' exactly if the sequence is
+-- longer than the limit"; spent is called exhausted here. The table's bytes before the run are `table`, and after it `after`.
 pub record RunLeaves (I : Instance) (acts : List ℕ) (limit : ℕ) (table : List ℕ) (r : Applied) (after : List ℕ) : Type 0 where
   pub count : r .acts ≡ min limit (length acts)
   pub whole : r .rounds ≡ rounds (I .n) (take limit acts)

@@ -11,11 +11,16 @@ use Rattle.routing.specs.Activation.{advertises}
 unfoldable pub toldBy : Instance → ℕ → ℕ → Route → Option ℕ
 toldBy I w v x = cond (I .neighbour w v) (advertises I v x w) none
 
--- Of the route kept so far and what router v tells: v's if its egress is preferred, or if it is the egress kept and v is that egress itself.
+-- Of the route kept so far and what router v tells: v's if its egress is preferred, or if it is the egress kept and v is that
+-- egress itself.
 unfoldable pub keepRoute : (ℕ → ℕ → Bool) → ℕ → Option ℕ → Route → Route
 keepRoute prefer v none x = x
 keepRoute prefer v (some e) nothing = via e v
 keepRoute prefer v (some e) (via f s) = cond (prefer e f || (eqb e f && eqb e v)) (via e v) (via f s)
+
+-- .. at w, of the route kept so far and what v, which holds the given route, tells
+abbrev pub keepHeard : Instance → ℕ → ℕ → Route → Route → Route
+keepHeard I w v held x = keepRoute (prefers I w) v (toldBy I w v held) x
 
 -- what is kept of the routers below n, where `told v` is what v tells
 unfoldable pub kept : (ℕ → ℕ → Bool) → (ℕ → Option ℕ) → ℕ → Route

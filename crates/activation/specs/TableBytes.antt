@@ -1,13 +1,14 @@
 -- A routing table in bytes (document 01: "A held-route table has two bytes a router, egress and sender; 255 255 is nothing.").
-use Prim.Native.Nat.{ℕ, _+_, _*_, _<_}
-use mathlib.Core.Bool.{cond, _&&_}
+use Prim.Native.Nat.{ℕ, _+_, _*_, _≤_, _<_}
+use mathlib.Core.Path.{_≡_}
+use mathlib.Core.Bool.{Bool, true, cond, _&&_}
 use mathlib.Core.List.{List, [], _∷_, foldl}
 use lib.Dec.{eqb}
-use lib.ListN.{getD, set}
+use lib.ListN.{length, getD, set}
 use Rattle.base.specs.Tab.{tab}
 use Rattle.activation.specs.declared.table.RouteBytes.{RouteBytes}
 use Rattle.routing.specs.Instance.{Instance, Route, nothing, via}
-use Rattle.routing.specs.Activation.{choose}
+use Rattle.routing.specs.Activation.{choose, tableOk}
 
 -- the route that two bytes stand for, and the two bytes of a route
 unfoldable pub readRoute : ℕ → ℕ → Route
@@ -44,6 +45,20 @@ tableOf buffer n = tab (routeAt buffer) n
 unfoldable pub tableBytes : List Route → List ℕ
 tableBytes [] = []
 tableBytes (x ∷ t) = egressByte x ∷ senderByte x ∷ tableBytes t
+
+-- the rule of the table in a buffer's first 2n bytes
+abbrev pub tableRule : Instance → List ℕ → Bool
+tableRule I buffer = tableOk I (tableOf buffer (I .n))
+
+-- a buffer that is long enough for a table and holds one that obeys its rule
+pub record TableIn (I : Instance) (buffer : List ℕ) : Type 0 where
+  pub long : 2 * I .n ≤ length buffer
+  pub rule : tableRule I buffer ≡ true
+
+-- .. or one whose entries name routers below n alone
+pub record RoutesIn (n : ℕ) (buffer : List ℕ) : Type 0 where
+  pub long : 2 * n ≤ length buffer
+  pub below : (v : ℕ) → v < n → RouteBelow n (routeAt buffer v)
 
 -- an act and a run on a caller's buffer
 unfoldable pub activateBytes : Instance → ℕ → List ℕ → List ℕ

@@ -1,45 +1,45 @@
 // An activation on the caller's table: one pass over the routers, of which the neighbours are heard.
 
 use crate::table::RouteBytes;
+use network::NO_ROUTER;
 use network::Network;
 ghost use mathlib.Core.Path.{_≡_};
-ghost use mathlib.Core.Bool.{true};
 ghost use mathlib.Core.List.{List};
 ghost use Prim.Native.Nat.{ℕ, _*_, _≤_, _<_};
 ghost use lib.ListN.{length};
 ghost use Rattle.bodies.specs.Distances.{distanceIn};
 ghost use Rattle.routing.specs.Instance.{Instance};
 ghost use Rattle.routing.specs.Preference.{prefers};
-ghost use Rattle.routing.specs.Activation.{reflects, advertises, tableOk};
-ghost use Rattle.network.specs.Decoded.{decoded};
-ghost use Rattle.activation.specs.TableBytes.{RouteBelow, routeAt, routeOf, tableOf, activateBytes};
+ghost use Rattle.routing.specs.Activation.{reflects, advertises};
+ghost use Rattle.network.specs.Decoded.{decoded, instance};
+ghost use Rattle.activation.specs.TableBytes.{RouteBelow, RoutesIn, TableIn, routeAt, routeOf, activateBytes};
 ghost use Rattle.routing.specs.RouterBytes.{asRouter, RouterBelow};
-ghost use Rattle.activation.specs.OnePass.{toldBy, keepRoute, keptHeard};
+ghost use Rattle.activation.specs.OnePass.{keepRoute, keepHeard, keptHeard};
 ghost use Rattle.network.specs.WellFormed.{WellFormed};
 
-// What an unlisted reflector that holds a route passes on to w; 255 is nothing.
+// What an unlisted reflector that holds a route passes on to w; NO_ROUTER is nothing.
 fn reflected(net: Network, route: RouteBytes, w: usize) -> u8
     requires { ⌜ (net .n ≤ 64) × (w < net .n) × RouteBelow (net .n) (routeOf route) ⌝ }
     ensures { λ r. ⌜ ((rows distances : List ℕ) → asRouter r ≡ reflects (decoded net rows distances) (routeOf route) w) ⌝ }
 {
     let egress = route.egress;
-    if egress == 255 {
-        return 255;
+    if egress == NO_ROUTER {
+        return NO_ROUTER;
     }
     let sender = base::wide(route.sender);
     if base::bits::has_bit(net.reflectors, sender) {
         if base::bits::has_bit(net.reflectors, w) {
-            return 255;
+            return NO_ROUTER;
         }
         return egress;
     }
     if sender == w {
-        return 255;
+        return NO_ROUTER;
     }
     egress
 }
 
-// What router v, holding a route, advertises to its neighbour w; 255 is nothing.
+// What router v, holding a route, advertises to its neighbour w; NO_ROUTER is nothing.
 fn advertised(net: Network, v: usize, route: RouteBytes, w: usize) -> u8
     requires { ⌜ (net .n ≤ 64) × (v < net .n) × (w < net .n) × RouteBelow (net .n) (routeOf route) ⌝ }
     ensures { λ r. ⌜ ((rows distances : List ℕ) → asRouter r ≡ advertises (decoded net rows distances) v (routeOf route) w) ⌝ }
@@ -50,15 +50,17 @@ fn advertised(net: Network, v: usize, route: RouteBytes, w: usize) -> u8
     if base::bits::has_bit(net.reflectors, v) {
         return reflected(net, route, w);
     }
-    255
+    NO_ROUTER
 }
 
 // Of the route kept so far and the egress that router v tells, which w keeps.
 fn keep(distances: &[u8], n: usize, w: usize, v: usize, told: u8, kept: RouteBytes) -> RouteBytes
-    requires { ⌜ (w < n) × (v < n) × (n ≤ 64) × (2 * (n * n) ≤ length (now distances)) × RouterBelow n (asRouter told) × RouteBelow n (routeOf kept) ⌝ }
-    ensures { λ r. ⌜ ((I : Instance) → I .dist ≡ distanceIn (now (distances .entry)) n → routeOf r ≡ keepRoute (prefers I w) v (asRouter told) (routeOf kept)) ⌝ }
+    requires { ⌜ (w < n) × (v < n) × (n ≤ 64) × (2 * (n * n) ≤ length (now distances))
+        × RouterBelow n (asRouter told) × RouteBelow n (routeOf kept) ⌝ }
+    ensures { λ r. ⌜ ((I : Instance) → I .dist ≡ distanceIn (now (distances .entry)) n
+        → routeOf r ≡ keepRoute (prefers I w) v (asRouter told) (routeOf kept)) ⌝ }
 {
-    if told == 255 {
+    if told == NO_ROUTER {
         return kept;
     }
     let offered = RouteBytes {
@@ -66,7 +68,7 @@ fn keep(distances: &[u8], n: usize, w: usize, v: usize, told: u8, kept: RouteByt
         sender: v as u8,
     };
     let old = kept.egress;
-    if old == 255 {
+    if old == NO_ROUTER {
         return offered;
     }
     if told == old {
@@ -91,8 +93,9 @@ fn hear(
     entry: RouteBytes,
     kept: RouteBytes,
 ) -> RouteBytes
-    requires { ⌜ WellFormed net (now rows) (now distances) × (w < net .n) × (v < net .n) × RouteBelow (net .n) (routeOf entry) × RouteBelow (net .n) (routeOf kept) ⌝ }
-    ensures { λ r. ⌜ routeOf r ≡ keepRoute (prefers (decoded net (now (rows .entry)) (now (distances .entry))) w) v (toldBy (decoded net (now (rows .entry)) (now (distances .entry))) w v (routeOf entry)) (routeOf kept) ⌝ }
+    requires { ⌜ WellFormed net (now rows) (now distances) × (w < net .n) × (v < net .n)
+        × RouteBelow (net .n) (routeOf entry) × RouteBelow (net .n) (routeOf kept) ⌝ }
+    ensures { λ r. ⌜ routeOf r ≡ keepHeard (instance net (rows .entry) (distances .entry)) w v (routeOf entry) (routeOf kept) ⌝ }
 {
     if !base::bits::has_bit(rows[w], v) {
         return kept;
@@ -108,13 +111,13 @@ fn best_heard(
     w: usize,
     table: &[u8],
 ) -> RouteBytes
-    requires { ⌜ WellFormed net (now rows) (now distances) × (w < net .n) × (2 * net .n ≤ length (now table)) × ((v : ℕ) → v < net .n → RouteBelow (net .n) (routeAt (now table) v)) ⌝ }
-    ensures { λ r. ⌜ routeOf r ≡ keptHeard (decoded net (now (rows .entry)) (now (distances .entry))) w (routeAt (now (table .entry))) (net .n) ⌝ }
+    requires { ⌜ WellFormed net (now rows) (now distances) × (w < net .n) × RoutesIn (net .n) (now table) ⌝ }
+    ensures { λ r. ⌜ routeOf r ≡ keptHeard (instance net (rows .entry) (distances .entry)) w (routeAt (now (table .entry))) (net .n) ⌝ }
 {
     let n = net.n;
     let mut kept = RouteBytes {
-        egress: 255,
-        sender: 255,
+        egress: NO_ROUTER,
+        sender: NO_ROUTER,
     };
     let mut v = 0;
     while v < n {
@@ -134,8 +137,8 @@ fn best_heard(
 
 // The act of router w on a table that obeys its rule.
 pub fn activate(net: Network, rows: &[u64; 64], distances: &[u8], w: usize, table: &mut [u8])
-    requires { ⌜ WellFormed net (now rows) (now distances) × (w < net .n) × (2 * net .n ≤ length (now table)) × (tableOk (decoded net (now rows) (now distances)) (tableOf (now table) (net .n)) ≡ true) ⌝ }
-    ensures { λ _. ⌜ now (table .exit) ≡ activateBytes (decoded net (now (rows .entry)) (now (distances .entry))) w (now (table .entry)) ⌝ }
+    requires { ⌜ WellFormed net (now rows) (now distances) × (w < net .n) × TableIn (instance net rows distances) (now table) ⌝ }
+    ensures { λ _. ⌜ now (table .exit) ≡ activateBytes (instance net (rows .entry) (distances .entry)) w (now (table .entry)) ⌝ }
 {
     if base::bits::has_bit(net.listed, w) {
         crate::table::put_route(

@@ -2,14 +2,11 @@
 
 use crate::tally::RoundTally;
 use network::Network;
-ghost use mathlib.Core.Path.{_≡_};
-ghost use mathlib.Core.Bool.{true};
-ghost use Prim.Native.Nat.{ℕ, _*_, _≤_, _<_};
-ghost use lib.ListN.{length, getD};
-ghost use Rattle.routing.specs.Activation.{tableOk};
-ghost use Rattle.network.specs.Decoded.{decoded};
+ghost use Prim.Native.Nat.{_<_};
+ghost use Rattle.routing.specs.Rounds.{ActsBelow};
+ghost use Rattle.network.specs.Decoded.{instance};
 ghost use Rattle.network.specs.WellFormed.{WellFormed};
-ghost use Rattle.activation.specs.TableBytes.{tableOf};
+ghost use Rattle.activation.specs.TableBytes.{TableIn};
 ghost use Rattle.activation.specs.Applied.{RunLeaves};
 
 // The acts applied, the whole rounds in them, and whether acts were left when the limit was reached.
@@ -28,8 +25,10 @@ pub fn apply(
     limit: usize,
     table: &mut [u8],
 ) -> Applied
-    requires { ⌜ WellFormed net (now rows) (now distances) × (0 < net .n) × (2 * net .n ≤ length (now table)) × (tableOk (decoded net (now rows) (now distances)) (tableOf (now table) (net .n)) ≡ true) × ((i : ℕ) → i < length (now sequence) → getD (now sequence) i 0 < net .n) ⌝ }
-    ensures { λ r. ⌜ RunLeaves (decoded net (now (rows .entry)) (now (distances .entry))) (now (sequence .entry)) limit (now (table .entry)) r (now (table .exit)) ⌝ }
+    requires { ⌜ WellFormed net (now rows) (now distances) × (0 < net .n)
+        × ActsBelow (net .n) (now sequence) × TableIn (instance net rows distances) (now table) ⌝ }
+    ensures { λ r. ⌜ RunLeaves (instance net (rows .entry) (distances .entry)) (now (sequence .entry)) limit
+        (now (table .entry)) r (now (table .exit)) ⌝ }
 {
     let n = net.n;
     let mut tally = RoundTally::new(n);

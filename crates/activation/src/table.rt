@@ -1,5 +1,6 @@
 // A routing table in the caller's bytes: an entry read, an entry written, and the table's rule.
 
+use network::NO_ROUTER;
 use network::Network;
 ghost use mathlib.Core.Path.{_≡_};
 ghost use mathlib.Core.List.{List};
@@ -7,9 +8,9 @@ ghost use Prim.Native.Nat.{ℕ, _+_, _*_, _≤_, _<_};
 ghost use lib.Dec.{eqb};
 ghost use lib.ListN.{length};
 ghost use Rattle.base.specs.Bits.{bitN};
-ghost use Rattle.routing.specs.Activation.{entryOk, tableOk};
+ghost use Rattle.routing.specs.Activation.{entryOk};
 ghost use Rattle.network.specs.Decoded.{decoded};
-ghost use Rattle.activation.specs.TableBytes.{routeAt, putRoute, routeOf, tableOf};
+ghost use Rattle.activation.specs.TableBytes.{routeAt, putRoute, routeOf, tableRule};
 
 // An entry's two bytes.
 pub struct RouteBytes {
@@ -58,8 +59,8 @@ fn entry_ok(net: Network, rows: &[u64; 64], v: usize, route: RouteBytes) -> bool
         }
         return sender == v;
     }
-    if egress == 255 {
-        return sender == 255;
+    if route.egress == NO_ROUTER {
+        return route.sender == NO_ROUTER;
     }
     if net.n <= egress {
         return false;
@@ -70,7 +71,7 @@ fn entry_ok(net: Network, rows: &[u64; 64], v: usize, route: RouteBytes) -> bool
 // The rule of a routing table, which is in the first 2n bytes.
 pub fn table_ok(net: Network, rows: &[u64; 64], table: &[u8]) -> bool
     requires { ⌜ (net .n ≤ 64) × (2 * net .n ≤ length (now table)) ⌝ }
-    ensures { λ r. ⌜ ((distances : List ℕ) → r ≡ tableOk (decoded net (now (rows .entry)) distances) (tableOf (now (table .entry)) (net .n))) ⌝ }
+    ensures { λ r. ⌜ ((distances : List ℕ) → r ≡ tableRule (decoded net (now (rows .entry)) distances) (now (table .entry))) ⌝ }
 {
     let n = net.n;
     let mut v = 0;

@@ -19,7 +19,7 @@ use Rattle.plan.proofs.Passed.{passed}
 use Rattle.routing.specs.Instance.{Instance, Route}
 use Rattle.routing.specs.Activation.{tableOk, activate, runActs}
 use Rattle.routing.proofs.Activation.{activate-ok}
-use Rattle.routing.proofs.Rounds.{ActsBelow}
+use Rattle.routing.specs.Rounds.{ActsBelow}
 use Rattle.settling.specs.Settled.{settledTable}
 use Rattle.settling.specs.Claims.{IsTable, Steady}
 use Rattle.settling.proofs.Existence.{steady-stays}

@@ -5,7 +5,7 @@ use mathlib.Core.Bool.{Bool, true, false, _&&_}
 use mathlib.Core.List.{List}
 use mathlib.Core.Logic.{⊎-elim}
 use borrow.Author.Tests.{ltb-true, leb-true}
-use lib.ListN.{length, getD}
+use lib.ListN.{length}
 use Rattle.base.proofs.Below.{all-at}
 use Rattle.base.proofs.Numbers.{facts, eq-or-ne}
 use Rattle.contents.specs.Header.{routerCount}
@@ -14,8 +14,8 @@ use Rattle.plan.specs.Refusal.{refuse, planChecks, planRefusal}
 use Rattle.plan.proofs.Cascade.{call-cascade, plan-passes, plan-of-passed, refuse-passed}
 use Rattle.plan.proofs.Passed.{passed}
 use Rattle.routing.specs.Instance.{Instance}
-use Rattle.routing.specs.Activation.{tableOk}
-use Rattle.activation.specs.TableBytes.{tableOf}
+use Rattle.routing.specs.Rounds.{ActsBelow}
+use Rattle.activation.specs.TableBytes.{TableIn}
 use Rattle.refusals.specs.Refusals.{hasList, hasRouter, sequenceOk, askedChecks, egressListRefusal, compareRefusal, reliesRefusal, buffersOk, verdictRefusal, tableChecks}
 
 module _ (plan : List ℕ) (h : planRefusal plan ≡ 0) where
@@ -117,7 +117,7 @@ relies-asked plan k w v h =
 pub record SequenceAsked (plan : List ℕ) (k : ℕ) (acts : List ℕ) : Type 0 where
   pub planOk : planRefusal plan ≡ 0
   pub list : k < listCount plan
-  pub routers : (i : ℕ) → i < length acts → getD acts i 0 < routerCount plan
+  pub routers : ActsBelow (routerCount plan) acts
   pub some : 0 < routerCount plan
 
 pub sequence-asked : (plan : List ℕ) (k : ℕ) (acts : List ℕ) → askedChecks plan (hasList plan k && sequenceOk acts (routerCount plan)) 0 ≡ 0
@@ -158,11 +158,7 @@ verdict-asked plan k labels ranks table cycle h =
       cycleLong = q .1;
     }
 
-pub record TableAsked (I : Instance) (table : List ℕ) : Type 0 where
-  pub long : 2 * I .n ≤ length table
-  pub rule : tableOk I (tableOf table (I .n)) ≡ true
-
-pub table-asked : (I : Instance) (table : List ℕ) → tableChecks I table ≡ 0 → TableAsked I table
+pub table-asked : (I : Instance) (table : List ℕ) → tableChecks I table ≡ 0 → TableIn I table
 unfolding tableChecks
 table-asked I table h =
     let long = refuse-passed _ 8 _ h in

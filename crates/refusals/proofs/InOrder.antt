@@ -7,7 +7,8 @@ use Rattle.plan.specs.Refusal.{refuse}
 use Rattle.plan.proofs.Cascade.{plan-passes, plan-refused}
 use Rattle.routing.specs.Instance.{Instance}
 use Rattle.network.specs.FromPlan.{instanceOf}
-use Rattle.refusals.specs.Refusals.{hasList, hasRouter, sequenceOk, askedChecks, egressListRefusal, compareRefusal, reliesRefusal, buffersOk, verdictRefusal, tableLong, tableRule, tableChecks, activateRefusal, runRefusal}
+use Rattle.activation.specs.TableBytes.{tableRule}
+use Rattle.refusals.specs.Refusals.{hasList, hasRouter, sequenceOk, askedChecks, egressListRefusal, compareRefusal, reliesRefusal, buffersOk, verdictRefusal, tableLong, tableChecks, activateRefusal, runRefusal}
 use Rattle.refusals.specs.InOrder.{InOrder}
 
 in-order : (plan : List ℕ) (ok long rule : Bool) → InOrder plan ok long rule (askedChecks plan ok (refuse long 9 (refuse rule 10 0)))

@@ -9,9 +9,8 @@ use Rattle.contents.specs.Header.{routerCount}
 use Rattle.plan.specs.EgressLists.{listCount}
 use Rattle.plan.specs.Refusal.{refuse, planChecks}
 use Rattle.routing.specs.Instance.{Instance}
-use Rattle.routing.specs.Activation.{tableOk}
 use Rattle.network.specs.FromPlan.{instanceOf}
-use Rattle.activation.specs.TableBytes.{tableOf}
+use Rattle.activation.specs.TableBytes.{tableRule}
 
 -- Row 8: "the list asked for is m or more, or a router asked for, or named in a sequence of acts, is n or more".
 abbrev pub hasList : List ℕ → ℕ → Bool
@@ -51,9 +50,6 @@ verdictRefusal plan k labels ranks table cycle =
 -- Row 9: "An act or a run needs 2n bytes of table." Row 10: "a held-route table breaks its rule".
 abbrev pub tableLong : Instance → List ℕ → Bool
 tableLong I table = leb (2 * I .n) (length table)
-
-abbrev pub tableRule : Instance → List ℕ → Bool
-tableRule I table = tableOk I (tableOf table (I .n))
 
 unfoldable pub tableChecks : Instance → List ℕ → ℕ
 tableChecks I table = refuse (tableLong I table) 9 (refuse (tableRule I table) 10 0)

@@ -8,7 +8,6 @@ use mathlib.Core.Logic.{_⊎_, inl, inr, ⊎-elim}
 use mathlib.Core.List.{List, [], _∷_, _++_, foldl, foldl-append}
 use lib.Bits.{bitOr}
 use lib.Dec.{eqb}
-use lib.ListN.{length, getD}
 use lib.Pow.{pow-pos}
 use borrow.Author.Tests.{eq-eqb, ne-eqb}
 use Rattle.base.specs.Below.{allBelow}
@@ -16,7 +15,7 @@ use Rattle.base.specs.Seek.{flag, count}
 use Rattle.base.proofs.Below.{all-at, all-intro}
 use Rattle.base.proofs.Seek.{count-cong, count-all, count-few, count-one-more}
 use Rattle.base.proofs.Numbers.{eq-or-ne, true-or-false, not-both}
-use Rattle.routing.specs.Rounds.{acted, roundsFrom, rounds, Tally, freshTally, tallyAct, tallyActs}
+use Rattle.routing.specs.Rounds.{ActsBelow, acted, roundsFrom, rounds, Tally, freshTally, tallyAct, tallyActs}
 use Rattle.base.specs.Bits.{bitN}
 use Rattle.base.proofs.BitLaws.{bit-or, bit-pow-same, bit-pow-other}
 
@@ -154,10 +153,6 @@ module _ (n a : ℕ) (t : Tally) (since : List ℕ) (k : ℕ) (w : TallyOf n sin
     more-open : (t .missing ≡ 1 → ⊥) → allBelow (acted (a ∷ since)) n ≡ true → ⊥
     more-open q p =
         omega (arith, w .missing, w .waiting (omega arith), one-more, all-acted n (a ∷ since) p)
-
--- every act is of a router below n
-abbrev pub ActsBelow : ℕ → List ℕ → Type 0
-ActsBelow n acts = (i : ℕ) → i < length acts → getD acts i 0 < n
 
 tally-from : (n : ℕ) (t : Tally) (since : List ℕ) (k : ℕ) (acts : List ℕ) → TallyOf n since k t → ActsBelow n acts
     → tallyActs n t acts .ended ≡ k + roundsFrom n since acts

@@ -1,11 +1,16 @@
 -- The rounds in a sequence of acts (document 01, "A run applies a sequence of acts").
-use Prim.Native.Nat.{ℕ, suc, _+_, _-_, _^_}
+use Prim.Native.Nat.{ℕ, suc, _+_, _-_, _^_, _<_}
 use mathlib.Core.Bool.{Bool, true, false, cond, _||_}
 use mathlib.Core.List.{List, [], _∷_, foldl}
 use lib.Dec.{eqb}
 use lib.Bits.{bitOr}
+use lib.ListN.{length, getD}
 use Rattle.base.specs.Below.{allBelow}
 use Rattle.base.specs.Bits.{bitN}
+
+-- every act is of a router below n
+abbrev pub ActsBelow : ℕ → List ℕ → Type 0
+ActsBelow n acts = (i : ℕ) → i < length acts → getD acts i 0 < n
 
 -- router v is among those that acted
 unfoldable pub acted : List ℕ → ℕ → Bool

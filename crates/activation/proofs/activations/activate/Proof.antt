@@ -1,11 +1,10 @@
-use Prim.Native.Nat.{ℕ, _<_}
 use native.Mathlib.Omega.{arith}
 use mathlib.Core.Path.{_∙_, sym, ap}
 use borrow.Author.Needs.{needs}
 use borrow.Author.Tests.{eqb-true}
 use Rattle.routing.specs.Instance.{Instance}
 use Rattle.network.specs.Decoded.{decoded}
-use Rattle.activation.specs.TableBytes.{RouteBelow, routeAt, putRoute, activateBytes}
+use Rattle.activation.specs.TableBytes.{RoutesIn, routeAt, putRoute, activateBytes}
 use Rattle.routing.proofs.Activation.{choose-listed}
 use Rattle.activation.proofs.TableBytes.{read-via, table-below}
 use Rattle.activation.proofs.OnePass.{heard-choice}
@@ -16,8 +15,8 @@ abbrev instance : tie.Start → Instance
 instance c = decoded (c .args .net) (c .args .rows .now) (c .args .distances .now)
 
 -- every entry names routers
-below : (c : tie.Start) (v : ℕ) → v < c .args .net .n → RouteBelow (c .args .net .n) (routeAt (c .args .table .now) v)
-below c = table-below (instance c) (λ w v h. c .pre .0 .neighbours w v (eqb-true _ 1 h)) (c .args .table .now) (c .pre .3)
+below : (c : tie.Start) → RoutesIn (c .args .net .n) (c .args .table .now)
+below c = table-below (instance c) (λ w v h. c .pre .0 .neighbours w v (eqb-true _ 1 h)) (c .args .table .now) (c .pre .2)
 
 returns : tie.Need-returns
 unfolding activateBytes
@@ -36,7 +35,7 @@ returns-2 c =
     let d = e .before .before .before .before in
     c .before .before .put-route2 .ensures
     ∙ ap (putRoute (d .args .table .now) (d .args .w))
-    (g .best-heard .ensures ∙ heard-choice (instance d) _ (routeAt (d .args .table .now)) (below d) (sym (e .before .has-bit .ensures) ∙ e .if1 .left))
+    (g .best-heard .ensures ∙ heard-choice (instance d) _ (routeAt (d .args .table .now)) (below d .below) (sym (e .before .has-bit .ensures) ∙ e .if1 .left))
 
 pub activate-spec : {M : Type 1} → statement M
 activate-spec =
@@ -48,7 +47,7 @@ activate-spec =
     (λ c κs. search needs)
     (λ c. search needs)
     returns
-    (λ c κs. let d = c .before .before .before .before .before in let p = d .pre in (p .0, p .1, p .2, below d))
+    (λ c κs. let d = c .before .before .before .before .before in let p = d .pre in (p .0, p .1, below d))
     (λ c κs. search needs)
     (λ c. search needs)
     returns-2)

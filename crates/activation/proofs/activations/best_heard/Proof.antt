@@ -3,10 +3,9 @@ use native.Mathlib.Omega.{arith}
 use mathlib.Core.Path.{_≡_, _∙_, sym, ap, ap₂}
 use borrow.Author.Needs.{needs}
 use Rattle.routing.specs.Instance.{Instance, Route}
-use Rattle.routing.specs.Preference.{prefers}
 use Rattle.network.specs.Decoded.{decoded}
 use Rattle.activation.specs.TableBytes.{routeAt, routeOf}
-use Rattle.activation.specs.OnePass.{toldBy, keepRoute, keptHeard}
+use Rattle.activation.specs.OnePass.{keepHeard, keptHeard}
 use Rattle.activation.proofs.TableBytes.{read-nothing}
 use Rattle.activation.proofs.OnePass.{heard-none, heard-more, heard-below}
 use Rattle.activation.proofs.activations.best_heard.Statement.{statement}
@@ -34,8 +33,8 @@ hear-requires c κs =
       p .0,
       p .1,
       t,
-      rw (c .route-at .ensures) (p .3 (l .v) t),
-      rw (l .inv .1) (heard-below (instance d) _ (view d) (p .3) (l .v) (l .inv .0)),
+      rw (c .route-at .ensures) (p .2 .below (l .v) t),
+      rw (l .inv .1) (heard-below (instance d) _ (view d) (p .2 .below) (l .v) (l .inv .0)),
     )
 
 loop-again : tie.Need-loop-again Inv-loop μ-loop
@@ -45,7 +44,7 @@ loop-again c =
     let w = d .args .w in (
       omega arith,
       c .hear .ensures
-          ∙ ap₂ (λ x k. keepRoute (prefers (instance d) w) (l .v) (toldBy (instance d) w (l .v) x) k) (c .before .route-at .ensures) (l .inv .1)
+          ∙ ap₂ (keepHeard (instance d) w (l .v)) (c .before .route-at .ensures) (l .inv .1)
           ∙ sym (heard-more (instance d) w (view d) (l .v)),
     )
 

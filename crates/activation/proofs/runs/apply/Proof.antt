@@ -1,5 +1,5 @@
 -- The run's laws are in proofs/Running.antt: `Ran` holds after each act, and the budget is what is left of the limit.
-use Prim.Native.Nat.{_+_, _-_, _*_, _≤_, _<_}
+use Prim.Native.Nat.{_+_, _-_, _≤_, _<_}
 use native.Mathlib.Omega.{arith}
 use mathlib.Core.Path.{_≡_, _∙_, sym, ap, subst₂}
 use borrow.Author.Needs.{needs}
@@ -29,10 +29,7 @@ abbrev network : tie.At-loop Inv-loop μ-loop → Instance
 network c = let a = entry c .args in decoded (a .net) (a .rows .now) (a .distances .now)
 
 router-below : (c : tie.In-loop Inv-loop μ-loop) → getD (entry (c .before) .args .sequence .now) (c .before .loop .i) 0 < entry (c .before) .args .net .n
-router-below c = entry (c .before) .pre .4 (c .before .loop .i) (c .loop-test .taken)
-
-room : (c : tie.At-loop Inv-loop μ-loop) → 2 * entry c .args .net .n ≤ length (c .loop .table)
-room c = omega (arith, c .loop .inv .1 .long, entry c .pre .2)
+router-below c = entry (c .before) .pre .2 (c .before .loop .i) (c .loop-test .taken)
 
 returns : tie.Need-returns Inv-loop μ-loop
 returns c =
@@ -43,7 +40,7 @@ returns c =
     let r = d .loop .inv .1 in
     record {
       count = omega arith;
-      whole = ran-rounds _ _ _ _ _ _ r (entry d .pre .4) ∙ ap (λ k. rounds (a .net .n) (take k (a .sequence .now))) e;
+      whole = ran-rounds _ _ _ _ _ _ r (entry d .pre .2) ∙ ap (λ k. rounds (a .net .n) (take k (a .sequence .now))) e;
       exhausted = sym (lt-ltb (a .limit) (length (a .sequence .now)) (omega arith));
       bytes = r .bytes ∙ ap (λ k. runBytes (network d) (a .table .now) (take k (a .sequence .now))) e;
     }
@@ -51,7 +48,7 @@ returns c =
 activate-requires : tie.Need-activate-requires Inv-loop μ-loop
 activate-requires c κs =
     let d = c .before .before .before .before in
-    (entry (d .before) .pre .0, rw (c .before .wide .ensures .0) (router-below d), room (d .before), d .before .loop .inv .1 .legal)
+    (entry (d .before) .pre .0, rw (c .before .wide .ensures .0) (router-below d), d .before .loop .inv .1 .legal)
 
 act-requires : tie.Need-act-requires Inv-loop μ-loop
 act-requires c κs =
@@ -74,7 +71,7 @@ loop-again c =
       subst₂ (Ran I (a .sequence .now) (a .table .now) (d .before .loop .i + 1))
           (sym (f .activate .ensures ∙ ap (λ x. activateBytes I x (d .before .loop .table)) w))
           (sym (c .act .ensures ∙ ap (tallyAct (a .net .n) (tallied (d .before .loop .tally))) w))
-          (ran-more _ _ _ _ _ _ (d .before .loop .inv .1) (d .loop-test .taken) (entry (d .before) .pre .0 .count) (room (d .before)) (router-below d)),
+          (ran-more _ _ _ _ _ _ (d .before .loop .inv .1) (d .loop-test .taken) (entry (d .before) .pre .0 .count) (router-below d)),
     )
 
 returns-2 : tie.Need-returns-2 Inv-loop μ-loop
@@ -87,7 +84,7 @@ returns-2 c =
     let e = take-within (network d) (a .sequence .now) (a .table .now) (d .loop .i) (a .limit) l (omega (arith, d .loop .inv .0)) in
     record {
       count = omega (arith, r .upto);
-      whole = ran-rounds _ _ _ _ _ _ r (entry d .pre .4) ∙ ap (rounds (a .net .n)) e;
+      whole = ran-rounds _ _ _ _ _ _ r (entry d .pre .2) ∙ ap (rounds (a .net .n)) e;
       exhausted = sym (le-ltb (a .limit) (length (a .sequence .now)) m);
       bytes = r .bytes ∙ ap (runBytes (network d) (a .table .now)) e;
     }

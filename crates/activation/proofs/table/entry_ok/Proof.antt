@@ -2,7 +2,7 @@
 use Prim.Native.Nat.{ℕ}
 use native.Mathlib.Omega.{arith}
 use mathlib.Core.Path.{_≡_, _∙_, sym, ap, ap₂}
-use mathlib.Core.Bool.{Bool}
+use mathlib.Core.Bool.{Bool, false}
 use mathlib.Core.List.{List}
 use borrow.Author.Needs.{needs}
 use Rattle.routing.specs.Instance.{Instance}
@@ -52,20 +52,32 @@ returns-2 c distances =
 
 returns-3 : tie.Need-returns-3
 returns-3 c distances =
-    let d = c .before .before in
-    sym (from-bytes d distances (entry-none (I d distances) _ _ _ (listed d distances (c .before .if1 .left)) (omega arith) (c .if3 .taken)))
+    let u = c .before .before .before in
+    sym (entry-none (I (u .before) distances) _ _ _ (listed (u .before) distances (u .if1 .left)) (omega arith) (c .before .if3 .taken))
+
+-- an unlisted router's entry names an egress
+module _ (c : tie.Else3) (distances : List ℕ) where
+  abbrev read : tie.After-has-bit
+  read = c .before .before .before
+
+  unlisted : I read distances .listed (v read distances) ≡ false
+  unlisted = listed read distances (c .before .before .if1 .left)
+
+  named : egress read distances ≡ 255 → ⊥
+  named h = c .if3 .left (sym (read .before .before .wide .ensures .0) ∙ h)
 
 returns-4 : tie.Need-returns-4
 returns-4 c distances =
     let e = c .before .before in
-    let d = e .before .before in
-    sym (from-bytes d distances (entry-far (I d distances) _ _ _ (listed d distances (e .before .if1 .left)) (e .if3 .left) (c .if4 .taken)))
+    let d = read e distances in
+    sym (from-bytes d distances (entry-far (I d distances) _ _ _ (unlisted e distances) (named e distances) (c .if4 .taken)))
 
 returns-5 : tie.Need-returns-5
 returns-5 c distances =
     let e = c .before .before .before .before in
-    let d = e .before .before in
-    c .in-row .ensures ∙ sym (from-bytes d distances (entry-near (I d distances) _ _ _ (listed d distances (e .before .if1 .left)) (e .if3 .left) (c .before .before .if4 .left)))
+    let d = read e distances in
+    c .in-row .ensures
+    ∙ sym (from-bytes d distances (entry-near (I d distances) _ _ _ (unlisted e distances) (named e distances) (c .before .before .if4 .left)))
 
 pub entry-ok-spec : {M : Type 1} → statement M
 entry-ok-spec =

@@ -31,8 +31,7 @@ activate-requires c κs =
     let p = l .before .before .before .before .pre in (
       p .0 .formed,
       c .before .before .before .before .loop-test .taken,
-      omega (arith, p .0 .long, l .loop .inv .1),
-      below-legal _ _ (p .0 .falls) _ _ _ (l .loop .inv .2 .on),
+      record { long = omega (arith, p .0 .long, l .loop .inv .1); rule = below-legal _ _ (p .0 .falls) _ _ _ (l .loop .inv .2 .on) },
     )
 
 loop-again : tie.Need-loop-again Inv-loop μ-loop

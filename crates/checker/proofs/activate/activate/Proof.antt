@@ -56,7 +56,7 @@ activate-requires c κs =
     table-asked (decoded (e .decode .result) (e .decode .last .1 .1 .0) part) (a .table .now)
     (sym (d .before .table-refusal .ensures part) ∙ d .if2 .left)
     in
-    (rw (c .before .part .ensures) (well-formed _ _ _ _ (q .planOk) (q .list) read), rw (read .count) (q .router), t .long, t .rule)
+    (rw (c .before .part .ensures) (well-formed _ _ _ _ (q .planOk) (q .list) read), rw (read .count) (q .router), t)
 
 returns-3 : tie.Need-returns-3
 returns-3 c =

@@ -64,9 +64,8 @@ apply-requires c κs =
     in (
       rw (c .before .part .ensures) (well-formed _ _ _ _ (q .planOk) (q .list) read),
       rw (read .count) (q .some),
-      t .long,
-      t .rule,
-      λ i l. rw (read .count) (q .routers i l),
+      rw (read .count) (q .routers),
+      t,
     )
 
 returns-3 : tie.Need-returns-3
