@@ -7,6 +7,15 @@ ghost use lib.ListN.{length};
 ghost use Rattle.base.specs.Bytes.{PartOf};
 ghost use Rattle.contents.specs.Contents.{entryAt, contentsOf, end, kindsOk, placesOk, sizesOk, contentsOk};
 
+// The place of each kind's entry in the table.
+pub const ROUTERS: usize = 0;
+
+pub const SESSIONS: usize = 1;
+
+pub const DISTANCES: usize = 2;
+
+pub const LISTS: usize = 3;
+
 // "kind (1 byte), offset (2), length (2)"; the length is called size.
 pub struct Entry {
     pub kind: u8,
@@ -40,19 +49,19 @@ pub fn read_contents(plan: &[u8]) -> [Entry; 4]
 fn kinds_ok(table: [Entry; 4]) -> bool
     ensures { λ r. ⌜ r ≡ kindsOk table ⌝ }
 {
-    let routers = table[0];
+    let routers = table[ROUTERS];
     if routers.kind != 1 {
         return false;
     }
-    let sessions = table[1];
+    let sessions = table[SESSIONS];
     if sessions.kind != 2 {
         return false;
     }
-    let distances = table[2];
+    let distances = table[DISTANCES];
     if distances.kind != 3 {
         return false;
     }
-    let lists = table[3];
+    let lists = table[LISTS];
     lists.kind == 4
 }
 
@@ -66,19 +75,19 @@ fn follows(before: Entry, after: Entry) -> bool
 fn places_ok(table: [Entry; 4], plan_length: usize) -> bool
     ensures { λ r. ⌜ r ≡ placesOk table «plan_length» ⌝ }
 {
-    let routers = table[0];
+    let routers = table[ROUTERS];
     if routers.offset != 26 {
         return false;
     }
-    let sessions = table[1];
+    let sessions = table[SESSIONS];
     if !follows(routers, sessions) {
         return false;
     }
-    let distances = table[2];
+    let distances = table[DISTANCES];
     if !follows(sessions, distances) {
         return false;
     }
-    let lists = table[3];
+    let lists = table[LISTS];
     if !follows(distances, lists) {
         return false;
     }
@@ -89,15 +98,15 @@ fn sizes_ok(table: [Entry; 4], n: usize) -> bool
     requires { ⌜ n ≤ 64 ⌝ }
     ensures { λ r. ⌜ r ≡ sizesOk table n ⌝ }
 {
-    let routers = table[0];
+    let routers = table[ROUTERS];
     if routers.size as usize != 5 * n {
         return false;
     }
-    let sessions = table[1];
+    let sessions = table[SESSIONS];
     if sessions.size % 2 != 0 {
         return false;
     }
-    let distances = table[2];
+    let distances = table[DISTANCES];
     distances.size as usize == 2 * (n * n)
 }
 

@@ -3,6 +3,9 @@
 ghost use mathlib.Core.Path.{_≡_};
 ghost use Rattle.contents.specs.Header.{headerOk, routerCountOk};
 
+// The byte of n, the number of routers.
+pub const ROUTER_COUNT: usize = 4;
+
 pub fn header_ok(plan: &[u8]) -> bool
     ensures { λ r. ⌜ r ≡ headerOk (now (plan .entry)) ⌝ }
 {

@@ -1,5 +1,6 @@
 // The egress lists of a plan that is not refused: how many there are, and where the numbers of one stand.
 
+use contents::entries::LISTS;
 ghost use mathlib.Core.Path.{_≡_};
 ghost use Prim.Native.Nat.{ℕ, _≤_, _<_};
 ghost use lib.ListN.{length};
@@ -26,7 +27,7 @@ pub fn list_count(plan: &[u8]) -> usize
     requires { ⌜ planRefusal (now plan) ≡ 0 ⌝ }
     ensures { λ r. ⌜ r ≡ listCount (now (plan .entry)) ⌝ }
 {
-    let s = crate::parts::part(plan, 3);
+    let s = crate::parts::part(plan, LISTS);
     base::wide(s[0])
 }
 
@@ -40,10 +41,10 @@ pub fn list_span(plan: &[u8], list: usize) -> Span
     requires { ⌜ (planRefusal (now plan) ≡ 0) × (list < listCount (now plan)) ⌝ }
     ensures { λ r. ⌜ SpanOf (now (plan .entry)) list (r .start) (r .count) ⌝ }
 {
-    let s = crate::parts::part(plan, 3);
+    let s = crate::parts::part(plan, LISTS);
     let place = list_place(s, list);
     Span {
-        start: crate::parts::part_start(plan, 3) + place + 1,
+        start: crate::parts::part_start(plan, LISTS) + place + 1,
         count: base::wide(s[place]),
     }
 }

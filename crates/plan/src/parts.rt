@@ -1,4 +1,4 @@
-// The bodies of a plan that is not refused, by their place in the table of contents: 0 routers, 1 sessions, 2 distances, 3 lists.
+// The bodies of a plan that is not refused, by their entries' place in the table of contents.
 
 ghost use mathlib.Core.Path.{_≡_};
 ghost use Prim.Native.Nat.{_<_};

@@ -1,6 +1,7 @@
 // The refusal table, rows 1 to 7, in order.
 
-use contents::entries::Entry;
+use contents::entries;
+use contents::header;
 ghost use mathlib.Core.Path.{_≡_};
 ghost use mathlib.Core.Bool.{true};
 ghost use Prim.Native.Nat.{_≤_};
@@ -9,23 +10,23 @@ ghost use Rattle.contents.specs.Contents.{contentsOk};
 ghost use Rattle.plan.specs.Refusal.{bodyChecks, planRefusal};
 
 // Rows 4 to 7: each body is passed to its reader as a part of the plan.
-fn bodies_refusal(plan: &[u8], table: [Entry; 4], n: u8) -> u8
+fn bodies_refusal(plan: &[u8], table: [entries::Entry; 4], n: u8) -> u8
     requires { ⌜ (n ≤ 64) × (contentsOk table n (length (now plan)) ≡ true) ⌝ }
     ensures { λ r. ⌜ r ≡ bodyChecks (now (plan .entry)) table n 0 ⌝ }
 {
-    let routers = contents::entries::body_of(plan, table[0]);
+    let routers = entries::body_of(plan, table[entries::ROUTERS]);
     if !bodies::routers::routers_ok(routers, n as usize) {
         return 4;
     }
-    let sessions = contents::entries::body_of(plan, table[1]);
+    let sessions = entries::body_of(plan, table[entries::SESSIONS]);
     if !bodies::sessions::sessions_ok(sessions, n) {
         return 5;
     }
-    let distances = contents::entries::body_of(plan, table[2]);
+    let distances = entries::body_of(plan, table[entries::DISTANCES]);
     if !bodies::distances::distances_ok(distances, n as usize) {
         return 6;
     }
-    let lists = contents::entries::body_of(plan, table[3]);
+    let lists = entries::body_of(plan, table[entries::LISTS]);
     if !bodies::lists::lists_ok(lists, n) {
         return 7;
     }
@@ -35,15 +36,15 @@ fn bodies_refusal(plan: &[u8], table: [Entry; 4], n: u8) -> u8
 pub fn refusal(plan: &[u8]) -> u8
     ensures { λ r. ⌜ r ≡ planRefusal (now (plan .entry)) ⌝ }
 {
-    if !contents::header::header_ok(plan) {
+    if !header::header_ok(plan) {
         return 1;
     }
-    let n = plan[4];
-    if !contents::header::router_count_ok(n) {
+    let n = plan[header::ROUTER_COUNT];
+    if !header::router_count_ok(n) {
         return 2;
     }
-    let table = contents::entries::read_contents(plan);
-    if !contents::entries::contents_ok(table, n as usize, plan.len()) {
+    let table = entries::read_contents(plan);
+    if !entries::contents_ok(table, n as usize, plan.len()) {
         return 3;
     }
     bodies_refusal(plan, table, n)
