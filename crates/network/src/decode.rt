@@ -1,6 +1,9 @@
 // From the bytes of a plan that is not refused to the network, read once.
 
 use crate::Network;
+use contents::entries::ROUTERS;
+use contents::entries::SESSIONS;
+use contents::header::ROUTER_COUNT;
 ghost use mathlib.Core.Path.{_≡_};
 ghost use Prim.Native.Nat.{ℕ, _*_, _≤_, _<_};
 ghost use lib.Dec.{eqb};
@@ -46,7 +49,8 @@ fn listed_word(numbers: &[u8]) -> u64
 
 // The row of neighbours of each router; s is the body of kind 2.
 fn neighbour_rows(s: &[u8], rows: &mut [u64; 64])
-    requires { ⌜ (now rows ≡ replicate 64 0) × ((j : ℕ) → j < sessionCount (now s) → (sessionFirst (now s) j < 64) × (sessionSecond (now s) j < 64)) ⌝ }
+    requires { ⌜ (now rows ≡ replicate 64 0)
+        × ((j : ℕ) → j < sessionCount (now s) → (sessionFirst (now s) j < 64) × (sessionSecond (now s) j < 64)) ⌝ }
     ensures { λ r. ⌜ ((w v : ℕ) → eqb (bits (now (rows .exit)) w v) 1 ≡ inSession (now (s .entry)) w v) ⌝ }
 {
     let count = s.len() / 2;
@@ -65,9 +69,9 @@ pub fn decode(plan: &[u8], list: usize, rows: &mut [u64; 64]) -> Network
     requires { ⌜ (planRefusal (now plan) ≡ 0) × (list < listCount (now plan)) × (now rows ≡ replicate 64 0) ⌝ }
     ensures { λ r. ⌜ ReadFrom (now (plan .entry)) list r (now (rows .exit)) ⌝ }
 {
-    let n = base::wide(plan[4]);
-    let reflectors = reflector_word(plan::parts::part(plan, 0), n);
-    neighbour_rows(plan::parts::part(plan, 1), rows);
+    let n = base::wide(plan[ROUTER_COUNT]);
+    let reflectors = reflector_word(plan::parts::part(plan, ROUTERS), n);
+    neighbour_rows(plan::parts::part(plan, SESSIONS), rows);
     let span = plan::lists::list_span(plan, list);
     let start = span.start;
     let stop = start + span.count;
