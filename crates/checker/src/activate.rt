@@ -1,5 +1,6 @@
 // One activation of a router on the caller's table.
 
+use contents::entries::DISTANCES;
 ghost use Rattle.checker.specs.Activate.{Activates};
 
 // Activates a router: the refusal number, 1 to 10, or 0.
@@ -16,6 +17,7 @@ pub fn activate(plan: &[u8], list: usize, router: usize, table: &mut [u8]) -> u8
     if refused != 0 {
         return refused;
     }
-    activation::activations::activate(net, &rows, plan::parts::part(plan, 2), router, table);
+    let distances = plan::parts::part(plan, DISTANCES);
+    activation::activations::activate(net, &rows, distances, router, table);
     0
 }

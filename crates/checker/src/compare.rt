@@ -1,5 +1,7 @@
 // Two egress routers compared at a router.
 
+use contents::entries::DISTANCES;
+use contents::header::ROUTER_COUNT;
 ghost use Rattle.checker.specs.Compare.{Compares};
 
 // What a comparison says: its refusal number, or which of the two is preferred; the same router twice is neither.
@@ -21,8 +23,9 @@ pub fn compare(plan: &[u8], router: usize, first: usize, second: usize) -> Compa
     if first == second {
         return CompareAnswer::Same;
     }
-    let n = plan[4] as usize;
-    if network::comparison::prefers(plan::parts::part(plan, 2), n, router, first, second) {
+    let n = plan[ROUTER_COUNT] as usize;
+    let distances = plan::parts::part(plan, DISTANCES);
+    if network::comparison::prefers(distances, n, router, first, second) {
         return CompareAnswer::First;
     }
     CompareAnswer::Second

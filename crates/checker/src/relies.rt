@@ -1,5 +1,6 @@
 // Whether one router relies on another for a list.
 
+use contents::entries::DISTANCES;
 ghost use Rattle.checker.specs.Relies.{Relied};
 
 // Its refusal number, or yes or no.
@@ -19,7 +20,8 @@ pub fn relies(plan: &[u8], list: usize, router: usize, other: usize) -> ReliesAn
     }
     let mut rows = [0u64; 64];
     let net = network::decode::decode(plan, list, &mut rows);
-    if reliance::reliances::relies(net, &rows, plan::parts::part(plan, 2), router, other) {
+    let distances = plan::parts::part(plan, DISTANCES);
+    if reliance::reliances::relies(net, &rows, distances, router, other) {
         return ReliesAnswer::Yes;
     }
     ReliesAnswer::No

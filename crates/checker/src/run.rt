@@ -1,5 +1,6 @@
 // A run: a sequence of activations on the caller's table, at most a given limit of them.
 
+use contents::entries::DISTANCES;
 ghost use mathlib.Core.Path.{_≡_};
 ghost use mathlib.Core.Bool.{false};
 ghost use Rattle.checker.specs.Run.{Runs};
@@ -38,14 +39,8 @@ pub fn run(plan: &[u8], list: usize, sequence: &[u8], limit: usize, table: &mut 
     if refused != 0 {
         return refused_run(refused);
     }
-    let done = activation::runs::apply(
-        net,
-        &rows,
-        plan::parts::part(plan, 2),
-        sequence,
-        limit,
-        table,
-    );
+    let distances = plan::parts::part(plan, DISTANCES);
+    let done = activation::runs::apply(net, &rows, distances, sequence, limit, table);
     RunAnswer {
         refused: 0,
         applied: done.acts,

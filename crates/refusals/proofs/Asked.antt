@@ -16,7 +16,7 @@ use Rattle.plan.proofs.Passed.{passed}
 use Rattle.routing.specs.Instance.{Instance}
 use Rattle.routing.specs.Rounds.{ActsBelow}
 use Rattle.activation.specs.TableBytes.{TableIn}
-use Rattle.refusals.specs.Refusals.{hasList, hasRouter, sequenceOk, askedChecks, egressListRefusal, compareRefusal, reliesRefusal, buffersOk, verdictRefusal, tableChecks}
+use Rattle.refusals.specs.Refusals.{sequenceOk, askedChecks, egressListRefusal, compareRefusal, reliesRefusal, routerRefusal, sequenceRefusal, buffersOk, verdictRefusal, tableChecks}
 
 module _ (plan : List ℕ) (h : planRefusal plan ≡ 0) where
   pub header-long : 26 ≤ length plan
@@ -95,7 +95,7 @@ pub record RouterAsked (plan : List ℕ) (k w : ℕ) : Type 0 where
   pub list : k < listCount plan
   pub router : w < routerCount plan
 
-pub router-asked : (plan : List ℕ) (k w : ℕ) → askedChecks plan (hasList plan k && hasRouter plan w) 0 ≡ 0 → RouterAsked plan k w
+pub router-asked : (plan : List ℕ) (k w : ℕ) → routerRefusal plan k w ≡ 0 → RouterAsked plan k w
 router-asked plan k w h =
     let g = granted plan _ _ h in
     let q : (k < listCount plan) × (w < routerCount plan) = simp facts at (g .callOk) in
@@ -120,8 +120,7 @@ pub record SequenceAsked (plan : List ℕ) (k : ℕ) (acts : List ℕ) : Type 0 
   pub routers : ActsBelow (routerCount plan) acts
   pub some : 0 < routerCount plan
 
-pub sequence-asked : (plan : List ℕ) (k : ℕ) (acts : List ℕ) → askedChecks plan (hasList plan k && sequenceOk acts (routerCount plan)) 0 ≡ 0
-    → SequenceAsked plan k acts
+pub sequence-asked : (plan : List ℕ) (k : ℕ) (acts : List ℕ) → sequenceRefusal plan k acts ≡ 0 → SequenceAsked plan k acts
 unfolding sequenceOk
 sequence-asked plan k acts h =
     let g = granted plan _ _ h in

@@ -38,6 +38,13 @@ compareRefusal plan w e f = askedChecks plan (hasRouter plan w && hasRouter plan
 unfoldable pub reliesRefusal : List ℕ → ℕ → ℕ → ℕ → ℕ
 reliesRefusal plan k w v = askedChecks plan (hasList plan k && hasRouter plan w && hasRouter plan v) 0
 
+-- rows 1 to 8 of an activation and of a run
+abbrev pub routerRefusal : List ℕ → ℕ → ℕ → ℕ
+routerRefusal plan k w = askedChecks plan (hasList plan k && hasRouter plan w) 0
+
+abbrev pub sequenceRefusal : List ℕ → ℕ → List ℕ → ℕ
+sequenceRefusal plan k acts = askedChecks plan (hasList plan k && sequenceOk acts (routerCount plan)) 0
+
 -- Row 9: "The verdict call needs n bytes for labels, n for ranks, 2n for the settled table, n for the ring." The ring is called cycle.
 unfoldable pub buffersOk : ℕ → List ℕ → List ℕ → List ℕ → List ℕ → Bool
 buffersOk n labels ranks table cycle =

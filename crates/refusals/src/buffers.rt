@@ -1,5 +1,6 @@
 // The refusals of calls that are lent buffers or handed a table: rows 9 and 10, after row 8.
 
+use contents::header::ROUTER_COUNT;
 use network::Network;
 ghost use mathlib.Core.Path.{_≡_};
 ghost use mathlib.Core.List.{List};
@@ -32,13 +33,14 @@ pub fn verdict_refusal(
     table: &[u8],
     cycle: &[u8],
 ) -> u8
-    ensures { λ r. ⌜ r ≡ verdictRefusal (now (plan .entry)) list (now (labels .entry)) (now (ranks .entry)) (now (table .entry)) (now (cycle .entry)) ⌝ }
+    ensures { λ r. ⌜ r ≡ verdictRefusal (now (plan .entry)) list
+        (now (labels .entry)) (now (ranks .entry)) (now (table .entry)) (now (cycle .entry)) ⌝ }
 {
     let refused = crate::numbers::list_refusal(plan, list);
     if refused != 0 {
         return refused;
     }
-    if !buffers_ok(plan[4] as usize, labels, ranks, table, cycle) {
+    if !buffers_ok(plan[ROUTER_COUNT] as usize, labels, ranks, table, cycle) {
         return 9;
     }
     0

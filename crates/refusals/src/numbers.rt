@@ -1,10 +1,10 @@
 // The refusals of a call by its list and routers: row 8, after the rows of the plan.
 
+use contents::header::ROUTER_COUNT;
 ghost use mathlib.Core.Path.{_≡_};
-ghost use mathlib.Core.Bool.{_&&_};
-ghost use Rattle.contents.specs.Header.{routerCount};
 ghost use Rattle.plan.specs.Refusal.{refuse, planRefusal};
-ghost use Rattle.refusals.specs.Refusals.{askedChecks, hasList, hasRouter, sequenceOk, egressListRefusal, compareRefusal, reliesRefusal};
+ghost use Rattle.refusals.specs.Refusals.{hasRouter, sequenceOk, routerRefusal, sequenceRefusal};
+ghost use Rattle.refusals.specs.Refusals.{egressListRefusal, compareRefusal, reliesRefusal};
 
 // Rows 1 to 8 of a call that asks for a list.
 pub fn list_refusal(plan: &[u8], list: usize) -> u8
@@ -28,7 +28,7 @@ fn and_router(plan: &[u8], refused: u8, router: usize) -> u8
     if refused != 0 {
         return refused;
     }
-    let n = plan[4] as usize;
+    let n = plan[ROUTER_COUNT] as usize;
     if n <= router {
         return 8;
     }
@@ -46,7 +46,7 @@ pub fn compare_refusal(plan: &[u8], router: usize, first: usize, second: usize) 
 
 // Rows 1 to 8 of a call that asks for a list and a router.
 pub fn router_refusal(plan: &[u8], list: usize, router: usize) -> u8
-    ensures { λ r. ⌜ r ≡ askedChecks (now (plan .entry)) (hasList (now (plan .entry)) list && hasRouter (now (plan .entry)) router) 0 ⌝ }
+    ensures { λ r. ⌜ r ≡ routerRefusal (now (plan .entry)) list router ⌝ }
 {
     and_router(plan, list_refusal(plan, list), router)
 }
@@ -74,13 +74,13 @@ fn sequence_ok(sequence: &[u8], n: usize) -> bool
 
 // Rows 1 to 8 of a run.
 pub fn sequence_refusal(plan: &[u8], list: usize, sequence: &[u8]) -> u8
-    ensures { λ r. ⌜ r ≡ askedChecks (now (plan .entry)) (hasList (now (plan .entry)) list && sequenceOk (now (sequence .entry)) (routerCount (now (plan .entry)))) 0 ⌝ }
+    ensures { λ r. ⌜ r ≡ sequenceRefusal (now (plan .entry)) list (now (sequence .entry)) ⌝ }
 {
     let refused = list_refusal(plan, list);
     if refused != 0 {
         return refused;
     }
-    if !sequence_ok(sequence, plan[4] as usize) {
+    if !sequence_ok(sequence, plan[ROUTER_COUNT] as usize) {
         return 8;
     }
     0

@@ -1,5 +1,4 @@
 use mathlib.Core.Path.{_≡_, refl, _∙_, sym, ap}
-use mathlib.Core.Bool.{_&&_}
 use borrow.Author.Needs.{needs}
 use lib.Dec.{lit<}
 use denote.Ref.{now}
@@ -8,7 +7,7 @@ use Rattle.network.specs.Decoded.{decoded}
 use Rattle.network.specs.FromPlan.{instanceOf}
 use Rattle.network.proofs.FromPlan.{well-formed}
 use Rattle.activation.specs.TableBytes.{activateBytes}
-use Rattle.refusals.specs.Refusals.{hasList, hasRouter, askedChecks, tableChecks, activateRefusal}
+use Rattle.refusals.specs.Refusals.{routerRefusal, tableChecks, activateRefusal}
 use Rattle.refusals.proofs.Asked.{asked-refused, asked-passed, RouterAsked, router-asked, table-asked}
 use Rattle.checker.proofs.Acting.{activates-not, activates-so}
 use Rattle.checker.proofs.activate.activate.Statement.{statement}
@@ -22,7 +21,7 @@ abbrev entry : tie.Else1 → tie.Start
 entry c = c .before .before .before .before
 
 -- the plan, the list and the router pass
-given : (c : tie.Else1) → let a = entry c .args in askedChecks (a .plan .now) (hasList (a .plan .now) (a .list) && hasRouter (a .plan .now) (a .router)) 0 ≡ 0
+given : (c : tie.Else1) → let a = entry c .args in routerRefusal (a .plan .now) (a .list) (a .router) ≡ 0
 given c = sym (c .before .router-refusal .ensures) ∙ c .if1 .left
 
 asked : (c : tie.Else1) → let a = entry c .args in RouterAsked (a .plan .now) (a .list) (a .router)
@@ -51,12 +50,12 @@ activate-requires c κs =
     let q = asked (guard (d .before)) in
     let e = d .before .before .before .before in
     let read = e .decode .ensures in
-    let part = now (c .before .part .result) in
+    let part = now (c .before .before .part .result) in
     let t =
     table-asked (decoded (e .decode .result) (e .decode .last .1 .1 .0) part) (a .table .now)
     (sym (d .before .table-refusal .ensures part) ∙ d .if2 .left)
     in
-    (rw (c .before .part .ensures) (well-formed _ _ _ _ (q .planOk) (q .list) read), rw (read .count) (q .router), t)
+    (rw (c .before .before .part .ensures) (well-formed _ _ _ _ (q .planOk) (q .list) read), rw (read .count) (q .router), t)
 
 returns-3 : tie.Need-returns-3
 returns-3 c =
@@ -67,7 +66,7 @@ returns-3 c =
     let rows = d .before .before .before .before .decode .last .1 .1 .0 in
     activates-so _ _ _ _ (sym (number-is (d .before)) ∙ d .if2 .left) _
     (e .activate .ensures
-    ∙ ap (λ s. activateBytes (decoded net rows s) (a .router) (a .table .now)) (e .before .before .part .ensures)
+    ∙ ap (λ s. activateBytes (decoded net rows s) (a .router) (a .table .now)) (e .before .before .before .part .ensures)
     ∙ ap (λ I. activateBytes I (a .router) (a .table .now)) (d .before .before .before .before .decode .ensures .same))
 
 pub activate-spec : {M : Type 1} → statement M
@@ -80,7 +79,7 @@ activate-spec =
     (λ c κs. c .before .before .decode .ensures .most)
     (λ c. search needs)
     (λ c. activates-not _ _ _ _ _ (number-is (c .before)) (c .if2 .taken))
-    (λ c κs. (asked (guard (c .before .before)) .planOk, lit< tt))
+    (λ c κs. (asked (guard (c .before)) .planOk, lit< tt))
     activate-requires
     (λ c. search needs)
     returns-3)

@@ -20,28 +20,29 @@ asked c = relies-asked _ _ _ _ (given c)
 
 -- where the guard is, from after the calls
 abbrev guard : tie.After-part → tie.Else1
-guard c = c .before .before .before .before
+guard c = c .before .before .before
 
 relies-requires : tie.Need-relies-requires
 relies-requires c κs =
-    let q = asked (guard c) in
-    let read = c .before .before .decode .ensures in (
-      rw (c .part .ensures) (well-formed _ _ _ _ (q .planOk) (q .list) read),
+    let d = c .before in
+    let q = asked (guard d) in
+    let read = d .before .decode .ensures in (
+      rw (d .part .ensures) (well-formed _ _ _ _ (q .planOk) (q .list) read),
       rw (read .count) (q .router),
       rw (read .count) (q .other),
     )
 
 -- the reliance found is that of the plan's network
-judged : (c : tie.After-relies) → let a = guard (c .before) .before .before .before .args in
+judged : (c : tie.After-relies) → let a = guard (c .before .before) .before .before .before .args in
     c .relies .result ≡ relies (instanceOf (a .plan .now) (a .list)) (a .router) (a .other)
 judged c =
-    let d = c .before in
+    let d = c .before .before in
     let a = guard d .before .before .before .args in
-    let net = d .before .before .decode .result in
-    let rows = d .before .before .decode .last .1 .1 .0 in
+    let net = d .before .decode .result in
+    let rows = d .before .decode .last .1 .1 .0 in
     c .relies .ensures
     ∙ ap (λ s. relies (decoded net rows s) (a .router) (a .other)) (d .part .ensures)
-    ∙ ap (λ I. relies I (a .router) (a .other)) (d .before .before .decode .ensures .same)
+    ∙ ap (λ I. relies I (a .router) (a .other)) (d .before .decode .ensures .same)
 
 pub relies-spec : {M : Type 1} → statement M
 relies-spec =
@@ -50,7 +51,7 @@ relies-spec =
     (λ c κs. search needs)
     (λ c. relied-refused _ _ _ _ _ (c .before .relies-refusal .ensures) (c .if1 .taken))
     (λ c κs. let q = asked (c .before) in (q .planOk, q .list, refl))
-    (λ c κs. (asked (c .before .before .before) .planOk, lit< tt))
+    (λ c κs. (asked (c .before .before) .planOk, lit< tt))
     relies-requires
-    (λ c. relied-yes _ _ _ _ (given (guard (c .before .before))) (sym (judged (c .before)) ∙ c .if2 .taken))
-    (λ c. relied-no _ _ _ _ (given (guard (c .before .before))) (sym (judged (c .before)) ∙ c .if2 .left)))
+    (λ c. relied-yes _ _ _ _ (given (guard (c .before .before .before))) (sym (judged (c .before)) ∙ c .if2 .taken))
+    (λ c. relied-no _ _ _ _ (given (guard (c .before .before .before))) (sym (judged (c .before)) ∙ c .if2 .left)))

@@ -1,14 +1,12 @@
 use mathlib.Core.Path.{_≡_, refl, _∙_, sym, ap}
-use mathlib.Core.Bool.{_&&_}
 use borrow.Author.Needs.{needs}
 use lib.Dec.{lit<}
 use denote.Ref.{now}
-use Rattle.contents.specs.Header.{routerCount}
 use Rattle.contents.specs.Contents.{distancesBody}
 use Rattle.network.specs.Decoded.{decoded}
 use Rattle.network.specs.FromPlan.{instanceOf}
 use Rattle.network.proofs.FromPlan.{well-formed}
-use Rattle.refusals.specs.Refusals.{hasList, sequenceOk, askedChecks, tableChecks, runRefusal}
+use Rattle.refusals.specs.Refusals.{sequenceRefusal, tableChecks, runRefusal}
 use Rattle.refusals.proofs.Asked.{asked-refused, asked-passed, SequenceAsked, sequence-asked, table-asked}
 use Rattle.checker.proofs.Sequences.{runs-not, runs-so}
 use Rattle.checker.proofs.run.run.Statement.{statement}
@@ -22,7 +20,7 @@ abbrev entry : tie.Else1 → tie.Start
 entry c = c .before .before .before .before .before
 
 -- the plan, the list and the sequence pass
-given : (c : tie.Else1) → let a = entry c .args in askedChecks (a .plan .now) (hasList (a .plan .now) (a .list) && sequenceOk (a .sequence .now) (routerCount (a .plan .now))) 0 ≡ 0
+given : (c : tie.Else1) → let a = entry c .args in sequenceRefusal (a .plan .now) (a .list) (a .sequence .now) ≡ 0
 given c = sym (c .before .sequence-refusal .ensures) ∙ c .if1 .left
 
 asked : (c : tie.Else1) → let a = entry c .args in SequenceAsked (a .plan .now) (a .list) (a .sequence .now)
@@ -57,12 +55,12 @@ apply-requires c κs =
     let q = asked (guard (d .before)) in
     let e = d .before .before .before .before in
     let read = e .decode .ensures in
-    let part = now (c .before .part .result) in
+    let part = now (c .before .before .part .result) in
     let t =
     table-asked (decoded (e .decode .result) (e .decode .last .1 .1 .0) part) (a .table .now)
     (sym (d .before .table-refusal .ensures part) ∙ d .if2 .left)
     in (
-      rw (c .before .part .ensures) (well-formed _ _ _ _ (q .planOk) (q .list) read),
+      rw (c .before .before .part .ensures) (well-formed _ _ _ _ (q .planOk) (q .list) read),
       rw (read .count) (q .some),
       rw (read .count) (q .routers),
       t,
@@ -73,7 +71,7 @@ returns-3 c =
     let e = c .before .before in
     let d = e .before .before .before .before in
     runs-so _ _ _ _ _ _ (sym (number-is (d .before)) ∙ d .if2 .left) _ (e .apply .result)
-    (rw (← (d .before .before .before .before .decode .ensures .same), ← (e .before .before .part .ensures)) (e .apply .ensures))
+    (rw (← (d .before .before .before .before .decode .ensures .same), ← (e .before .before .before .part .ensures)) (e .apply .ensures))
     (refl, refl, refl, refl)
 
 pub run-spec : {M : Type 1} → statement M
@@ -88,7 +86,7 @@ run-spec =
     (λ c κs. search needs)
     (λ c. search needs)
     returns-2
-    (λ c κs. (asked (guard (c .before .before)) .planOk, lit< tt))
+    (λ c κs. (asked (guard (c .before)) .planOk, lit< tt))
     apply-requires
     (λ c. search needs)
     returns-3)
