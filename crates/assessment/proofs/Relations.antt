@@ -1,11 +1,12 @@
 -- The rows of reliances and their closure state the reliances of the network: groups, ranks and the cycle are the network's.
 use Prim.Native.Nat.{ℕ, _*_, _≤_, _<_}
 use native.Mathlib.Omega.{arith}
-use mathlib.Core.Path.{_≡_, refl, _∙_, sym, ap, ap₂}
+use mathlib.Core.Path.{_≡_, _∙_, sym, ap, ap₂}
 use mathlib.Core.Bool.{true, false}
 use mathlib.Core.List.{List, _++_}
 use lib.ListN.{length, drop}
 use Rattle.base.specs.Bits.{bits}
+use Rattle.base.specs.Lent.{Lent}
 use Rattle.base.specs.Seek.{flag, highest}
 use Rattle.base.specs.Tab.{tab}
 use Rattle.base.proofs.Seek.{highest-cong, highest-over}
@@ -90,31 +91,36 @@ module _ (I : Instance) (before relied : List ℕ) (h : RelianceRows I before re
       cycle-is = cycle-cong (bits relied) (reliance I) (I .n) related suspect
 
     -- what the buffers hold then is what an assessment leaves
-    module _ (labels labels′ ranks table shown : List ℕ) (r : ℕ) (l : labels′ ≡ tab (label (bits closed)) (I .n) ++ drop (I .n) labels) where
-      labelled : labels′ ≡ tab (label (closure (reliance I) (I .n))) (I .n) ++ drop (I .n) labels
-      labelled = l ∙ ap (λ t. t ++ drop (I .n) labels) labels-are
+    module _ (labels ranks table shown : Lent (List ℕ)) (r : ℕ)
+        (l : labels .after ≡ tab (label (bits closed)) (I .n) ++ drop (I .n) (labels .before)) where
+      labelled : labels .after ≡ tab (label (closure (reliance I) (I .n))) (I .n) ++ drop (I .n) (labels .before)
+      labelled = l ∙ ap (λ t. t ++ drop (I .n) (labels .before)) labels-are
 
-      pub stable-assessed : (ranks′ table′ : List ℕ) → isStable I ≡ true → r ≡ highestRank (bits relied) (I .n)
-          → ranks′ ≡ tab (rank (bits relied) (I .n)) (I .n) ++ drop (I .n) ranks
-          → table′ ≡ tableBytes (settledTable I r) ++ drop (2 * I .n) table
-          → Assessed I (Stable r) labels labels′ ranks ranks′ table table′ shown shown
-      stable-assessed ranks′ table′ s e k t =
+      pub stable-assessed : isStable I ≡ true → r ≡ highestRank (bits relied) (I .n)
+          → ranks .after ≡ tab (rank (bits relied) (I .n)) (I .n) ++ drop (I .n) (ranks .before)
+          → table .after ≡ tableBytes (settledTable I r) ++ drop (2 * I .n) (table .before)
+          → shown .after ≡ shown .before
+          → Assessed I (Stable r) labels ranks table shown
+      stable-assessed s e k t kept =
           record {
             verdict = rw s (ap Stable (e ∙ highest-same));
             labelled = labelled;
-            ranked = rw s (ranks-are s ranks ranks′ k);
-            settled = rw s (t ∙ ap (λ h. tableBytes (settledTable I h) ++ drop (2 * I .n) table) (e ∙ highest-same));
-            cycled = rw s refl;
+            ranked = rw s (ranks-are s (ranks .before) (ranks .after) k);
+            settled = rw s (t ∙ ap (λ h. tableBytes (settledTable I h) ++ drop (2 * I .n) (table .before)) (e ∙ highest-same));
+            cycled = rw s kept;
           }
 
-      pub suspect-assessed : (shown′ : List ℕ) → isStable I ≡ false → r ≡ length (cycle (bits relied) (I .n)) → shown′ ≡ cycle (bits relied) (I .n) ++ drop r shown
-          → Assessed I (Suspect r) labels labels′ ranks ranks table table shown shown′
-      suspect-assessed shown′ s e k =
+      pub suspect-assessed : isStable I ≡ false → r ≡ length (cycle (bits relied) (I .n))
+          → ranks .after ≡ ranks .before
+          → table .after ≡ table .before
+          → shown .after ≡ cycle (bits relied) (I .n) ++ drop r (shown .before)
+          → Assessed I (Suspect r) labels ranks table shown
+      suspect-assessed s e ranked settled k =
           let q : r ≡ length (cycleOf I) = e ∙ ap length (cycle-is s) in
           record {
             verdict = rw s (ap Suspect q);
             labelled = labelled;
-            ranked = rw s refl;
-            settled = rw s refl;
-            cycled = rw s (k ∙ ap₂ (λ m d. m ++ drop d shown) (cycle-is s) q);
+            ranked = rw s ranked;
+            settled = rw s settled;
+            cycled = rw s (k ∙ ap₂ (λ m d. m ++ drop d (shown .before)) (cycle-is s) q);
           }

@@ -4,6 +4,7 @@ use mathlib.Core.Path.{_≡_}
 use mathlib.Core.Bool.{Bool, cond}
 use mathlib.Core.List.{List, _++_}
 use lib.ListN.{length, drop}
+use Rattle.base.specs.Lent.{Lent}
 use Rattle.base.specs.Seek.{flag}
 use Rattle.base.specs.Tab.{tab}
 use Rattle.graph.specs.Closure.{Relation, closure}
@@ -43,13 +44,13 @@ settledBytes I = tableBytes (settledTable I (highestOf I))
 abbrev pub cycleOf : Instance → List ℕ
 cycleOf I = cycle (reliance I) (I .n)
 
--- the answer r, and each buffer at entry and at exit
-pub record Assessed (I : Instance) (r : Assessment) (labels labels′ ranks ranks′ table table′ shown shown′ : List ℕ) : Type 0 where
+-- the answer r, and each buffer before and after
+pub record Assessed (I : Instance) (r : Assessment) (labels ranks table shown : Lent (List ℕ)) : Type 0 where
   -- "Stable returns the highest rank .. suspect returns the ring's length"
   pub verdict : r ≡ cond (isStable I) (Stable (highestOf I)) (Suspect (length (cycleOf I)))
   -- "Labels are written with either verdict."
-  pub labelled : labels′ ≡ labelsOf I ++ drop (I .n) labels
+  pub labelled : labels .after ≡ labelsOf I ++ drop (I .n) (labels .before)
   -- "Stable .. writes ranks and table; suspect .. writes that many ring bytes. Other bytes are untouched."
-  pub ranked : ranks′ ≡ cond (isStable I) (ranksOf I ++ drop (I .n) ranks) ranks
-  pub settled : table′ ≡ cond (isStable I) (settledBytes I ++ drop (2 * I .n) table) table
-  pub cycled : shown′ ≡ cond (isStable I) shown (cycleOf I ++ drop (length (cycleOf I)) shown)
+  pub ranked : ranks .after ≡ cond (isStable I) (ranksOf I ++ drop (I .n) (ranks .before)) (ranks .before)
+  pub settled : table .after ≡ cond (isStable I) (settledBytes I ++ drop (2 * I .n) (table .before)) (table .before)
+  pub cycled : shown .after ≡ cond (isStable I) (shown .before) (cycleOf I ++ drop (length (cycleOf I)) (shown .before))

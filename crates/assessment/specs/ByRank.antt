@@ -1,4 +1,5 @@
--- What the workers that write the settled table ask of their callers, and what they leave: every router acts once, in the order of its rank.
+-- What the workers that write the settled table ask of their callers, and what they leave: every router acts once, in the order of
+-- its rank.
 use Prim.Native.Nat.{ℕ, _*_, _≤_, _<_}
 use mathlib.Core.Path.{_≡_}
 use mathlib.Core.Bool.{cond}
@@ -40,7 +41,8 @@ pub record Started (I : Instance) (k : ℕ) (start buffer : List ℕ) : Type 0 w
   pub first : (v : ℕ) → v < k → routeAt buffer v ≡ firstRoute I v
   pub rest : drop (2 * I .n) buffer ≡ drop (2 * I .n) start
 
--- every router holds its first entry or its settled one, those of ranks below r the settled one; the bytes after the table are those of the start
+-- every router holds its first entry or its settled one, those of ranks below r the settled one; the bytes after the table are those
+-- of the start
 pub record SettledBelow (I : Instance) (ranks : List ℕ) (r : ℕ) (start buffer : List ℕ) : Type 0 where
   pub either : (v : ℕ) → v < I .n → (routeAt buffer v ≡ firstRoute I v) ⊎ (routeAt buffer v ≡ settledRoute I ranks v)
   pub below : (v : ℕ) → v < I .n → entry ranks v < r → routeAt buffer v ≡ settledRoute I ranks v

@@ -4,7 +4,8 @@ pub mod settled;
 
 ghost use Prim.Native.Nat.{_*_, _≤_};
 ghost use lib.ListN.{length};
-ghost use Rattle.network.specs.Decoded.{decoded};
+ghost use Rattle.base.specs.Lent.{lent};
+ghost use Rattle.network.specs.Decoded.{instance};
 ghost use Rattle.network.specs.WellFormed.{WellFormed};
 ghost use Rattle.assessment.specs.Assessed.{Assessed};
 use network::Network;
@@ -25,8 +26,10 @@ pub fn assess(
     table: &mut [u8],
     cycle: &mut [u8],
 ) -> Assessment
-    requires { ⌜ WellFormed net (now rows) (now distances) × (net .n ≤ length (now labels)) × (net .n ≤ length (now ranks)) × (2 * net .n ≤ length (now table)) × (net .n ≤ length (now cycle)) ⌝ }
-    ensures verdict { λ r. ⌜ Assessed (decoded net (now (rows .entry)) (now (distances .entry))) r (now (labels .entry)) (now (labels .exit)) (now (ranks .entry)) (now (ranks .exit)) (now (table .entry)) (now (table .exit)) (now (cycle .entry)) (now (cycle .exit)) ⌝ }
+    requires { ⌜ WellFormed net (now rows) (now distances) × (net .n ≤ length (now labels))
+        × (net .n ≤ length (now ranks)) × (2 * net .n ≤ length (now table)) × (net .n ≤ length (now cycle)) ⌝ }
+    ensures verdict { λ r. ⌜ Assessed (instance net (rows .entry) (distances .entry)) r
+        (lent labels) (lent ranks) (lent table) (lent cycle) ⌝ }
 {
     let n = net.n;
     let mut relied = [0u64; 64];

@@ -1,6 +1,7 @@
 // The settled table, by activating every router once, in the order of its rank.
 
 use activation::table::RouteBytes;
+use network::NO_ROUTER;
 use network::Network;
 ghost use mathlib.Core.Path.{_≡_};
 ghost use mathlib.Core.List.{List, _++_};
@@ -8,7 +9,7 @@ ghost use Prim.Native.Nat.{ℕ, _+_, _*_, _≤_, _<_};
 ghost use lib.ListN.{length, drop};
 ghost use Rattle.settling.specs.Settled.{settledTable};
 ghost use Rattle.activation.specs.TableBytes.{routeOf, tableBytes};
-ghost use Rattle.network.specs.Decoded.{decoded};
+ghost use Rattle.network.specs.Decoded.{decoded, instance};
 ghost use Rattle.assessment.specs.ByRank.{firstRoute, Started, SettleAsked, highestIn, SettledBelow};
 
 // What router v holds before it acts: its own route if it is listed, else nothing.
@@ -23,15 +24,16 @@ fn first_route(net: Network, v: usize) -> RouteBytes
         };
     }
     RouteBytes {
-        egress: 255,
-        sender: 255,
+        egress: NO_ROUTER,
+        sender: NO_ROUTER,
     }
 }
 
 // The table that no router has acted on.
 fn start(net: Network, table: &mut [u8])
     requires { ⌜ (net .n ≤ 64) × (2 * net .n ≤ length (now table)) ⌝ }
-    ensures { λ _. ⌜ ((rows distances : List ℕ) → Started (decoded net rows distances) (net .n) (now (table .entry)) (now (table .exit))) ⌝ }
+    ensures { λ _. ⌜ ((rows distances : List ℕ)
+        → Started (decoded net rows distances) (net .n) (now (table .entry)) (now (table .exit))) ⌝ }
 {
     let n = net.n;
     let mut v = 0;
@@ -50,8 +52,10 @@ fn settle_rank(
     r: usize,
     table: &mut [u8],
 )
-    requires { ⌜ SettleAsked net (now rows) (now distances) (now ranks) (now table) × SettledBelow (decoded net (now rows) (now distances)) (now ranks) r (now table) (now table) ⌝ }
-    ensures { λ _. ⌜ SettledBelow (decoded net (now (rows .entry)) (now (distances .entry))) (now (ranks .entry)) (r + 1) (now (table .entry)) (now (table .exit)) ⌝ }
+    requires { ⌜ SettleAsked net (now rows) (now distances) (now ranks) (now table)
+        × SettledBelow (instance net rows distances) (now ranks) r (now table) (now table) ⌝ }
+    ensures { λ _. ⌜ SettledBelow (instance net (rows .entry) (distances .entry)) (now (ranks .entry)) (r + 1)
+        (now (table .entry)) (now (table .exit)) ⌝ }
 {
     let n = net.n;
     let mut w = 0;
@@ -75,7 +79,8 @@ pub fn settle(
     table: &mut [u8],
 )
     requires { ⌜ SettleAsked net (now rows) (now distances) (now ranks) (now table) × (highest ≡ highestIn (now ranks) (net .n)) ⌝ }
-    ensures { λ _. ⌜ now (table .exit) ≡ tableBytes (settledTable (decoded net (now (rows .entry)) (now (distances .entry))) highest) ++ drop (2 * net .n) (now (table .entry)) ⌝ }
+    ensures { λ _. ⌜ now (table .exit) ≡ tableBytes (settledTable (instance net (rows .entry) (distances .entry)) highest)
+        ++ drop (2 * net .n) (now (table .entry)) ⌝ }
 {
     start(net, table);
     let mut r = 0;

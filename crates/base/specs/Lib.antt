@@ -4,3 +4,4 @@ pub mod Seek
 pub mod Tab
 pub mod Bytes
 pub mod Bits
+pub mod Lent

@@ -4,6 +4,7 @@ use mathlib.Core.Path.{_≡_, refl, _∙_, sym, ap}
 use mathlib.Core.Bool.{Bool, true, false, cond}
 use mathlib.Core.List.{List}
 use lib.ListN.{length}
+use Rattle.base.specs.Lent.{Lent}
 use Rattle.network.specs.FromPlan.{instanceOf}
 use Rattle.assessment.specs.declared.Assessment.{Assessment}
 use Rattle.assessment.specs.declared.Assessment.the-variants.{Stable, Suspect}
@@ -26,11 +27,16 @@ cond-itself : (b : Bool) → cond b true false ≡ b
 cond-itself true = refl
 cond-itself false = refl
 
-module _ (plan : List ℕ) (k : ℕ) (labels ranks table shown : List ℕ) where
-  pub verdict-refused : (number : ℕ) → number ≡ verdictRefusal plan k labels ranks table shown → (number ≡ 0 → ⊥)
-      → VerdictCall plan k (answers.Refused number) labels labels ranks ranks table table shown shown
+-- a buffer that is left as it was
+abbrev kept : List ℕ → Lent (List ℕ)
+kept bytes = record { before = bytes; after = bytes }
+
+module _ (plan : List ℕ) (k : ℕ) where
+  pub verdict-refused : (labels ranks table shown : List ℕ) (number : ℕ)
+      → number ≡ verdictRefusal plan k labels ranks table shown → (number ≡ 0 → ⊥)
+      → VerdictCall plan k (answers.Refused number) (kept labels) (kept ranks) (kept table) (kept shown)
   unfolding verdictAnswer labelsAfter ranksAfter tableAfter cycleAfter
-  verdict-refused number same h =
+  verdict-refused labels ranks table shown number same h =
       let n : verdictRefusal plan k labels ranks table shown ≡ 0 → ⊥ = λ z. h (same ∙ z) in
       record {
         answer = ap answers.Refused same ∙ sym (when-refused _ _ _ n);
@@ -43,11 +49,12 @@ module _ (plan : List ℕ) (k : ℕ) (labels ranks table shown : List ℕ) where
         cycled = sym (when-refused _ _ _ n);
       }
 
-  pub verdict-given : (a : Assessment) (labels′ ranks′ table′ shown′ : List ℕ) → verdictRefusal plan k labels ranks table shown ≡ 0
-      → Assessed (instanceOf plan k) a labels labels′ ranks ranks′ table table′ shown shown′
-      → VerdictCall plan k (answerOf a) labels labels′ ranks ranks′ table table′ shown shown′
+  pub verdict-given : (labels ranks table shown : Lent (List ℕ)) (a : Assessment)
+      → verdictRefusal plan k (labels .before) (ranks .before) (table .before) (shown .before) ≡ 0
+      → Assessed (instanceOf plan k) a labels ranks table shown
+      → VerdictCall plan k (answerOf a) labels ranks table shown
   unfolding verdictAnswer verdictOf sizeOf isStable labelsOf ranksOf highestOf settledBytes cycleOf labelsAfter ranksAfter tableAfter cycleAfter
-  verdict-given a labels′ ranks′ table′ shown′ given f =
+  verdict-given labels ranks table shown a given f =
       let s : Bool = isStable plan k in
       let x : Assessment = Stable (highestOf plan k) in
       let y : Assessment = Suspect (length (cycleOf plan k)) in

@@ -4,6 +4,7 @@ use mathlib.Core.Path.{_≡_}
 use mathlib.Core.List.{List, _++_}
 use mathlib.Core.Bool.{Bool, true, false, cond}
 use lib.ListN.{length, drop}
+use Rattle.base.specs.Lent.{Lent}
 use Rattle.contents.specs.Header.{routerCount}
 use Rattle.graph.specs.Closure.{Relation}
 use Rattle.network.specs.FromPlan.{instanceOf}
@@ -45,7 +46,8 @@ verdictOf plan k = cond (isStable plan k) (Stable (highestOf plan k)) (Suspect (
 unfoldable pub verdictAnswer : ℕ → List ℕ → ℕ → VerdictAnswer
 verdictAnswer number plan k = unlessRefused number (Refused number) (verdictOf plan k)
 
--- "Labels are written with either verdict. Stable .. writes ranks and table; suspect .. writes that many ring bytes. Other bytes are untouched."
+-- "Labels are written with either verdict. Stable .. writes ranks and table; suspect .. writes that many ring bytes. Other bytes are
+-- untouched."
 unfoldable pub labelsAfter : ℕ → List ℕ → ℕ → List ℕ → List ℕ
 labelsAfter number plan k labels = unlessRefused number labels (labelsOf plan k ++ drop (routerCount plan) labels)
 
@@ -86,18 +88,19 @@ abbrev pub answerOf : Assessment → VerdictAnswer
 answerOf (assessments.Stable highest) = Stable highest
 answerOf (assessments.Suspect count) = Suspect count
 
--- the answer r of a call whose refusal is `number`, and each buffer at entry and at exit
-pub record VerdictGiven (number : ℕ) (plan : List ℕ) (k : ℕ) (r : VerdictAnswer) (labels labels′ ranks ranks′ table table′ shown shown′ : List ℕ) : Type 0 where
+-- the answer r of a call whose refusal is `number`, and each buffer before and after
+pub record VerdictGiven (number : ℕ) (plan : List ℕ) (k : ℕ) (r : VerdictAnswer) (labels ranks table shown : Lent (List ℕ)) : Type 0 where
   pub answer : r ≡ verdictAnswer number plan k
   pub numbered : verdictNumber r ≡ number
   pub stable : verdictIsStable r ≡ flagField number (isStable plan k)
   pub size : verdictSize r ≡ field number (sizeOf plan k)
-  pub labelled : labels′ ≡ labelsAfter number plan k labels
-  pub ranked : ranks′ ≡ ranksAfter number plan k ranks
-  pub settled : table′ ≡ tableAfter number plan k table
-  pub cycled : shown′ ≡ cycleAfter number plan k shown
+  pub labelled : labels .after ≡ labelsAfter number plan k (labels .before)
+  pub ranked : ranks .after ≡ ranksAfter number plan k (ranks .before)
+  pub settled : table .after ≡ tableAfter number plan k (table .before)
+  pub cycled : shown .after ≡ cycleAfter number plan k (shown .before)
 
 -- the same of any call
-abbrev pub VerdictCall : List ℕ → ℕ → VerdictAnswer → List ℕ → List ℕ → List ℕ → List ℕ → List ℕ → List ℕ → List ℕ → List ℕ → Type 0
-VerdictCall plan k r labels labels′ ranks ranks′ table table′ shown shown′ =
-    VerdictGiven (verdictRefusal plan k labels ranks table shown) plan k r labels labels′ ranks ranks′ table table′ shown shown′
+abbrev pub VerdictCall : (plan : List ℕ) (k : ℕ) (r : VerdictAnswer) (labels ranks table shown : Lent (List ℕ)) → Type 0
+VerdictCall plan k r labels ranks table shown =
+    VerdictGiven (verdictRefusal plan k (labels .before) (ranks .before) (table .before) (shown .before))
+    plan k r labels ranks table shown

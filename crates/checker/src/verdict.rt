@@ -1,7 +1,9 @@
 // The verdict of a plan for one of its lists.
 
 use assessment::Assessment;
+use contents::entries::DISTANCES;
 ghost use mathlib.Core.Path.{_≡_};
+ghost use Rattle.base.specs.Lent.{lent};
 ghost use Rattle.checker.specs.Verdict.{answerOf, VerdictCall};
 
 // Its refusal number; or stable, with the highest rank; or suspect, with the cycle's length.
@@ -29,7 +31,7 @@ pub fn verdict(
     table: &mut [u8],
     cycle: &mut [u8],
 ) -> VerdictAnswer
-    ensures { λ r. ⌜ VerdictCall (now (plan .entry)) list r (now (labels .entry)) (now (labels .exit)) (now (ranks .entry)) (now (ranks .exit)) (now (table .entry)) (now (table .exit)) (now (cycle .entry)) (now (cycle .exit)) ⌝ }
+    ensures { λ r. ⌜ VerdictCall (now (plan .entry)) list r (lent labels) (lent ranks) (lent table) (lent cycle) ⌝ }
 {
     let refused = refusals::buffers::verdict_refusal(plan, list, labels, ranks, table, cycle);
     if refused != 0 {
@@ -37,6 +39,6 @@ pub fn verdict(
     }
     let mut rows = [0u64; 64];
     let net = network::decode::decode(plan, list, &mut rows);
-    let distances = plan::parts::part(plan, 2);
+    let distances = plan::parts::part(plan, DISTANCES);
     answer(assessment::assess(net, &rows, distances, labels, ranks, table, cycle))
 }

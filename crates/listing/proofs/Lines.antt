@@ -79,7 +79,9 @@ module _ (plan : List ℕ) (k : ℕ) (labels ranks table cycle : List ℕ)
 
   module _ (labels′ ranks′ table′ cycle′ : List ℕ) where
     abbrev Answered : VerdictAnswer → Type 0
-    Answered r = VerdictCall plan k r labels labels′ ranks ranks′ table table′ cycle cycle′
+    Answered r =
+        VerdictCall plan k r (record { before = labels; after = labels′ }) (record { before = ranks; after = ranks′ })
+        (record { before = table; after = table′ }) (record { before = cycle; after = cycle′ })
 
     said-refused : (number : ℕ) → Answered (Refused number) → listLine plan k ≡ refusedLine number
     unfolding listLine verdictAnswer verdictOf

@@ -95,7 +95,10 @@ verdictRefuses (verdicts.Refused number) = 1
 verdictRefuses (verdicts.Stable highest) = 0
 verdictRefuses (verdicts.Suspect count) = 0
 
-module _ (plan : List ℕ) (k : ℕ) (r : VerdictAnswer) (labels labels′ ranks ranks′ table table′ shown shown′ : List ℕ) (call : VerdictCall plan k r labels labels′ ranks ranks′ table table′ shown shown′) (stable size : ℕ) where
+module _ (plan : List ℕ) (k : ℕ) (r : VerdictAnswer) (labels labels′ ranks ranks′ table table′ shown shown′ : List ℕ)
+    (call : VerdictCall plan k r (record { before = labels; after = labels′ }) (record { before = ranks; after = ranks′ })
+    (record { before = table; after = table′ }) (record { before = shown; after = shown′ }))
+    (stable size : ℕ) where
   verdict-answers : verdictRefuses (verdictOf plan k) ≡ 0
   unfolding verdictOf
   verdict-answers = cond-answers verdictRefuses (isStable plan k) _ _ refl refl

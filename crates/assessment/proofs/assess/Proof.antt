@@ -1,6 +1,6 @@
 -- `assessment::assess`: the rows state the network's reliances, and what is written from them is the network's.
 use native.Mathlib.Omega.{arith}
-use mathlib.Core.Path.{_≡_, _∙_, sym}
+use mathlib.Core.Path.{_≡_, refl, _∙_, sym}
 use mathlib.Core.Bool.{true}
 use borrow.Author.Needs.{needs}
 use Rattle.routing.specs.Instance.{Instance}
@@ -57,9 +57,9 @@ returns c =
     let ranked = c .before .before .before .before .before .before .before in
     let t = ranked .before .before .before .before in
     let k = ranked .ranks .ensures in
-    stable-assessed (network t) _ _ (rows t .reliance-rows .ensures) (closing t .close .last .0) (closing t .close .ensures) _ _ _ _ _ _
-    (t .before .before .before .before .labels .ensures) _ _ (sym (tested t) ∙ ranked .before .before .before .if1 .taken) (k .0) (k .1)
-    (c .before .before .settle .ensures)
+    stable-assessed (network t) _ _ (rows t .reliance-rows .ensures) (closing t .close .last .0) (closing t .close .ensures) _ _ _ _ _
+    (t .before .before .before .before .labels .ensures) (sym (tested t) ∙ ranked .before .before .before .if1 .taken) (k .0) (k .1)
+    (c .before .before .settle .ensures) refl
 
 cycle-requires : tie.Need-cycle-requires
 cycle-requires c κs =
@@ -72,8 +72,9 @@ returns-2 : tie.Need-returns-2
 returns-2 c =
     let t = c .before .before .before .before .before .before .before in
     let k = c .before .before .cycle .ensures in
-    suspect-assessed (network t) _ _ (rows t .reliance-rows .ensures) (closing t .close .last .0) (closing t .close .ensures) _ _ _ _ _ _
-    (t .before .before .before .before .labels .ensures) _ (sym (tested t) ∙ c .before .before .before .before .before .before .if1 .left) (k .0) (k .1)
+    suspect-assessed (network t) _ _ (rows t .reliance-rows .ensures) (closing t .close .last .0) (closing t .close .ensures) _ _ _ _ _
+    (t .before .before .before .before .labels .ensures) (sym (tested t) ∙ c .before .before .before .before .before .before .if1 .left)
+    (k .0) refl refl (k .1)
 
 pub assess-spec : {M : Type 1} → statement M
 assess-spec =

@@ -48,7 +48,7 @@ returns-2 c =
     let found = c .before .before .before .before .before .before .before .before .before in
     let part = found .before .before .before .before .before .before in
     rw (c .answer .ensures)
-    (verdict-given _ _ _ _ _ _ _ _ _ _ _ (given (part .before .before .before)) (rw (same-network part) at (found .assess .ensures)))
+    (verdict-given _ _ _ _ _ _ _ (given (part .before .before .before)) (rw (same-network part) at (found .assess .ensures)))
 
 pub verdict-spec : {M : Type 1} → statement M
 verdict-spec =
