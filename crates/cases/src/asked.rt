@@ -1,5 +1,5 @@
-// Refusals 8, 9 and 10: a list or a router asked for, a lent buffer, a held-route table. The plan is the small one with p = q = 6, which has
-// 4 routers and 4 lists. A lower number goes before a higher one.
+// Refusals 8, 9 and 10: a list or a router asked for, a lent buffer, a held-route table. The plan is the small one with p = q = 6,
+// which has 4 routers and 4 lists. A lower number goes before a higher one.
 
 use crate::build;
 use crate::calls;
@@ -114,7 +114,8 @@ fn short_buffers() {
     );
 }
 
-// An activation of router 1, a run of it and a run of no acts, on a table in which one entry differs from the start. Router 1 takes 3 from 3.
+// An activation of router 1, a run of it and a run of no acts, on a table in which one entry differs from the start.
+// Router 1 takes 3 from 3.
 fn entry(name: &[u8], at: usize, egress: u8, sender: u8) {
     let mut plan = [0u8; plans::ROOM];
     let length = plans::small(&mut plan, 6, 6);

@@ -27,7 +27,8 @@ fn contents() {
     cases::damaged(b"3-lists-shorter", 24, 11);
 }
 
-// The bodies fit the contents entries, but are those of four routers where n is 3, have an odd length of sessions, or 15 distances for four routers.
+// The bodies fit the contents entries, but are those of four routers where n is 3, have an odd length of sessions, or 15 distances
+// for four routers.
 fn lengths() {
     cases::damaged(b"3-routers-length", 4, 3);
     let mut plan = [0u8; plans::ROOM];

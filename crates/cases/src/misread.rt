@@ -4,8 +4,8 @@ use crate::build;
 use crate::cases;
 use crate::plans;
 
-// With p = q = 10 each reflector is as far from the other's client as from its own, and 2 is the lower number: router 1 relies on router 0, whose
-// offer is 2, and router 0 does not rely on router 1, whose offer is 3.
+// With p = q = 10 each reflector is as far from the other's client as from its own, and 2 is the lower number: router 1 relies on
+// router 0, whose offer is 2, and router 0 does not rely on router 1, whose offer is 3.
 fn tie() {
     let mut plan = [0u8; plans::ROOM];
     let length = plans::small(&mut plan, 10, 10);
@@ -70,8 +70,8 @@ fn third_reflector() {
     cases::verdict(b"row", whole, 0);
 }
 
-// The other reflector's offer is the client that each has itself, which is not better than itself. Router 0 hears 2 from 1 and from 2: the egress
-// router is the sender. Router 3 hears 2 from 0 and from 1: the lowest is.
+// The other reflector's offer is the client that each has itself, which is not better than itself. Router 0 hears 2 from 1 and
+// from 2: the egress router is the sender. Router 3 hears 2 from 0 and from 1: the lowest is.
 fn shared() {
     let mut plan = [0u8; plans::ROOM];
     let length = plans::shared_client(&mut plan);

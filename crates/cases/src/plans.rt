@@ -13,8 +13,8 @@ pub fn small(plan: &mut [u8], p: u8, q: u8) -> usize {
     build::put_plan(plan, &[1, 1, 2, 2], &[0, 1, 0, 2, 1, 3], &distances, &lists)
 }
 
-// Reflector 0 has client 2, reflector 1 has clients 3 and 4. Router 1 is nearer to 3 than to 4; router 0 is at 10 from 2, 12 from 3, 8 from 4.
-// Lists 0: 2,3,4; 1: 3,4.
+// Reflector 0 has client 2, reflector 1 has clients 3 and 4. Router 1 is nearer to 3 than to 4; router 0 is at 10 from 2, 12 from 3,
+// 8 from 4. Lists 0: 2,3,4; 1: 3,4.
 pub fn two_clients(plan: &mut [u8]) -> usize {
     let distances = [
         0,

@@ -1,5 +1,5 @@
-// Runs at their limits, on the small plan with p = q = 6 and list 2,3: refusal number, acts applied, rounds, whether the sequence is longer than
-// the limit, table. The unlisted routers hold nothing at the start; the two bytes after the table stay as they are.
+// Runs at their limits, on the small plan with p = q = 6 and list 2,3: refusal number, acts applied, rounds, whether the sequence
+// is longer than the limit, table. The unlisted routers hold nothing at the start; the two bytes after the table stay as they are.
 // Activated in the order 0 1 2 3, router 0 takes 2 from 2 and announces it, and router 1, at 6 from 2 and 10 from 3, takes 2 from 0.
 
 use crate::build;

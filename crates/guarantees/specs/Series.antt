@@ -39,7 +39,8 @@ abbrev pub bufferAfter : Call → List ℕ → List ℕ
 bufferAfter (activateCall plan k w) buffer = activateTable plan k w buffer
 bufferAfter (runCall plan k acts limit) buffer = runTable plan k acts limit buffer
 
--- "The acts of the series, in order, are the router of each act call and the sequence of each run up to its limit; a refused call adds none."
+-- "The acts of the series, in order, are the router of each act call and the sequence of each run up to its limit; a refused call
+-- adds none."
 abbrev pub callActs : Call → List ℕ
 callActs (activateCall plan k w) = w ∷ []
 callActs (runCall plan k acts limit) = take limit acts
@@ -60,8 +61,8 @@ ForThis plan k [] buffer = Unit {0}
 ForThis plan k (call ∷ calls) buffer =
     (callRefusal call buffer ≡ 0 → (callPlan call ≡ plan) × (callList call ≡ k)) × ForThis plan k calls (bufferAfter call buffer)
 
--- "Fix a plan and one of its lists whose verdict is stable. .. It starts from a lent buffer whose first 2n bytes are any held-route table for
--- that plan and list."
+-- "Fix a plan and one of its lists whose verdict is stable. .. It starts from a lent buffer whose first 2n bytes are any held-route
+-- table for that plan and list."
 pub record Start (plan : List ℕ) (k : ℕ) (buffer : List ℕ) : Type 0 where
   pub planOk : planRefusal plan ≡ 0
   pub listOk : k < listCount plan

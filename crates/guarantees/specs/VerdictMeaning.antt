@@ -29,7 +29,8 @@ labelIn plan k = label (closure (reliance plan k) (routerCount plan))
 abbrev pub rankIn : List ℕ → ℕ → ℕ → ℕ
 rankIn plan k = rank (reliance plan k) (routerCount plan)
 
--- "one more than the highest rank it relies on": of the routers that w relies on, none has a higher rank than this one, and w is one above it
+-- "one more than the highest rank it relies on": of the routers that w relies on, none has a higher rank than this one, and w is one
+-- above it
 pub record HighestBelow (plan : List ℕ) (k w : ℕ) : Type 0 where
   pub at : ℕ
   pub below : at < routerCount plan
@@ -47,7 +48,8 @@ pub record VerdictMeans (plan : List ℕ) (k : ℕ) : Type 0 where
   -- demand 2: "stable exactly if no router relies on itself through a chain of reliances"
   pub stableChains : (isStable plan k ≡ true) ↔ ((w : ℕ) → w < routerCount plan → Reaches plan k w w → ⊥)
   -- "Otherwise it is suspect and shows such a ring."
-  pub showsCycle : isStable plan k ≡ false → IsCycle (reliance plan k) (closure (reliance plan k) (routerCount plan)) (routerCount plan) (cycleOf plan k)
+  pub showsCycle : isStable plan k ≡ false
+      → IsCycle (reliance plan k) (closure (reliance plan k) (routerCount plan)) (routerCount plan) (cycleOf plan k)
   -- "A router's rank is 0 if it relies on none, else one more than the highest rank it relies on."
   pub rankNone : isStable plan k ≡ true → (w : ℕ) → w < routerCount plan
       → ((v : ℕ) → v < routerCount plan → relies (instanceOf plan k) w v ≡ false) → rankIn plan k w ≡ 0

@@ -1,4 +1,5 @@
--- What a router advertises, and what an activation leaves (document 01, "Choosing and announcing"; there the words are "announces" and "act").
+-- What a router advertises, and what an activation leaves (document 01, "Choosing and announcing"; there the words are "announces" and
+-- "act").
 use Prim.Native.Nat.{ℕ}
 use mathlib.Core.Bool.{Bool, not, cond, _&&_}
 use mathlib.Core.Option.{Option, none, some}
@@ -10,8 +11,8 @@ use Rattle.base.specs.Best.{best}
 use Rattle.routing.specs.Instance.{Instance, Route, nothing, via, isRouter}
 use Rattle.routing.specs.Preference.{prefers}
 
--- "An unlisted reflector announces the route it holds: one heard from a client to all neighbours but that client, one heard from a reflector
--- to its clients only." What it passes on to w, if anything.
+-- "An unlisted reflector announces the route it holds: one heard from a client to all neighbours but that client, one heard from a
+-- reflector to its clients only." What it passes on to w, if anything.
 unfoldable pub reflects : Instance → Route → ℕ → Option ℕ
 reflects I nothing w = none
 reflects I (via e s) w = cond (cond (I .reflector s) (not (I .reflector w)) (not (eqb s w))) (some e) none

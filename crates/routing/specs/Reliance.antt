@@ -26,8 +26,8 @@ betterOffer I w (some e) (some c) = prefers I w e c
 
 -- "1. A listed router relies on no one."
 -- "2. An unlisted client relies on each neighbouring reflector and on each neighbouring listed client."
--- "3. An unlisted reflector relies on its best client, and on each neighbouring reflector whose offer exists and is better, at the relying one,
--- than its own best client."
+-- "3. An unlisted reflector relies on its best client, and on each neighbouring reflector whose offer exists and is better, at the
+-- relying one, than its own best client."
 unfoldable pub relies : Instance → ℕ → ℕ → Bool
 relies I w v =
     cond (I .listed w) false

@@ -31,8 +31,8 @@ pub record OneSteadyTable (I : Instance) (R : ℕ) : Type 0 where
   pub only : (t : List Route) → IsTable I t → Steady I t → t ≡ settledTable I R
   pub changes : (t : List Route) → IsTable I t → (t ≡ settledTable I R → ⊥) → (w : ℕ) × (w < I .n) × (activate I w t ≡ t → ⊥)
 
--- "Once the acts applied in the series make as many rounds as the highest rank plus two, the table is the verdict's, egress and sender of every
--- router alike, and no later act changes it." From any table: nothing is asked of what a router holds at the start.
+-- "Once the acts applied in the series make as many rounds as the highest rank plus two, the table is the verdict's, egress and
+-- sender of every router alike, and no later act changes it." From any table: nothing is asked of what a router holds at the start.
 pub record Settles (I : Instance) (R : ℕ) (t : List Route) (acts : List ℕ) : Type 0 where
   pub reached : runActs I t acts ≡ settledTable I R
   pub kept : (more : List ℕ) → runActs I t (acts ++ more) ≡ settledTable I R
