@@ -4,4 +4,5 @@ pub mod Comparing
 pub mod Relying
 pub mod Acting
 pub mod Sequences
+pub mod Sizing
 pub mod Judging

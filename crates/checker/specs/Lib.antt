@@ -5,3 +5,4 @@ pub mod Relies
 pub mod Verdict
 pub mod Activate
 pub mod Run
+pub mod Size

@@ -5,6 +5,7 @@ pub mod compare;
 pub mod lists;
 pub mod relies;
 pub mod run;
+pub mod size;
 pub mod verdict;
 
 ghost use mathlib.Core.Path.{_≡_};
