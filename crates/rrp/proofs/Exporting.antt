@@ -4,6 +4,7 @@ use mathlib.Core.Path.{_≡_, refl, _∙_, sym, ap}
 use mathlib.Core.Bool.{Bool, true, false, cond}
 use mathlib.Core.List.{List}
 use lib.Dec.{eqb}
+use Rattle.base.specs.Lent.{Lent}
 use Rattle.base.specs.Seek.{flag}
 use Rattle.routing.specs.Preference.{prefers}
 use Rattle.routing.specs.Reliance.{relies}
@@ -15,30 +16,52 @@ use Rattle.checker.specs.declared.relies.ReliesAnswer.the-variants as relying
 use Rattle.checker.specs.declared.verdict.VerdictAnswer.{VerdictAnswer}
 use Rattle.checker.specs.declared.verdict.VerdictAnswer.the-variants as verdicts
 use Rattle.checker.specs.declared.run.RunAnswer.{RunAnswer}
+use Rattle.checker.specs.declared.size.SizeAnswer.{SizeAnswer}
+use Rattle.plan.specs.Refusal.{planRefusal}
 use Rattle.refusals.specs.Refusals.{egressListRefusal, compareRefusal, reliesRefusal, verdictRefusal, runRefusal}
 use Rattle.checker.specs.Compare.{compared, compareNumber, compareBetter, Compares}
 use Rattle.checker.specs.Relies.{relied, reliesNumber, reliesFlag, Relied}
 use Rattle.checker.specs.Verdict.{isStable, verdictOf, verdictAnswer, verdictNumber, verdictIsStable, verdictSize, VerdictCall}
 use Rattle.checker.specs.Run.{Runs}
+use Rattle.checker.specs.Size.{sizeRouters, sizeLists, Sizes}
 use Rattle.checker.proofs.Refused.{when-refused, when-given}
 use Rattle.plan.specs.EgressLists.{SpanOf}
-use Rattle.checker.proofs.ListStretch.{stretch-given}
-use Rattle.rrp.specs.Exports.{ListExport, CompareExport, ReliesExport, VerdictExport, RunExport}
+use Rattle.rrp.specs.Exports.{SizeExport, ListExport, CompareExport, ReliesExport, VerdictExport, RunExport}
 use Rattle.rrp.proofs.Written.{written, refused-by}
 
+-- a variable that a call leaves, and one that it writes
+abbrev kept : ℕ → Lent ℕ
+kept x = record { before = x; after = x }
+
+abbrev wrote : ℕ → ℕ → Lent ℕ
+wrote x y = record { before = x; after = y }
+
+module _ (plan : List ℕ) (r : SizeAnswer) (call : Sizes plan r) (routers lists : ℕ) where
+  pub size-refused : (r .refused ≡ 0 → ⊥) → SizeExport plan (r .refused) (kept routers) (kept lists)
+  size-refused h =
+      let n : planRefusal plan ≡ 0 → ⊥ = λ z. h (call .number ∙ z) in
+      record { number = call .number; routers-are = sym (when-refused _ _ _ n); lists-are = sym (when-refused _ _ _ n) }
+
+  pub size-given : r .refused ≡ 0 → SizeExport plan 0 (wrote routers (r .routers)) (wrote lists (r .lists))
+  unfolding sizeRouters sizeLists
+  size-given zero =
+      let n : planRefusal plan ≡ 0 = sym (call .number) ∙ zero in
+      record { number = sym n; routers-are = written _ _ _ _ _ n (call .routers); lists-are = written _ _ _ _ _ n (call .lists) }
+
 module _ (plan : List ℕ) (k : ℕ) (start count : ℕ) where
-  pub list-refused : (number : ℕ) → number ≡ egressListRefusal plan k → (number ≡ 0 → ⊥) → ListExport plan k number start start count count
+  pub list-refused : (number : ℕ) → number ≡ egressListRefusal plan k → (number ≡ 0 → ⊥)
+      → ListExport plan k number (kept start) (kept count)
   list-refused number same h =
       let n : egressListRefusal plan k ≡ 0 → ⊥ = λ z. h (same ∙ z) in
       record { number = same; started = sym (when-refused _ _ _ n); counted = sym (when-refused _ _ _ n) }
 
-  pub list-given : (start′ count′ : ℕ) → egressListRefusal plan k ≡ 0 → SpanOf plan k start′ count′ → ListExport plan k 0 start start′ count count′
+  pub list-given : (start′ count′ : ℕ) → egressListRefusal plan k ≡ 0 → SpanOf plan k start′ count′
+      → ListExport plan k 0 (wrote start start′) (wrote count count′)
   list-given start′ count′ given span =
-      let s = stretch-given plan k given in
       record {
         number = sym given;
-        started = span .starts ∙ sym (s .starts) ∙ sym (when-given _ _ _ given);
-        counted = span .counts ∙ sym (s .sizes) ∙ sym (when-given _ _ _ given);
+        started = span .starts ∙ sym (when-given _ _ _ given);
+        counted = span .counts ∙ sym (when-given _ _ _ given);
       }
 
 abbrev compareRefuses : CompareAnswer → ℕ
@@ -57,12 +80,13 @@ module _ (plan : List ℕ) (w e f : ℕ) (r : CompareAnswer) (call : Compares pl
   compared-answers =
       cond-answers compareRefuses (eqb e f) _ _ refl (cond-answers compareRefuses (prefers (instanceOf plan 0) w e f) _ _ refl refl)
 
-  pub compare-refused : (number : ℕ) → r ≡ compares.Refused number → CompareExport plan w e f number before before
+  pub compare-refused : (number : ℕ) → r ≡ compares.Refused number → CompareExport plan w e f number (kept before)
   compare-refused number is =
-      let n : compareRefusal plan w e f ≡ 0 → ⊥ = refused-by compareRefuses _ r _ _ (call .answer) (ap compareRefuses is) compared-answers in
+      let n : compareRefusal plan w e f ≡ 0 → ⊥ =
+      refused-by compareRefuses _ r _ _ (call .answer) (ap compareRefuses is) compared-answers in
       record { number = sym (ap compareNumber is) ∙ call .number; compared = sym (when-refused _ _ _ n) }
 
-  pub compare-given : (value : ℕ) → compareNumber r ≡ 0 → compareBetter r ≡ value → CompareExport plan w e f 0 before value
+  pub compare-given : (value : ℕ) → compareNumber r ≡ 0 → compareBetter r ≡ value → CompareExport plan w e f 0 (wrote before value)
   compare-given value zero is =
       let n : compareRefusal plan w e f ≡ 0 = sym (call .number) ∙ zero in
       record { number = sym n; compared = written _ _ _ _ _ n (sym is ∙ call .value) }
@@ -77,12 +101,13 @@ module _ (plan : List ℕ) (k w v : ℕ) (r : ReliesAnswer) (call : Relied plan 
   unfolding relied
   relied-answers = cond-answers reliesRefuses (relies (instanceOf plan k) w v) _ _ refl refl
 
-  pub relies-refused : (number : ℕ) → r ≡ relying.Refused number → ReliesExport plan k w v number before before
+  pub relies-refused : (number : ℕ) → r ≡ relying.Refused number → ReliesExport plan k w v number (kept before)
   relies-refused number is =
-      let n : reliesRefusal plan k w v ≡ 0 → ⊥ = refused-by reliesRefuses _ r _ _ (call .answer) (ap reliesRefuses is) relied-answers in
+      let n : reliesRefusal plan k w v ≡ 0 → ⊥ =
+      refused-by reliesRefuses _ r _ _ (call .answer) (ap reliesRefuses is) relied-answers in
       record { number = sym (ap reliesNumber is) ∙ call .number; answered = sym (when-refused _ _ _ n) }
 
-  pub relies-given : (value : Bool) → reliesNumber r ≡ 0 → reliesFlag r ≡ value → ReliesExport plan k w v 0 before (flag value)
+  pub relies-given : (value : Bool) → reliesNumber r ≡ 0 → reliesFlag r ≡ value → ReliesExport plan k w v 0 (wrote before (flag value))
   relies-given value zero is =
       let n : reliesRefusal plan k w v ≡ 0 = sym (call .number) ∙ zero in
       record {
@@ -95,20 +120,21 @@ verdictRefuses (verdicts.Refused number) = 1
 verdictRefuses (verdicts.Stable highest) = 0
 verdictRefuses (verdicts.Suspect count) = 0
 
-module _ (plan : List ℕ) (k : ℕ) (r : VerdictAnswer) (labels labels′ ranks ranks′ table table′ shown shown′ : List ℕ)
-    (call : VerdictCall plan k r (record { before = labels; after = labels′ }) (record { before = ranks; after = ranks′ })
-    (record { before = table; after = table′ }) (record { before = shown; after = shown′ }))
-    (stable size : ℕ) where
+module _ (plan : List ℕ) (k : ℕ) (r : VerdictAnswer) (labels ranks table shown : Lent (List ℕ))
+    (call : VerdictCall plan k r labels ranks table shown) (stable size : ℕ) where
   verdict-answers : verdictRefuses (verdictOf plan k) ≡ 0
   unfolding verdictOf
   verdict-answers = cond-answers verdictRefuses (isStable plan k) _ _ refl refl
 
-  refusal-not-0 : verdictRefuses r ≡ 1 → verdictRefusal plan k labels ranks table shown ≡ 0 → ⊥
+  abbrev number₀ : ℕ
+  number₀ = verdictRefusal plan k (labels .before) (ranks .before) (table .before) (shown .before)
+
+  refusal-not-0 : verdictRefuses r ≡ 1 → number₀ ≡ 0 → ⊥
   unfolding verdictAnswer
   refusal-not-0 says = refused-by verdictRefuses _ r _ _ (call .answer) says verdict-answers
 
   pub verdict-refused : (number : ℕ) → r ≡ verdicts.Refused number
-      → VerdictExport plan k number labels labels′ ranks ranks′ table table′ shown shown′ stable stable size size
+      → VerdictExport plan k number labels ranks table shown (kept stable) (kept size)
   verdict-refused number is =
       let n = refusal-not-0 (ap verdictRefuses is) in
       record {
@@ -122,9 +148,9 @@ module _ (plan : List ℕ) (k : ℕ) (r : VerdictAnswer) (labels labels′ ranks
       }
 
   pub verdict-given : (judged : Bool) (size′ : ℕ) → verdictNumber r ≡ 0 → verdictIsStable r ≡ judged → verdictSize r ≡ size′
-      → VerdictExport plan k 0 labels labels′ ranks ranks′ table table′ shown shown′ stable (flag judged) size size′
+      → VerdictExport plan k 0 labels ranks table shown (wrote stable (flag judged)) (wrote size size′)
   verdict-given judged size′ zero is long =
-      let n : verdictRefusal plan k labels ranks table shown ≡ 0 = sym (call .numbered) ∙ zero in
+      let n : number₀ ≡ 0 = sym (call .numbered) ∙ zero in
       record {
         numbered = sym n;
         labelled = call .labelled;
@@ -135,12 +161,12 @@ module _ (plan : List ℕ) (k : ℕ) (r : VerdictAnswer) (labels labels′ ranks
         sized = written _ _ _ _ _ n (sym long ∙ call .size);
       }
 
-module _ (plan : List ℕ) (k : ℕ) (acts : List ℕ) (limit : ℕ) (table : List ℕ) (r : RunAnswer) (table′ : List ℕ)
-    (call : Runs plan k acts limit table r table′) (applied rounds exhausted : ℕ) where
+module _ (plan : List ℕ) (k : ℕ) (acts : List ℕ) (limit : ℕ) (table : Lent (List ℕ)) (r : RunAnswer)
+    (call : Runs plan k acts limit (table .before) r (table .after)) (applied rounds exhausted : ℕ) where
   pub run-refused : (r .refused ≡ 0 → ⊥)
-      → RunExport plan k acts limit (r .refused) table table′ applied applied rounds rounds exhausted exhausted
+      → RunExport plan k acts limit (r .refused) table (kept applied) (kept rounds) (kept exhausted)
   run-refused h =
-      let n : runRefusal plan k acts table ≡ 0 → ⊥ = λ z. h (call .number ∙ z) in
+      let n : runRefusal plan k acts (table .before) ≡ 0 → ⊥ = λ z. h (call .number ∙ z) in
       record {
         numbered = call .number;
         bytes = call .bytes;
@@ -150,9 +176,9 @@ module _ (plan : List ℕ) (k : ℕ) (acts : List ℕ) (limit : ℕ) (table : Li
       }
 
   pub run-given : r .refused ≡ 0
-      → RunExport plan k acts limit 0 table table′ applied (r .applied) rounds (r .rounds) exhausted (flag (r .exhausted))
+      → RunExport plan k acts limit 0 table (wrote applied (r .applied)) (wrote rounds (r .rounds)) (wrote exhausted (flag (r .exhausted)))
   run-given zero =
-      let n : runRefusal plan k acts table ≡ 0 = sym (call .number) ∙ zero in
+      let n : runRefusal plan k acts (table .before) ≡ 0 = sym (call .number) ∙ zero in
       record {
         numbered = sym n;
         bytes = call .bytes;

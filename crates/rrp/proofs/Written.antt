@@ -11,8 +11,8 @@ pub written : {A : Type 0} (number : ℕ) (before zeroed value x : A) → number
 written number before zeroed value x given h = h ∙ when-given number zeroed value given ∙ sym (when-given number before value given)
 
 -- an answer that says "refused" comes with a number that is not 0, where the answer otherwise given does not say it
-pub refused-by : {A : Type 0} (saysRefused : A → ℕ) (number : ℕ) (answer refused otherwise : A) → answer ≡ unlessRefused number refused otherwise
-    → saysRefused answer ≡ 1 → saysRefused otherwise ≡ 0 → number ≡ 0 → ⊥
+pub refused-by : {A : Type 0} (saysRefused : A → ℕ) (number : ℕ) (answer refused otherwise : A)
+    → answer ≡ unlessRefused number refused otherwise → saysRefused answer ≡ 1 → saysRefused otherwise ≡ 0 → number ≡ 0 → ⊥
 refused-by saysRefused number answer refused otherwise h says not given =
     let z : _≡_ {A = ℕ} 1 0 = sym says ∙ ap saysRefused (h ∙ when-given number refused otherwise given) ∙ not in
     omega (arith, z)

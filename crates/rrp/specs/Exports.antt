@@ -1,55 +1,73 @@
 -- The public calls as C sees them: the returned number r is the call's refusal, and every variable and buffer that a pointer reaches is
--- given at entry and, primed, at exit. "unchanged" beside a refusal holds of the result variables too.
+-- given before the call and after it.
 use Prim.Native.Nat.{ℕ}
 use mathlib.Core.List.{List}
 use mathlib.Core.Path.{_≡_}
+use Rattle.base.specs.Lent.{Lent}
 use Rattle.base.specs.Seek.{flag}
+use Rattle.contents.specs.Header.{routerCount}
+use Rattle.plan.specs.EgressLists.{listCount, listStart, listSize}
+use Rattle.plan.specs.Refusal.{planRefusal}
 use Rattle.routing.specs.Reliance.{relies}
 use Rattle.network.specs.FromPlan.{instanceOf}
 use Rattle.checker.specs.Refused.{unlessRefused}
 use Rattle.refusals.specs.Refusals.{egressListRefusal, compareRefusal, reliesRefusal, verdictRefusal, runRefusal}
-use Rattle.checker.specs.EgressList.{egressListStart, egressListSize}
 use Rattle.checker.specs.Compare.{better}
 use Rattle.checker.specs.Verdict.{isStable, sizeOf, labelsAfter, ranksAfter, tableAfter, cycleAfter}
 use Rattle.checker.specs.Run.{runApplied, runRounds, runExhausted, runTable}
 
+-- a result variable of a call whose refusal is `number`: "unchanged" if refused, else the value
+abbrev pub Holds : (number : ℕ) (variable : Lent ℕ) (value : ℕ) → Type 0
+Holds number variable value = variable .after ≡ unlessRefused number (variable .before) value
+
+-- rrp_size: n, the number of routers, and m, the number of lists
+pub record SizeExport (plan : List ℕ) (r : ℕ) (routers lists : Lent ℕ) : Type 0 where
+  pub number : r ≡ planRefusal plan
+  pub routers-are : Holds (planRefusal plan) routers (routerCount plan)
+  pub lists-are : Holds (planRefusal plan) lists (listCount plan)
+
 -- rrp_list: where in the plan the numbers of list k start, and how many they are
-pub record ListExport (plan : List ℕ) (k r start start′ count count′ : ℕ) : Type 0 where
+pub record ListExport (plan : List ℕ) (k r : ℕ) (start count : Lent ℕ) : Type 0 where
   pub number : r ≡ egressListRefusal plan k
-  pub started : start′ ≡ unlessRefused (egressListRefusal plan k) start (egressListStart plan k)
-  pub counted : count′ ≡ unlessRefused (egressListRefusal plan k) count (egressListSize plan k)
+  pub started : Holds (egressListRefusal plan k) start (listStart plan k)
+  pub counted : Holds (egressListRefusal plan k) count (listSize plan k)
 
 -- rrp_compare: 1 if at w the first, e, is better, 2 if the second, f, is, 0 if they are the same
-pub record CompareExport (plan : List ℕ) (w e f r preferred preferred′ : ℕ) : Type 0 where
+pub record CompareExport (plan : List ℕ) (w e f r : ℕ) (preferred : Lent ℕ) : Type 0 where
   pub number : r ≡ compareRefusal plan w e f
-  pub compared : preferred′ ≡ unlessRefused (compareRefusal plan w e f) preferred (better plan w e f)
+  pub compared : Holds (compareRefusal plan w e f) preferred (better plan w e f)
 
 -- rrp_relies: 1 if w relies on v for list k, else 0
-pub record ReliesExport (plan : List ℕ) (k w v r relied relied′ : ℕ) : Type 0 where
+pub record ReliesExport (plan : List ℕ) (k w v r : ℕ) (relied : Lent ℕ) : Type 0 where
   pub number : r ≡ reliesRefusal plan k w v
-  pub answered : relied′ ≡ unlessRefused (reliesRefusal plan k w v) relied (flag (relies (instanceOf plan k) w v))
+  pub answered : Holds (reliesRefusal plan k w v) relied (flag (relies (instanceOf plan k) w v))
 
--- rrp_verdict: stable 1 or 0; the size is the highest rank if stable, else the ring's length. `number` is the call's refusal.
-pub record VerdictWritten (number : ℕ) (plan : List ℕ) (k r : ℕ) (labels labels′ ranks ranks′ table table′ shown shown′ : List ℕ) (stable stable′ size size′ : ℕ) : Type 0 where
+-- rrp_verdict: stable 1 or 0; the size is the highest rank if stable, else the cycle's length. `number` is the call's refusal.
+pub record VerdictWritten (number : ℕ) (plan : List ℕ) (k r : ℕ)
+    (labels ranks table shown : Lent (List ℕ)) (stable size : Lent ℕ) : Type 0 where
   pub numbered : r ≡ number
-  pub labelled : labels′ ≡ labelsAfter number plan k labels
-  pub ranked : ranks′ ≡ ranksAfter number plan k ranks
-  pub settled : table′ ≡ tableAfter number plan k table
-  pub cycled : shown′ ≡ cycleAfter number plan k shown
-  pub judged : stable′ ≡ unlessRefused number stable (flag (isStable plan k))
-  pub sized : size′ ≡ unlessRefused number size (sizeOf plan k)
+  pub labelled : labels .after ≡ labelsAfter number plan k (labels .before)
+  pub ranked : ranks .after ≡ ranksAfter number plan k (ranks .before)
+  pub settled : table .after ≡ tableAfter number plan k (table .before)
+  pub cycled : shown .after ≡ cycleAfter number plan k (shown .before)
+  pub judged : Holds number stable (flag (isStable plan k))
+  pub sized : Holds number size (sizeOf plan k)
 
-abbrev pub VerdictExport : List ℕ → ℕ → ℕ → List ℕ → List ℕ → List ℕ → List ℕ → List ℕ → List ℕ → List ℕ → List ℕ → ℕ → ℕ → ℕ → ℕ → Type 0
-VerdictExport plan k r labels labels′ ranks ranks′ table table′ shown shown′ =
-    VerdictWritten (verdictRefusal plan k labels ranks table shown) plan k r labels labels′ ranks ranks′ table table′ shown shown′
+abbrev pub VerdictExport : (plan : List ℕ) (k r : ℕ) (labels ranks table shown : Lent (List ℕ)) (stable size : Lent ℕ) → Type 0
+VerdictExport plan k r labels ranks table shown =
+    VerdictWritten (verdictRefusal plan k (labels .before) (ranks .before) (table .before) (shown .before))
+    plan k r labels ranks table shown
 
--- rrp_run: the acts applied, the whole rounds in them, and 1 if the sequence is longer than the limit, else 0. `number` is the call's refusal.
-pub record RunWritten (number : ℕ) (plan : List ℕ) (k : ℕ) (acts : List ℕ) (limit r : ℕ) (table table′ : List ℕ) (applied applied′ rounds rounds′ exhausted exhausted′ : ℕ) : Type 0 where
+-- rrp_run: the activations applied, the whole rounds in them, and 1 if the sequence is longer than the limit, else 0.
+-- `number` is the call's refusal.
+pub record RunWritten (number : ℕ) (plan : List ℕ) (k : ℕ) (acts : List ℕ) (limit r : ℕ)
+    (table : Lent (List ℕ)) (applied rounds exhausted : Lent ℕ) : Type 0 where
   pub numbered : r ≡ number
-  pub bytes : table′ ≡ runTable plan k acts limit table
-  pub acted : applied′ ≡ unlessRefused number applied (runApplied number acts limit)
-  pub whole : rounds′ ≡ unlessRefused number rounds (runRounds number plan acts limit)
-  pub cut : exhausted′ ≡ unlessRefused number exhausted (flag (runExhausted number acts limit))
+  pub bytes : table .after ≡ runTable plan k acts limit (table .before)
+  pub acted : Holds number applied (runApplied number acts limit)
+  pub whole : Holds number rounds (runRounds number plan acts limit)
+  pub cut : Holds number exhausted (flag (runExhausted number acts limit))
 
-abbrev pub RunExport : List ℕ → ℕ → List ℕ → ℕ → ℕ → List ℕ → List ℕ → ℕ → ℕ → ℕ → ℕ → ℕ → ℕ → Type 0
-RunExport plan k acts limit r table = RunWritten (runRefusal plan k acts table) plan k acts limit r table
+abbrev pub RunExport : (plan : List ℕ) (k : ℕ) (acts : List ℕ) (limit r : ℕ) (table : Lent (List ℕ))
+    (applied rounds exhausted : Lent ℕ) → Type 0
+RunExport plan k acts limit r table = RunWritten (runRefusal plan k acts (table .before)) plan k acts limit r table

@@ -5,9 +5,10 @@ use checker::compare::CompareAnswer;
 use checker::relies::ReliesAnswer;
 use checker::verdict::VerdictAnswer;
 ghost use mathlib.Core.Path.{_≡_};
+ghost use Rattle.base.specs.Lent.{lent};
 ghost use Rattle.plan.specs.Refusal.{planRefusal};
 ghost use Rattle.checker.specs.Activate.{Activates};
-ghost use Rattle.rrp.specs.Exports.{ListExport, CompareExport, ReliesExport, VerdictExport, RunExport};
+ghost use Rattle.rrp.specs.Exports.{SizeExport, ListExport, CompareExport, ReliesExport, VerdictExport, RunExport};
 
 #[no_mangle]
 pub extern "C" fn rrp_check(plan: &[u8]) -> u8
@@ -17,8 +18,21 @@ pub extern "C" fn rrp_check(plan: &[u8]) -> u8
 }
 
 #[no_mangle]
+pub extern "C" fn rrp_size(plan: &[u8], routers: &mut u64, lists: &mut u64) -> u8
+    ensures { λ r. ⌜ SizeExport (now (plan .entry)) r (lent routers) (lent lists) ⌝ }
+{
+    let answer = checker::size::size(plan);
+    if answer.refused != 0 {
+        return answer.refused;
+    }
+    *routers = answer.routers as u64;
+    *lists = answer.lists as u64;
+    0
+}
+
+#[no_mangle]
 pub extern "C" fn rrp_list(plan: &[u8], list: usize, start: &mut u64, count: &mut u64) -> u8
-    ensures { λ r. ⌜ ListExport (now (plan .entry)) list r (now (start .entry)) (now (start .exit)) (now (count .entry)) (now (count .exit)) ⌝ }
+    ensures { λ r. ⌜ ListExport (now (plan .entry)) list r (lent start) (lent count) ⌝ }
 {
     let refused = checker::lists::egress_list_refusal(plan, list);
     if refused != 0 {
@@ -38,7 +52,7 @@ pub extern "C" fn rrp_compare(
     second: usize,
     better: &mut u8,
 ) -> u8
-    ensures { λ r. ⌜ CompareExport (now (plan .entry)) router first second r (now (better .entry)) (now (better .exit)) ⌝ }
+    ensures { λ r. ⌜ CompareExport (now (plan .entry)) router first second r (lent better) ⌝ }
 {
     let answer = checker::compare::compare(plan, router, first, second);
     match answer {
@@ -68,7 +82,7 @@ pub extern "C" fn rrp_relies(
     other: usize,
     relies: &mut u8,
 ) -> u8
-    ensures { λ r. ⌜ ReliesExport (now (plan .entry)) list router other r (now (relies .entry)) (now (relies .exit)) ⌝ }
+    ensures { λ r. ⌜ ReliesExport (now (plan .entry)) list router other r (lent relies) ⌝ }
 {
     let answer = checker::relies::relies(plan, list, router, other);
     match answer {
@@ -97,7 +111,8 @@ pub extern "C" fn rrp_verdict(
     stable: &mut u8,
     size: &mut u64,
 ) -> u8
-    ensures { λ r. ⌜ VerdictExport (now (plan .entry)) list r (now (labels .entry)) (now (labels .exit)) (now (ranks .entry)) (now (ranks .exit)) (now (table .entry)) (now (table .exit)) (now (cycle .entry)) (now (cycle .exit)) (now (stable .entry)) (now (stable .exit)) (now (size .entry)) (now (size .exit)) ⌝ }
+    ensures { λ r. ⌜ VerdictExport (now (plan .entry)) list r
+        (lent labels) (lent ranks) (lent table) (lent cycle) (lent stable) (lent size) ⌝ }
 {
     let answer = checker::verdict::verdict(plan, list, labels, ranks, table, cycle);
     match answer {
@@ -135,7 +150,8 @@ pub extern "C" fn rrp_run(
     rounds: &mut u64,
     exhausted: &mut u8,
 ) -> u8
-    ensures { λ r. ⌜ RunExport (now (plan .entry)) list (now (sequence .entry)) limit r (now (table .entry)) (now (table .exit)) (now (applied .entry)) (now (applied .exit)) (now (rounds .entry)) (now (rounds .exit)) (now (exhausted .entry)) (now (exhausted .exit)) ⌝ }
+    ensures { λ r. ⌜ RunExport (now (plan .entry)) list (now (sequence .entry)) limit r
+        (lent table) (lent applied) (lent rounds) (lent exhausted) ⌝ }
 {
     let done = checker::run::run(plan, list, sequence, limit as usize, table);
     if done.refused != 0 {

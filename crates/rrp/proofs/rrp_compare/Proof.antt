@@ -14,8 +14,14 @@ rrp-compare-spec =
     (λ c. search needs)
     (λ c. compare-refused _ _ _ _ _ (c .before .before .before .compare .ensures) _ _ (c .before .answer .given .1))
     (λ c. search needs)
-    (λ c. let is = c .enum-told .given .1 in compare-given _ _ _ _ _ (c .before .before .compare .ensures) _ _ (ap compareNumber is) (ap compareBetter is))
+    (λ c.
+    let is = c .enum-told .given .1 in
+    compare-given _ _ _ _ _ (c .before .before .compare .ensures) _ _ (ap compareNumber is) (ap compareBetter is))
     (λ c. search needs)
-    (λ c. let is = c .enum-told2 .given .1 in compare-given _ _ _ _ _ (c .before .before .compare .ensures) _ _ (ap compareNumber is) (ap compareBetter is))
+    (λ c.
+    let is = c .enum-told2 .given .1 in
+    compare-given _ _ _ _ _ (c .before .before .compare .ensures) _ _ (ap compareNumber is) (ap compareBetter is))
     (λ c. search needs)
-    (λ c. let is = c .enum-told3 .given .1 in compare-given _ _ _ _ _ (c .before .before .compare .ensures) _ _ (ap compareNumber is) (ap compareBetter is)))
+    (λ c.
+    let is = c .enum-told3 .given .1 in
+    compare-given _ _ _ _ _ (c .before .before .compare .ensures) _ _ (ap compareNumber is) (ap compareBetter is)))

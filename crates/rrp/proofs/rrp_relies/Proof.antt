@@ -15,6 +15,10 @@ rrp-relies-spec =
     (λ c. search needs)
     (λ c. relies-refused _ _ _ _ _ (c .before .before .before .relies .ensures) _ _ (c .before .answer .given .1))
     (λ c. search needs)
-    (λ c. let is = c .enum-told .given .1 in relies-given _ _ _ _ _ (c .before .before .relies .ensures) _ true (ap reliesNumber is) (ap reliesFlag is))
+    (λ c.
+    let is = c .enum-told .given .1 in
+    relies-given _ _ _ _ _ (c .before .before .relies .ensures) _ true (ap reliesNumber is) (ap reliesFlag is))
     (λ c. search needs)
-    (λ c. let is = c .enum-told2 .given .1 in relies-given _ _ _ _ _ (c .before .before .relies .ensures) _ false (ap reliesNumber is) (ap reliesFlag is)))
+    (λ c.
+    let is = c .enum-told2 .given .1 in
+    relies-given _ _ _ _ _ (c .before .before .relies .ensures) _ false (ap reliesNumber is) (ap reliesFlag is)))

@@ -14,7 +14,7 @@ as-byte false = refl
 returns-2 : tie.Need-returns-2
 returns-2 c =
     let run = c .before .before .before .before .before .run in
-    rw (as-byte (run .result .exhausted)) (run-given _ _ _ _ _ (run .result) _ (run .ensures) _ _ _ (c .before .if1 .left))
+    rw (as-byte (run .result .exhausted)) (run-given _ _ _ _ _ (run .result) (run .ensures) _ _ _ (c .before .if1 .left))
 
 pub rrp-run-spec : {M : Type 1} → statement M
 rrp-run-spec =
@@ -22,7 +22,7 @@ rrp-run-spec =
     (tie.spec
     (λ c κs. search needs)
     (λ c. search needs)
-    (λ c. run-refused _ _ _ _ _ _ _ (c .before .before .before .before .run .ensures) _ _ _ (c .if1 .taken))
+    (λ c. run-refused _ _ _ _ _ _ (c .before .before .before .before .run .ensures) _ _ _ (c .if1 .taken))
     (λ c. search needs)
     (λ c. search needs)
     returns-2)

@@ -7,17 +7,21 @@ use Rattle.rrp.proofs.rrp_verdict.Statement.{statement}
 use Rattle.rrp.proofs.rrp_verdict.Tie as tie
 
 returns : tie.Need-returns
-returns c = verdict-refused _ _ _ _ _ _ _ _ _ _ _ (c .before .before .before .before .before .before .before .before .before .before .before .verdict .ensures) _ _ _ (c .before .answer .given .1)
+returns c =
+    let d = c .before .before .before .before .before .before .before .before .before .before .before in
+    verdict-refused _ _ _ _ _ _ _ (d .verdict .ensures) _ _ _ (c .before .answer .given .1)
 
 returns-2 : tie.Need-returns-2
 returns-2 c =
+    let d = c .before .before .before .before .before .before .before .before .before .before .before in
     let is = c .before .answer2 .given .1 in
-    verdict-given _ _ _ _ _ _ _ _ _ _ _ (c .before .before .before .before .before .before .before .before .before .before .before .verdict .ensures) _ _ true _ (ap verdictNumber is) (ap verdictIsStable is) (ap verdictSize is)
+    verdict-given _ _ _ _ _ _ _ (d .verdict .ensures) _ _ true _ (ap verdictNumber is) (ap verdictIsStable is) (ap verdictSize is)
 
 returns-3 : tie.Need-returns-3
 returns-3 c =
+    let d = c .before .before .before .before .before .before .before .before .before .before .before in
     let is = c .before .answer3 .given .1 in
-    verdict-given _ _ _ _ _ _ _ _ _ _ _ (c .before .before .before .before .before .before .before .before .before .before .before .verdict .ensures) _ _ false _ (ap verdictNumber is) (ap verdictIsStable is) (ap verdictSize is)
+    verdict-given _ _ _ _ _ _ _ (d .verdict .ensures) _ _ false _ (ap verdictNumber is) (ap verdictIsStable is) (ap verdictSize is)
 
 pub rrp-verdict-spec : {M : Type 1} → statement M
 rrp-verdict-spec =
