@@ -1,0 +1,57 @@
+-- The results that C sees, worked out from the definitions that the contracts cite.
+use Rattle.base.specs.Below.{allBelow, anyBelow}
+use Rattle.base.specs.Best.{keepBest, best}
+use Rattle.base.specs.Seek.{seek, highest}
+use Rattle.base.specs.Tab.{tab}
+use Rattle.contents.specs.Header.{headerOk, routerCountOk}
+use Rattle.contents.specs.Contents.{kindsOk, placesOk, sizesOk, contentsOk}
+use Rattle.bodies.specs.Routers.{routerOk, routersOk}
+use Rattle.bodies.specs.Sessions.{sessionOk, sessionsOk}
+use Rattle.bodies.specs.Distances.{distanceOk, distanceRowOk, distancesOk}
+use Rattle.bodies.specs.Lists.{listPlace, memberOk, listAtOk, listOk, eachListOk, listsOk}
+use Rattle.plan.specs.Refusal.{refuse, bodyChecks, planChecks, planRefusal}
+use Rattle.network.specs.FromPlan.{pairs, inSession, named}
+use Rattle.routing.specs.Preference.{prefers}
+use Rattle.routing.specs.Reliance.{listedClientOf, bestClient, offer, betterOffer, relies}
+use Rattle.routing.specs.Activation.{reflects, advertises, hears, senderOf, routeTo, choice, choose, entryOk, tableOk}
+use Rattle.routing.specs.Rounds.{acted, roundsFrom, rounds}
+use Rattle.graph.specs.Closure.{closing}
+use Rattle.graph.specs.Groups.{together, label, stable, grouped}
+use Rattle.ranking.specs.Rank.{rankOver, rankRounds, rank}
+use Rattle.cycles.specs.Cycle.{start, next, walk, second, first, lap, cycleIn, cycle}
+use Rattle.settling.specs.Settled.{chooseAll, chosenAfter, settledTable}
+use Rattle.activation.specs.TableBytes.{readRoute, tableOf, tableBytes, activateBytes, runBytes}
+use Rattle.refusals.specs.Refusals.{egressListRefusal, compareRefusal, reliesRefusal, buffersOk, verdictRefusal, tableChecks, sequenceOk, runRefusal}
+use Rattle.checker.specs.Compare.{better}
+use Rattle.checker.specs.Verdict.{isStable, labelsOf, ranksOf, highestOf, settledBytes, cycleOf, sizeOf, labelsAfter, ranksAfter, tableAfter, cycleAfter}
+use Rattle.checker.specs.Run.{runApplied, runRounds, runExhausted, runTable}
+use Rattle.rrp.specs.Examples.{plan, ExportExamples}
+
+pub export-examples : ExportExamples
+unfolding
+    plan egressListRefusal compareRefusal reliesRefusal better
+    isStable labelsOf ranksOf highestOf settledBytes cycleOf sizeOf buffersOk verdictRefusal labelsAfter ranksAfter tableAfter cycleAfter
+    tableChecks sequenceOk runRefusal runApplied runRounds runExhausted runTable
+    readRoute tableOf tableBytes activateBytes runBytes chooseAll chosenAfter settledTable start next walk second first lap cycleIn cycle
+    rankOver rankRounds rank together label stable grouped closing acted roundsFrom rounds
+    reflects advertises hears senderOf routeTo choice choose entryOk tableOk listedClientOf bestClient offer betterOffer relies prefers
+    pairs inSession named refuse bodyChecks planChecks planRefusal
+    headerOk routerCountOk kindsOk placesOk sizesOk contentsOk routerOk routersOk sessionOk sessionsOk distanceOk distanceRowOk distancesOk
+    listPlace memberOk listAtOk listOk eachListOk listsOk allBelow anyBelow keepBest best seek highest tab
+export-examples =
+    record {
+      sized = λ r n m e. (e .number, e .routers-are, e .lists-are);
+      firstList = λ r s c e. (e .number, e .started, e .counted);
+      secondList = λ r s c e. (e .number, e .started, e .counted);
+      firstBetter = λ r b e. (e .number, e .compared);
+      secondBetter = λ r b e. (e .number, e .compared);
+      neitherBetter = λ r b e. (e .number, e .compared);
+      relies = λ r v e. (e .number, e .answered);
+      reliesNot = λ r v e. (e .number, e .answered);
+      suspect = λ r l k t c v s e. (e .numbered, e .judged, e .sized, e .labelled, e .ranked, e .settled, e .cycled);
+      stable = λ r l k t c v s e. (e .numbered, e .judged, e .sized, e .labelled, e .ranked, e .settled, e .cycled);
+      refusedVerdict = λ r l k t c v s e. (e .numbered, e .judged, e .sized, e .labelled, e .ranked, e .settled, e .cycled);
+      limited = λ r t a n x e. (e .numbered, e .bytes, e .acted, e .whole, e .cut);
+      unlimited = λ r t a n x e. (e .numbered, e .bytes, e .acted, e .whole, e .cut);
+      refusedRun = λ r t a n x e. (e .numbered, e .bytes, e .acted, e .whole, e .cut);
+    }

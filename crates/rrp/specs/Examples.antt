@@ -1,0 +1,93 @@
+-- The results that C sees, by example: whatever a call does that satisfies its export has these results, in literal bytes and numbers.
+use Prim.Native.Nat.{ℕ}
+use mathlib.Core.Path.{_≡_}
+use mathlib.Core.List.{List, [], _∷_}
+use Rattle.base.specs.Lent.{Lent}
+use Rattle.rrp.specs.Exports.{SizeExport, ListExport, CompareExport, ReliesExport, VerdictExport, RunExport}
+
+-- Document 01, "Small plans", M3's distances: "Routers 0, 1 reflectors; 2, 3 clients; sessions 0-1, 0-2, 1-3; identifiers 10, 20, 30, 40.
+-- Distances 0 to 2 and 1 to 3 are 10, p is 0 to 3, q is 1 to 2, other off-diagonal ones 30."; "p = q = 6". The lists are 2,3 and 3 and 0.
+unfoldable pub plan : List ℕ
+plan =
+    82 ∷ 82 ∷ 80 ∷ 49 ∷ 4 ∷ 4  -- the letters RRP1, n, the number of contents entries
+    ∷ 1 ∷ 26 ∷ 0 ∷ 20 ∷ 0  -- contents: kind, offset, length of the routers
+    ∷ 2 ∷ 46 ∷ 0 ∷ 6 ∷ 0  -- .. of the sessions
+    ∷ 3 ∷ 52 ∷ 0 ∷ 32 ∷ 0  -- .. of the distances
+    ∷ 4 ∷ 84 ∷ 0 ∷ 8 ∷ 0  -- .. of the lists
+    ∷ 1 ∷ 10 ∷ 0 ∷ 0 ∷ 0  -- router 0: role, identifier
+    ∷ 1 ∷ 20 ∷ 0 ∷ 0 ∷ 0
+    ∷ 2 ∷ 30 ∷ 0 ∷ 0 ∷ 0
+    ∷ 2 ∷ 40 ∷ 0 ∷ 0 ∷ 0
+    ∷ 0 ∷ 1 ∷ 0 ∷ 2 ∷ 1 ∷ 3  -- sessions
+    ∷ 0 ∷ 0 ∷ 30 ∷ 0 ∷ 10 ∷ 0 ∷ 6 ∷ 0  -- distances from 0
+    ∷ 30 ∷ 0 ∷ 0 ∷ 0 ∷ 6 ∷ 0 ∷ 10 ∷ 0
+    ∷ 30 ∷ 0 ∷ 30 ∷ 0 ∷ 0 ∷ 0 ∷ 30 ∷ 0
+    ∷ 30 ∷ 0 ∷ 30 ∷ 0 ∷ 30 ∷ 0 ∷ 0 ∷ 0
+    ∷ 3 ∷ 2 ∷ 2 ∷ 3 ∷ 1 ∷ 3 ∷ 1 ∷ 0  -- m; count and numbers of each list
+    ∷ []
+
+-- a buffer that holds `before` when it is lent and `after` when the call returns
+abbrev pub from : List ℕ → List ℕ → Lent (List ℕ)
+from before after = record { before = before; after = after }
+
+-- the bytes lent: 9 is no router; in the table the listed routers 2 and 3 hold their own routes, the others nothing, and a byte follows it
+abbrev pub five : List ℕ
+five = 9 ∷ 9 ∷ 9 ∷ 9 ∷ 9 ∷ []
+
+abbrev pub nine : List ℕ
+nine = 9 ∷ 9 ∷ 9 ∷ 9 ∷ 9 ∷ 9 ∷ 9 ∷ 9 ∷ 9 ∷ []
+
+abbrev pub fromNothing : List ℕ
+fromNothing = 255 ∷ 255 ∷ 255 ∷ 255 ∷ 2 ∷ 2 ∷ 3 ∷ 3 ∷ 9 ∷ []
+
+abbrev pub sequence : List ℕ
+sequence = 0 ∷ 1 ∷ 2 ∷ 3 ∷ 0 ∷ 1 ∷ 2 ∷ 3 ∷ []
+
+-- r is the number returned
+pub record ExportExamples : Type 0 where
+  -- four routers, three lists
+  pub sized : (r : ℕ) (routers lists : Lent ℕ) → SizeExport plan r routers lists
+      → (r ≡ 0) × (routers .after ≡ 4) × (lists .after ≡ 3)
+  -- list 0 is bytes 86 and 87 of the plan, list 1 byte 89
+  pub firstList : (r : ℕ) (start count : Lent ℕ) → ListExport plan 0 r start count
+      → (r ≡ 0) × (start .after ≡ 86) × (count .after ≡ 2)
+  pub secondList : (r : ℕ) (start count : Lent ℕ) → ListExport plan 1 r start count
+      → (r ≡ 0) × (start .after ≡ 89) × (count .after ≡ 1)
+  -- from router 0 it is 6 to router 3 and 10 to router 2
+  pub firstBetter : (r : ℕ) (better : Lent ℕ) → CompareExport plan 0 3 2 r better → (r ≡ 0) × (better .after ≡ 1)
+  pub secondBetter : (r : ℕ) (better : Lent ℕ) → CompareExport plan 0 2 3 r better → (r ≡ 0) × (better .after ≡ 2)
+  pub neitherBetter : (r : ℕ) (better : Lent ℕ) → CompareExport plan 0 3 3 r better → (r ≡ 0) × (better .after ≡ 0)
+  -- for list 2,3 reflector 0 relies on its client 2, and 2, which is listed, on no one
+  pub relies : (r : ℕ) (relied : Lent ℕ) → ReliesExport plan 0 0 2 r relied → (r ≡ 0) × (relied .after ≡ 1)
+  pub reliesNot : (r : ℕ) (relied : Lent ℕ) → ReliesExport plan 0 2 0 r relied → (r ≡ 0) × (relied .after ≡ 0)
+  -- list 2,3: suspect, a cycle of two routers, 0 and 1
+  pub suspect : (r : ℕ) (labels ranks table cycle : List ℕ) (stable size : Lent ℕ)
+      → VerdictExport plan 0 r (from five labels) (from five ranks) (from nine table) (from five cycle) stable size
+      → (r ≡ 0) × (stable .after ≡ 0) × (size .after ≡ 2)
+      × (labels ≡ 0 ∷ 0 ∷ 2 ∷ 3 ∷ 9 ∷ []) × (ranks ≡ five) × (table ≡ nine) × (cycle ≡ 0 ∷ 1 ∷ 9 ∷ 9 ∷ 9 ∷ [])
+  -- list 3: stable, highest rank 3
+  pub stable : (r : ℕ) (labels ranks table cycle : List ℕ) (stable size : Lent ℕ)
+      → VerdictExport plan 1 r (from five labels) (from five ranks) (from nine table) (from five cycle) stable size
+      → (r ≡ 0) × (stable .after ≡ 1) × (size .after ≡ 3)
+      × (labels ≡ 0 ∷ 1 ∷ 2 ∷ 3 ∷ 9 ∷ []) × (ranks ≡ 2 ∷ 1 ∷ 3 ∷ 0 ∷ 9 ∷ [])
+      × (table ≡ 3 ∷ 1 ∷ 3 ∷ 3 ∷ 3 ∷ 0 ∷ 3 ∷ 3 ∷ 9 ∷ []) × (cycle ≡ five)
+  -- there is no list 3: number 8, and everything is left as it was
+  pub refusedVerdict : (r : ℕ) (labels ranks table cycle : List ℕ) (stable size : Lent ℕ)
+      → VerdictExport plan 3 r (from five labels) (from five ranks) (from nine table) (from five cycle) stable size
+      → (r ≡ 8) × (stable .after ≡ stable .before) × (size .after ≡ size .before)
+      × (labels ≡ five) × (ranks ≡ five) × (table ≡ nine) × (cycle ≡ five)
+  -- six activations of eight: one round ends among them, and the limit cuts the sequence short
+  pub limited : (r : ℕ) (table : List ℕ) (applied rounds exhausted : Lent ℕ)
+      → RunExport plan 0 sequence 6 r (from fromNothing table) applied rounds exhausted
+      → (r ≡ 0) × (table ≡ 2 ∷ 2 ∷ 2 ∷ 0 ∷ 2 ∷ 2 ∷ 3 ∷ 3 ∷ 9 ∷ [])
+      × (applied .after ≡ 6) × (rounds .after ≡ 1) × (exhausted .after ≡ 1)
+  -- a limit above the sequence's length: all eight activations, two rounds
+  pub unlimited : (r : ℕ) (table : List ℕ) (applied rounds exhausted : Lent ℕ)
+      → RunExport plan 0 sequence 9 r (from fromNothing table) applied rounds exhausted
+      → (r ≡ 0) × (table ≡ 2 ∷ 2 ∷ 2 ∷ 0 ∷ 2 ∷ 2 ∷ 3 ∷ 3 ∷ 9 ∷ [])
+      × (applied .after ≡ 8) × (rounds .after ≡ 2) × (exhausted .after ≡ 0)
+  -- for list 3 router 2 holds its own route in that table, which it must not: number 10, and everything is left as it was
+  pub refusedRun : (r : ℕ) (table : List ℕ) (applied rounds exhausted : Lent ℕ)
+      → RunExport plan 1 sequence 6 r (from fromNothing table) applied rounds exhausted
+      → (r ≡ 10) × (table ≡ fromNothing)
+      × (applied .after ≡ applied .before) × (rounds .after ≡ rounds .before) × (exhausted .after ≡ exhausted .before)
