@@ -1,19 +1,19 @@
-/* Prints the verdicts of a plan file: verdicts FILE. */
+/* Prints the verdicts of a plan file: verdicts FILE.
+ * Build, at the root of the repository and after `rt staticlib rrp`:
+ * gcc -O2 -Iinclude examples/verdicts.c -Ltarget/staticlib -lrrp -o target/verdicts */
 #include <stdio.h>
 
 #include "rrp.h"
 
-enum { MOST_PLAN = 16731, MOST_ROUTERS = 64 };
-
 /* One line: the list's number, then "suspect", the cycle's length and the cycle, or "stable" and the highest rank. */
 static void print_verdict(const uint8_t *plan, size_t length, size_t list)
 {
-    uint8_t labels[MOST_ROUTERS], ranks[MOST_ROUTERS], table[2 * MOST_ROUTERS], cycle[MOST_ROUTERS];
+    uint8_t labels[RRP_MAX_ROUTERS], ranks[RRP_MAX_ROUTERS], table[RRP_MAX_TABLE], cycle[RRP_MAX_ROUTERS];
     uint8_t stable;
     uint64_t size;
     uint8_t refused = rrp_verdict(plan, length, list, labels, sizeof labels, ranks, sizeof ranks, table, sizeof table, cycle,
                                   sizeof cycle, &stable, &size);
-    if (refused != 0) {
+    if (refused != RRP_OK) {
         printf("%zu refused %u\n", list, (unsigned)refused);
         return;
     }
@@ -27,7 +27,7 @@ static void print_verdict(const uint8_t *plan, size_t length, size_t list)
 int main(int count, char **words)
 {
     /* one byte more than the longest plan, so that a longer file is refused and not cut */
-    static uint8_t plan[MOST_PLAN + 1];
+    static uint8_t plan[RRP_MAX_PLAN + 1];
     FILE *file = count == 2 ? fopen(words[1], "rb") : NULL;
     if (file == NULL) {
         fprintf(stderr, "usage: verdicts FILE\n");
@@ -36,16 +36,13 @@ int main(int count, char **words)
     size_t length = fread(plan, 1, sizeof plan, file);
     fclose(file);
 
-    uint8_t refused = rrp_check(plan, length);
-    if (refused != 0) {
+    uint64_t routers, lists;
+    uint8_t refused = rrp_size(plan, length, &routers, &lists);
+    if (refused != RRP_OK) {
         printf("refused %u\n", (unsigned)refused);
         return 1;
     }
-    uint64_t start, size;
-    size_t lists = 0;
-    while (rrp_list(plan, length, lists, &start, &size) == 0)
-        lists++;
-    printf("routers %u lists %zu\n", (unsigned)plan[4], lists);
+    printf("routers %llu lists %llu\n", (unsigned long long)routers, (unsigned long long)lists);
     for (size_t list = 0; list < lists; list++)
         print_verdict(plan, length, list);
     return 0;

@@ -1,34 +1,22 @@
 /* Checks BGP route-reflection plans: which routers rely on which for an egress list, whether the plan is stable for that
  * list, and what the routers hold as they are activated one by one.
  *
- * Every call takes a plan's bytes and returns 0, or the number by which it is refused:
+ * Every call takes a plan's bytes and returns a number of enum rrp_refusal: 0 if it is not refused, else the lowest number that
+ * applies. A refused call writes nothing, neither to a buffer nor to a result variable. Otherwise bytes of a buffer beyond those
+ * named below are left as they are.
  *
- *    1  this is no plan: too short (under 26 bytes), too long (over 16,731), or without the letters RRP1 and the count 4
- *    2  the number of routers is 0 or above 64
- *    3  the table of contents is wrong: a kind, an offset or a length
- *    4  the routers are wrong: a role is not 1 or 2, or the identifiers do not rise
- *    5  the sessions are wrong: a number that is no router's, or pairs that are not in order
- *    6  the distances are wrong: 65,535, or a router that is not at distance 0 from itself
- *    7  the egress lists are wrong: their number, a list's count, a number that is no router's, or numbers not in order
- *    8  there is no list or no router of that number (in a sequence of routers too, also past the limit)
- *    9  a buffer is too short
- *   10  the table of held routes is not one for this plan and list
+ * Routers and lists are numbered from 0, in the plan's order; n is the plan's number of routers. A buffer may be longer than
+ * needed: RRP_MAX_ROUTERS bytes are enough for labels, ranks and cycle, and RRP_MAX_TABLE bytes for a table.
  *
- * If several apply, the lowest is returned. A refused call writes nothing, neither to a buffer nor to a result variable.
- * Otherwise bytes of a buffer beyond those named below are left as they are.
- *
- * Routers and lists are numbered from 0, in the plan's order; n is the plan's number of routers, its byte 4. A buffer may be
- * longer than needed: n is at most 64, so 64 bytes are enough for labels, ranks and cycle and 128 for a table.
- *
- * A table of held routes has two bytes a router: the egress router of the route it holds and the neighbour it heard it from;
- * 255 255 is none. A router of the list holds its own route: its number twice. To start from nothing, put those in and
- * 255 255 everywhere else.
+ * A table of held routes has two bytes a router: the egress router of the route that it holds and the neighbour that it has the
+ * route from, or RRP_NONE twice if it holds none. A router of the list holds its own route: its number twice. To start from
+ * nothing, put those in and RRP_NONE everywhere else.
  *
  * Routers are activated one at a time. A round ends as soon as every router has been activated since the last one ended.
  *
  * Pointers are not null, even with a length of 0. The plan, the sequence, the buffers and the result variables of one call do not
- * overlap one another. The library is built for a 64-bit machine: a size_t has 64 bits. It keeps nothing between calls and
- * allocates nothing, so calls may run at once in several threads. */
+ * overlap one another. The library is built for a 64-bit machine. It keeps nothing between calls and allocates nothing, so calls
+ * may run at once in several threads. */
 #ifndef RRP_H
 #define RRP_H
 
@@ -39,39 +27,85 @@
 extern "C" {
 #endif
 
+/* Refuses to compile where a size_t has not 64 bits. */
+typedef char rrp_size_t_has_64_bits[sizeof(size_t) == 8 ? 1 : -1];
+
+/* What a call returns, in the order of the checks. */
+enum rrp_refusal {
+    /* not refused */
+    RRP_OK = 0,
+    /* fewer than 26 or more than 16,731 bytes, or bytes 0 to 3 are not the letters RRP1, or byte 5 is not 4 */
+    RRP_NOT_A_PLAN = 1,
+    /* byte 4, the number of routers, is 0 or above 64 */
+    RRP_BAD_ROUTER_COUNT = 2,
+    /* a kind, an offset or a length in the table of contents is wrong */
+    RRP_BAD_CONTENTS = 3,
+    /* a role is neither 1 nor 2, or the identifiers do not rise strictly */
+    RRP_BAD_ROUTERS = 4,
+    /* a session has a number that is no router's or not its lower number first, or the sessions do not rise strictly */
+    RRP_BAD_SESSIONS = 5,
+    /* a distance is 65,535, or a router's distance to itself is not 0 */
+    RRP_BAD_DISTANCES = 6,
+    /* there are no lists or more than 64; a list is empty, has a number that is no router's or does not rise strictly; or the
+     * lists do not end where the plan ends */
+    RRP_BAD_LISTS = 7,
+    /* a list or a router asked for is not in the plan; a run asks for its whole sequence, also past the limit */
+    RRP_NOT_IN_PLAN = 8,
+    /* a buffer is shorter than the call needs */
+    RRP_SHORT_BUFFER = 9,
+    /* in a table handed over, a router of the list does not hold its own route, or another holds neither RRP_NONE twice nor an
+     * egress below n with a neighbour as sender */
+    RRP_BAD_TABLE = 10
+};
+
+enum {
+    /* the most routers and egress lists that a plan has, and the most bytes */
+    RRP_MAX_ROUTERS = 64,
+    RRP_MAX_LISTS = 64,
+    RRP_MAX_PLAN = 16731,
+    /* the bytes of the largest table */
+    RRP_MAX_TABLE = 128,
+    /* no router, in a table */
+    RRP_NONE = 255
+};
+
 /* Checks a plan. Refusals 1 to 7. */
 uint8_t rrp_check(const uint8_t *plan, size_t plan_len);
+
+/* Gives the size of a plan: *routers is n, and *lists the number of its egress lists. Refusals 1 to 7. */
+uint8_t rrp_size(const uint8_t *plan, size_t plan_len, uint64_t *routers, uint64_t *lists);
 
 /* Finds a list in the plan: the routers of the list are the bytes plan[*start] to plan[*start + *count - 1].
  * Refusals 1 to 8. */
 uint8_t rrp_list(const uint8_t *plan, size_t plan_len, size_t list, uint64_t *start, uint64_t *count);
 
-/* Compares the routes of two egress routers as a router would: *better is 1 if it prefers the first, 2 if it prefers the
- * second, 0 if they are the same router. Refusals 1 to 8. */
+/* Compares two egress routers at a router: *better is 1 if the first is better, 2 if the second is, 0 if they are the same. The
+ * better one is nearer to the router or, if both are as near, has the lower number. Refusals 1 to 8. */
 uint8_t rrp_compare(const uint8_t *plan, size_t plan_len, size_t router, size_t first, size_t second, uint8_t *better);
 
-/* Says whether a router's choice relies on another router for a list: *relies is 1 or 0. Refusals 1 to 8. */
+/* Says whether a router relies on another for a list: *relies is 1 if it does, else 0. Refusals 1 to 8. */
 uint8_t rrp_relies(const uint8_t *plan, size_t plan_len, size_t list, size_t router, size_t other, uint8_t *relies);
 
 /* Gives the verdict of the plan for a list. Needs n bytes of labels, n of ranks, 2n of table and n of cycle, whatever the
- * verdict. labels[v] becomes the lowest router of those that v relies on and that rely on v, however indirectly; v itself
- * if there is no other.
- * Stable: *stable is 1, *size the highest rank, ranks[v] the length of v's longest chain of reliances, and the table the one that
- * every order of activations settles in, after *size + 2 rounds at the latest.
- * Suspect: *stable is 0, *size the number of routers of a cycle of reliances, and cycle[0] to cycle[*size - 1] are those routers,
- * each relying on the next and the last on the first; ranks and table are left as they are.
+ * verdict. labels[v] becomes the lowest router of v's group: v itself and every router that v reaches by reliances and that
+ * reaches v.
+ * Stable, if every group is of one router: *stable is 1, and *size the highest rank. ranks[v] becomes v's rank: 0 if v relies on
+ * no router, else one more than the highest rank of those that it relies on. The table becomes the one that no activation changes;
+ * activations in any order lead to it from every table for this plan and list, within *size + 2 rounds. cycle is left as it is.
+ * Suspect: *stable is 0, and *size the number of routers of a cycle. cycle[0] to cycle[*size - 1] become those routers, each
+ * relying on the next and the last on the first; ranks and table are left as they are.
  * Refusals 1 to 9. */
 uint8_t rrp_verdict(const uint8_t *plan, size_t plan_len, size_t list, uint8_t *labels, size_t labels_len, uint8_t *ranks,
                     size_t ranks_len, uint8_t *table, size_t table_len, uint8_t *cycle, size_t cycle_len, uint8_t *stable,
                     uint64_t *size);
 
-/* Activates one router: it reads what its neighbours announce now and takes the best, in the table's 2n bytes.
- * Refusals 1 to 10. */
+/* Activates one router, in the table's 2n bytes: a router of the list keeps its own route, and any other then holds the best route
+ * that a neighbour announces to it at that moment, or none. No other router's entry changes. Refusals 1 to 10. */
 uint8_t rrp_activate(const uint8_t *plan, size_t plan_len, size_t list, size_t router, uint8_t *table, size_t table_len);
 
 /* Activates the routers of a sequence, one byte each, in order, at most limit of them, in the table's 2n bytes. *applied is the
- * number of activations made, *rounds the number of rounds that ended among them (with two routers, 0 0 1 1 makes one round), and
- * *exhausted 1 if the limit stopped the sequence before its end, else 0. Refusals 1 to 10. */
+ * number of activations made, *rounds the number of rounds that ended among them, counted from the first of them (with two
+ * routers, 0 0 1 1 makes one round), and *exhausted 1 if the sequence is longer than the limit, else 0. Refusals 1 to 10. */
 uint8_t rrp_run(const uint8_t *plan, size_t plan_len, size_t list, const uint8_t *sequence, size_t sequence_len, uint64_t limit,
                 uint8_t *table, size_t table_len, uint64_t *applied, uint64_t *rounds, uint8_t *exhausted);
 

@@ -1,7 +1,8 @@
 #!/usr/bin/env bash
-# Builds the library for C and runs what embeds it: the C example, the second checker held against the library, the program that measures the stack.
+# Builds the library for C and runs what embeds it: the header as C and as C++, the C example, the second checker held against the library, the program
+# that measures the stack.
 # Also holds the plain checker (the yardstick of the bench) and the verdict program against the second checker, and builds the bench.
-# usage: tests/run-embedding.sh [SEED]        (needs rt, gcc and cargo)
+# usage: tests/run-embedding.sh [SEED]        (needs rt, gcc, g++ and cargo)
 set -uo pipefail
 cd "$(dirname "$0")/.."
 seed=${1:-4456}
@@ -79,6 +80,8 @@ second() {
 mkdir -p "$out"
 rm -f "$out/verdicts" "$out/stack"
 try "the library" rt staticlib rrp
+try "the header as C99" gcc -std=c99 -pedantic -Wall -Wextra -Werror -Iinclude -fsyntax-only -x c include/rrp.h
+try "the header as C++" g++ -std=c++11 -pedantic -Wall -Wextra -Werror -Iinclude -fsyntax-only -x c++ include/rrp.h
 try "the C example" gcc -std=c11 -Wall -Wextra -Werror -O2 -Iinclude examples/verdicts.c -L"$archive" -lrrp -o "$out/verdicts"
 try "the C example's verdicts" writes examples/m3.verdicts "$out/verdicts" examples/m3.plan
 try "the C example's refusal" refuses_cut_plan

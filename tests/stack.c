@@ -8,42 +8,48 @@
 #include <ucontext.h>
 #include "rrp.h"
 
-enum { STACK = 1 << 16, PATTERN = 0xa5, NOTHING = 255, LONGEST = 16731, ROUTERS = 64, ACTS = 1000 };
+enum { STACK = 1 << 16, PATTERN = 0xa5, ACTIVATIONS = 1000 };
 
 static unsigned char stack[STACK];
 static ucontext_t caller, callee;
 
 /* One byte more than the longest plan, so that a longer file is refused and not cut. */
-static uint8_t plan[LONGEST + 1];
-static size_t size, router, other;
-static uint8_t labels[ROUTERS], ranks[ROUTERS], settled[2 * ROUTERS], cycle[ROUTERS], table[2 * ROUTERS], acts[ACTS];
+static uint8_t plan[RRP_MAX_PLAN + 1];
+static size_t length, router, other;
+static uint8_t labels[RRP_MAX_ROUTERS], ranks[RRP_MAX_ROUTERS], settled[RRP_MAX_TABLE], cycle[RRP_MAX_ROUTERS];
+static uint8_t table[RRP_MAX_TABLE], sequence[ACTIVATIONS];
 static uint8_t refused, better, relied, stable, exhausted;
-static uint64_t start, count, found, applied, rounds;
+static uint64_t routers, lists, start, count, found, applied, rounds;
 
 static void nothing(void) {}
-static void check(void) { refused = rrp_check(plan, size); }
-static void list(void) { refused = rrp_list(plan, size, 0, &start, &count); }
-static void compare(void) { refused = rrp_compare(plan, size, router, router, other, &better); }
-static void relies(void) { refused = rrp_relies(plan, size, 0, router, other, &relied); }
+static void check(void) { refused = rrp_check(plan, length); }
+static void plan_size(void) { refused = rrp_size(plan, length, &routers, &lists); }
+static void list(void) { refused = rrp_list(plan, length, 0, &start, &count); }
+static void compare(void) { refused = rrp_compare(plan, length, router, router, other, &better); }
+static void relies(void) { refused = rrp_relies(plan, length, 0, router, other, &relied); }
 static void verdict(void)
 {
-    refused = rrp_verdict(plan, size, 0, labels, sizeof labels, ranks, sizeof ranks, settled, sizeof settled, cycle, sizeof cycle, &stable, &found);
+    refused = rrp_verdict(plan, length, 0, labels, sizeof labels, ranks, sizeof ranks, settled, sizeof settled, cycle, sizeof cycle,
+                          &stable, &found);
 }
-static void activate(void) { refused = rrp_activate(plan, size, 0, router, table, sizeof table); }
-static void run(void) { refused = rrp_run(plan, size, 0, acts, ACTS, ACTS, table, sizeof table, &applied, &rounds, &exhausted); }
+static void activate(void) { refused = rrp_activate(plan, length, 0, router, table, sizeof table); }
+static void run(void)
+{
+    refused = rrp_run(plan, length, 0, sequence, ACTIVATIONS, ACTIVATIONS, table, sizeof table, &applied, &rounds, &exhausted);
+}
 
 static const struct {
     const char *name;
     void (*make)(void);
 } calls[] = {
-    { "rrp_check", check },       { "rrp_list", list },         { "rrp_compare", compare }, { "rrp_relies", relies },
-    { "rrp_verdict", verdict },   { "rrp_activate", activate }, { "rrp_run", run },
+    { "rrp_check", check },   { "rrp_size", plan_size },  { "rrp_list", list },         { "rrp_compare", compare },
+    { "rrp_relies", relies }, { "rrp_verdict", verdict }, { "rrp_activate", activate }, { "rrp_run", run },
 };
 
 /* Ends the program if the last call was refused. */
 static void accept(const char *name)
 {
-    if (refused == 0)
+    if (refused == RRP_OK)
         return;
     fprintf(stderr, "stack: %s was refused with %u\n", name, (unsigned)refused);
     exit(1);
@@ -66,7 +72,7 @@ static size_t used(void (*make)(void))
 }
 
 /* The most that a call uses, over all routers, beyond what an empty function uses. */
-static size_t most(const char *name, void (*make)(void), size_t routers)
+static size_t most(const char *name, void (*make)(void))
 {
     size_t highest = 0, none = used(nothing);
     for (router = 0; router < routers; router++) {
@@ -82,7 +88,7 @@ static size_t most(const char *name, void (*make)(void), size_t routers)
 /* The table in which the listed routers hold their own routes and the others nothing. */
 static void start_table(void)
 {
-    memset(table, NOTHING, sizeof table);
+    memset(table, RRP_NONE, sizeof table);
     for (uint64_t at = start; at < start + count; at++)
         table[2 * plan[at]] = table[2 * plan[at] + 1] = plan[at];
 }
@@ -94,23 +100,25 @@ int main(int words, char **word)
         fprintf(stderr, "usage: stack PLAN\n");
         return 2;
     }
-    size = fread(plan, 1, sizeof plan, file);
+    length = fread(plan, 1, sizeof plan, file);
     fclose(file);
 
+    plan_size();
+    accept("rrp_size");
     list();
     accept("rrp_list");
     start_table();
-    size_t routers = plan[4];
-    for (size_t i = 0; i < ACTS; i++)
-        acts[i] = (uint8_t)(i % routers);
+    for (size_t i = 0; i < ACTIVATIONS; i++)
+        sequence[i] = (uint8_t)(i % routers);
     /* Each call once unmeasured: what the program's loader does at a first call is no part of it. */
     for (size_t i = 0; i < sizeof calls / sizeof calls[0]; i++) {
         calls[i].make();
         accept(calls[i].name);
     }
     start_table();
-    printf("%zu bytes, %zu routers, list 0 %s %llu\n", size, routers, stable ? "stable" : "suspect", (unsigned long long)found);
+    printf("%zu bytes, %llu routers, list 0 %s %llu\n", length, (unsigned long long)routers, stable ? "stable" : "suspect",
+           (unsigned long long)found);
     for (size_t i = 0; i < sizeof calls / sizeof calls[0]; i++)
-        printf("%s %zu\n", calls[i].name, most(calls[i].name, calls[i].make, routers));
+        printf("%s %zu\n", calls[i].name, most(calls[i].name, calls[i].make));
     return 0;
 }
