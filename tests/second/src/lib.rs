@@ -1,22 +1,21 @@
-//! A second checker of BGP route-reflection plans, written from the papers
-//! alone, and the means to hold another checker against it.
+//! A second checker of BGP route-reflection plans (`oracle`), what compares
+//! other checkers with it (`harness`), and what times them (`bench`).
 
-pub mod arguments;
-pub mod calls;
-pub mod checker;
-pub mod compare;
-pub mod damage;
-pub mod faults;
+mod bench;
+mod harness;
+mod interface;
 #[cfg(feature = "library")]
-pub mod ffi;
-pub mod generate;
-pub mod plain;
-pub mod plan;
-pub mod random;
-pub mod rules;
-pub mod second;
-pub mod selftest;
-pub mod series;
-pub mod simulate;
-pub mod small_plans;
-pub mod verdict;
+mod library;
+mod oracle;
+
+pub use bench::plain::Plain;
+#[cfg(feature = "library")]
+pub use bench::timing::bench;
+pub use harness::comparison::compare;
+pub use harness::generate::{deepest, largest, numbered};
+pub use harness::random::Random;
+pub use harness::{self_test, small_plans};
+pub use interface::Checker;
+#[cfg(feature = "library")]
+pub use library::Library;
+pub use oracle::verdict_lines;

@@ -1,20 +1,20 @@
-//! Choosing, announcing and reliance (RFC 4271, RFC 4456), said with sets.
+//! Choosing, advertising and reliance (RFC 4271, RFC 4456), said with sets.
 //!
-//! The rules are the default methods of a trait, so that the tests can put a
-//! single wrong rule in place of a right one and see that it is found out.
+//! The rules are the default methods of a trait, so that a single wrong rule
+//! can be put in place of a right one, to see that the comparison finds it.
 
-use crate::plan::{Listed, Plan, Router};
+use super::plan::{Listed, Plan, Router};
 use std::collections::{BTreeMap, BTreeSet};
 
-/// A held route: its egress router, and the router it was heard from.
+/// A route held or received: its egress router, and the neighbour that sent it.
 #[derive(Clone, Copy, Debug, PartialEq, Eq)]
-pub struct Held {
+pub struct Route {
     pub egress: Router,
     pub sender: Router,
 }
 
-/// What the routers hold; a router that holds nothing has no entry.
-pub type Table = BTreeMap<Router, Held>;
+/// What the routers hold; a router that holds no route has no entry.
+pub type Table = BTreeMap<Router, Route>;
 
 /// A plan together with the list asked for.
 #[derive(Clone, Copy)]
@@ -32,7 +32,7 @@ impl Case<'_> {
         self.plan.neighbours[router].iter().copied().filter(|&other| self.plan.is_reflector(other))
     }
 
-    pub fn neighbouring_listed_clients(&self, router: Router) -> impl Iterator<Item = Router> + '_ {
+    fn neighbouring_listed_clients(&self, router: Router) -> impl Iterator<Item = Router> + '_ {
         let listed = self.plan.neighbours[router].intersection(self.listed).copied();
         listed.filter(|&other| !self.plan.is_reflector(other))
     }
@@ -57,8 +57,8 @@ pub trait Rules {
         self.best_client_valued_at(case, reflector, reflector)
     }
 
-    /// What a reflector offers to the reflector `_listener`.
-    fn offer(&self, case: Case, reflector: Router, _listener: Router) -> Option<Router> {
+    /// What a reflector offers to the reflector `_relying`.
+    fn offer(&self, case: Case, reflector: Router, _relying: Router) -> Option<Router> {
         if case.is_listed(reflector) {
             Some(reflector)
         } else {
@@ -77,8 +77,12 @@ pub trait Rules {
         } else if case.plan.is_reflector(router) {
             self.relied_on_by_reflector(case, router)
         } else {
-            case.neighbouring_reflectors(router).chain(case.neighbouring_listed_clients(router)).collect()
+            self.relied_on_by_client(case, router)
         }
+    }
+
+    fn relied_on_by_client(&self, case: Case, router: Router) -> BTreeSet<Router> {
+        case.neighbouring_reflectors(router).chain(case.neighbouring_listed_clients(router)).collect()
     }
 
     fn relied_on_by_reflector(&self, case: Case, router: Router) -> BTreeSet<Router> {
@@ -89,9 +93,9 @@ pub trait Rules {
         offering.chain(own).collect()
     }
 
-    /// The egress router of the route that `from` announces to its neighbour
-    /// `to`, if it announces one to it.
-    fn announced(&self, case: Case, table: &Table, from: Router, to: Router) -> Option<Router> {
+    /// The egress router of the route that `from` advertises to its neighbour
+    /// `to`, if it advertises one to it.
+    fn advertised(&self, case: Case, table: &Table, from: Router, to: Router) -> Option<Router> {
         if case.is_listed(from) {
             return Some(from);
         }
@@ -99,31 +103,32 @@ pub trait Rules {
             return None;
         }
         let held = table.get(&from)?;
-        let told = if case.plan.is_reflector(held.sender) { !case.plan.is_reflector(to) } else { to != held.sender };
-        told.then_some(held.egress)
+        let from_reflector = case.plan.is_reflector(held.sender);
+        let advertises = if from_reflector { !case.plan.is_reflector(to) } else { to != held.sender };
+        advertises.then_some(held.egress)
     }
 
-    /// How a router values a route it hears: the egress router first, then
+    /// How a router values a route it receives: the egress router first, then
     /// the egress router as sender, then the sender with the lowest number.
-    fn value_heard(&self, plan: &Plan, at: Router, heard: Held) -> ((usize, usize), bool, Router) {
-        (self.value(plan, at, heard.egress), heard.sender != heard.egress, heard.sender)
+    fn value_received(&self, plan: &Plan, at: Router, route: Route) -> ((usize, usize), bool, Router) {
+        (self.value(plan, at, route.egress), route.sender != route.egress, route.sender)
     }
 
-    /// What a router holds after it has acted.
-    fn activation(&self, case: Case, table: &Table, router: Router) -> Option<Held> {
+    /// What a router holds after its activation.
+    fn activation(&self, case: Case, table: &Table, router: Router) -> Option<Route> {
         if case.is_listed(router) {
-            return Some(Held { egress: router, sender: router });
+            return Some(Route { egress: router, sender: router });
         }
-        let heard = case.plan.neighbours[router].iter().filter_map(|&sender| {
-            let egress = self.announced(case, table, sender, router)?;
-            Some(Held { egress, sender })
+        let received = case.plan.neighbours[router].iter().filter_map(|&sender| {
+            let egress = self.advertised(case, table, sender, router)?;
+            Some(Route { egress, sender })
         });
-        heard.min_by_key(|&heard| self.value_heard(case.plan, router, heard))
+        received.min_by_key(|&route| self.value_received(case.plan, router, route))
     }
 }
 
-/// The rules as the papers give them.
-#[derive(Clone, Copy, Default)]
+/// The rules as document 01 gives them.
+#[derive(Clone, Copy)]
 pub struct Right;
 
 impl Rules for Right {}

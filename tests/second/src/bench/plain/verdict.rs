@@ -1,8 +1,8 @@
 //! Groups, ranks, settled table and cycle in array code.
 
 use super::reader::{read, PlanView};
-use super::{Matrix, MOST, NOTHING};
-use crate::checker::{Flag, VerdictBuffers, VerdictFields};
+use super::{Matrix, MOST, NONE};
+use crate::interface::{Flag, VerdictBuffers, VerdictFields};
 
 /// Reaching by one or more reliances (Warshall).
 fn closure(n: usize, relies: &Matrix) -> Matrix {
@@ -41,7 +41,7 @@ fn write_stable(plan: &PlanView, listed: &[bool; MOST], relies: &Matrix, lent: V
         lent.ranks[u] = rank(n, relies, &mut known, u);
     }
     for u in 0..n {
-        let own = if listed[u] { u as u8 } else { NOTHING };
+        let own = if listed[u] { u as u8 } else { NONE };
         lent.table[2 * u] = own;
         lent.table[2 * u + 1] = own;
     }

@@ -1,14 +1,13 @@
 //! Series of act and run calls on one table, refused ones among them, until
 //! the rounds make the highest rank plus two; then the table is the verdict's.
 
-use crate::arguments;
-use crate::calls::Outcome;
-use crate::checker::{Answer, Call};
-use crate::compare::{hex, Comparison, Mismatch};
-use crate::plan::{self, Plan};
-use crate::random::Random;
-use crate::rules::Case;
-use crate::simulate::Rounds;
+use super::arguments;
+use super::call::{Answer, Call};
+use super::comparison::{hex, Comparison, Mismatch, Outcome};
+use super::random::Random;
+use crate::oracle::plan::{self, Plan};
+use crate::oracle::rules::Case;
+use crate::oracle::tables::Rounds;
 
 /// How the acts of a series are drawn.
 #[derive(Clone, Copy)]
@@ -35,8 +34,8 @@ struct Series<'a> {
     acts: u64,
 }
 
-/// Holds one series for a list whose verdict is stable.
-pub fn hold(
+/// Compares one series for a list whose verdict is stable.
+pub fn compare(
     comparison: &mut Comparison,
     random: &mut Random,
     bytes: &[u8],
@@ -148,7 +147,7 @@ impl<'a> Series<'a> {
         let answer = comparison.call(self.bytes, call)?;
         self.table.clone_from(&answer.buffers[0]);
         self.acts += acts.len() as u64;
-        acts.iter().for_each(|&router| self.rounds.act(usize::from(router)));
+        acts.iter().for_each(|&router| self.rounds.count(usize::from(router)));
         Ok(())
     }
 

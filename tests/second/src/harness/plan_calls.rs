@@ -1,27 +1,26 @@
-//! The calls made for one plan, sound or damaged.
+//! The calls compared for one plan, sound or damaged.
 
-use crate::arguments;
-use crate::checker::{Answer, Call};
-use crate::compare::{Comparison, Mismatch};
-use crate::plan::{self, Plan};
-use crate::random::Random;
-use crate::rules::Case;
-use crate::series;
-
-pub type Outcome = Result<(), Box<Mismatch>>;
+use super::arguments;
+use super::call::{Answer, Call};
+use super::comparison::{Comparison, Mismatch, Outcome};
+use super::generate;
+use super::random::Random;
+use super::series;
+use crate::oracle::plan::{self, Plan};
+use crate::oracle::rules::Case;
 
 /// All calls for one plan.
-pub fn hold(comparison: &mut Comparison, random: &mut Random, bytes: &[u8]) -> Outcome {
+pub fn compare(comparison: &mut Comparison, random: &mut Random, bytes: &[u8]) -> Outcome {
     comparison.counts.plans += 1;
     comparison.call(bytes, &Call::Check)?;
     match plan::read(bytes) {
-        Ok(plan) => hold_sound(comparison, random, bytes, &plan),
-        Err(_) => hold_refused(comparison, random, bytes),
+        Ok(plan) => sound(comparison, random, bytes, &plan),
+        Err(_) => refused(comparison, random, bytes),
     }
 }
 
 /// Refusals 1 to 7 stand before 8, 9 and 10, whatever else is handed over.
-fn hold_refused(comparison: &mut Comparison, random: &mut Random, bytes: &[u8]) -> Outcome {
+fn refused(comparison: &mut Comparison, random: &mut Random, bytes: &[u8]) -> Outcome {
     for _ in 0..2 {
         for call in loose_calls(random) {
             comparison.call(bytes, &call)?;
@@ -52,24 +51,24 @@ fn loose_calls(random: &mut Random) -> [Call; 6] {
     ]
 }
 
-fn hold_sound(comparison: &mut Comparison, random: &mut Random, bytes: &[u8], plan: &Plan) -> Outcome {
+fn sound(comparison: &mut Comparison, random: &mut Random, bytes: &[u8], plan: &Plan) -> Outcome {
     comparison.counts.sound_plans += 1;
-    hold_comparing(comparison, random, bytes, plan)?;
-    hold_past_the_lists(comparison, random, bytes, plan)?;
-    let verdicts = hold_verdicts(comparison, random, bytes, plan)?;
+    comparisons(comparison, random, bytes, plan)?;
+    past_the_lists(comparison, random, bytes, plan)?;
+    let verdicts = verdicts_of_lists(comparison, random, bytes, plan)?;
     for _ in 0..3 {
         let list = random.below(plan.lists.len());
-        hold_list(comparison, random, bytes, list, plan)?;
+        list_calls(comparison, random, bytes, list, plan)?;
     }
     let stable: Vec<usize> = (0..plan.lists.len()).filter(|&list| verdicts[list].fields[0] == 1).collect();
     if !stable.is_empty() {
         let list = random.pick(&stable);
-        series::hold(comparison, random, bytes, plan, list, &verdicts[list])?;
+        series::compare(comparison, random, bytes, plan, list, &verdicts[list])?;
     }
     Ok(())
 }
 
-fn hold_comparing(comparison: &mut Comparison, random: &mut Random, bytes: &[u8], plan: &Plan) -> Outcome {
+fn comparisons(comparison: &mut Comparison, random: &mut Random, bytes: &[u8], plan: &Plan) -> Outcome {
     for _ in 0..8 {
         let mut number = || random.below(plan.n);
         let (router, first, second) = (number(), number(), number());
@@ -92,7 +91,7 @@ fn hold_comparing(comparison: &mut Comparison, random: &mut Random, bytes: &[u8]
 }
 
 /// List numbers at and past the number of lists, in every call.
-fn hold_past_the_lists(comparison: &mut Comparison, random: &mut Random, bytes: &[u8], plan: &Plan) -> Outcome {
+fn past_the_lists(comparison: &mut Comparison, random: &mut Random, bytes: &[u8], plan: &Plan) -> Outcome {
     let (m, n) = (plan.lists.len(), plan.n);
     for list in [m, m + 1, usize::MAX, arguments::past(random, m)] {
         comparison.call(bytes, &Call::List { list })?;
@@ -115,7 +114,7 @@ fn hold_past_the_lists(comparison: &mut Comparison, random: &mut Random, bytes: 
 }
 
 /// Every list handed back, and its verdict.
-fn hold_verdicts(
+fn verdicts_of_lists(
     comparison: &mut Comparison,
     random: &mut Random,
     bytes: &[u8],
@@ -141,34 +140,28 @@ fn hold_verdicts(
     Ok(verdicts)
 }
 
-fn hold_list(comparison: &mut Comparison, random: &mut Random, bytes: &[u8], list: usize, plan: &Plan) -> Outcome {
+fn list_calls(comparison: &mut Comparison, random: &mut Random, bytes: &[u8], list: usize, plan: &Plan) -> Outcome {
     let case = Case { plan, listed: &plan.lists[list].listed };
-    hold_reliances(comparison, random, bytes, list, plan)?;
+    reliances(comparison, random, bytes, list, plan)?;
     for _ in 0..2 {
         let buffers = arguments::short_verdict_buffers(random, plan.n);
         comparison.call(bytes, &Call::Verdict { list, buffers })?;
     }
-    hold_activations(comparison, random, bytes, list, case)?;
-    hold_runs(comparison, random, bytes, list, case)
+    activations(comparison, random, bytes, list, case)?;
+    runs(comparison, random, bytes, list, case)
 }
 
 /// With few routers, every pair.
-fn hold_all_reliances(comparison: &mut Comparison, bytes: &[u8], list: usize, n: usize) -> Outcome {
+fn all_reliances(comparison: &mut Comparison, bytes: &[u8], list: usize, n: usize) -> Outcome {
     for (router, other) in (0..=n).flat_map(|router| (0..=n).map(move |other| (router, other))) {
         comparison.call(bytes, &Call::Relies { list, router, other })?;
     }
     Ok(())
 }
 
-fn hold_reliances(
-    comparison: &mut Comparison,
-    random: &mut Random,
-    bytes: &[u8],
-    list: usize,
-    plan: &Plan,
-) -> Outcome {
+fn reliances(comparison: &mut Comparison, random: &mut Random, bytes: &[u8], list: usize, plan: &Plan) -> Outcome {
     if plan.n <= 8 {
-        return hold_all_reliances(comparison, bytes, list, plan.n);
+        return all_reliances(comparison, bytes, list, plan.n);
     }
     for _ in 0..12 {
         let router = random.below(plan.n);
@@ -183,13 +176,7 @@ fn hold_reliances(
     comparison.call(bytes, &Call::Relies { list, router, other: router }).map(|_| ())
 }
 
-fn hold_activations(
-    comparison: &mut Comparison,
-    random: &mut Random,
-    bytes: &[u8],
-    list: usize,
-    case: Case,
-) -> Outcome {
+fn activations(comparison: &mut Comparison, random: &mut Random, bytes: &[u8], list: usize, case: Case) -> Outcome {
     let n = case.plan.n;
     let table = arguments::table_buffer(random, case);
     for _ in 0..4 {
@@ -211,7 +198,7 @@ fn hold_activations(
     Ok(())
 }
 
-fn hold_runs(comparison: &mut Comparison, random: &mut Random, bytes: &[u8], list: usize, case: Case) -> Outcome {
+fn runs(comparison: &mut Comparison, random: &mut Random, bytes: &[u8], list: usize, case: Case) -> Outcome {
     let n = case.plan.n;
     for kind in 0..6 {
         let sequence = match kind {
@@ -232,12 +219,13 @@ fn hold_runs(comparison: &mut Comparison, random: &mut Random, bytes: &[u8], lis
 }
 
 /// A run of a great many acts, with more rounds than two bytes can count.
-pub fn hold_long_run(comparison: &mut Comparison, random: &mut Random, bytes: &[u8]) -> Outcome {
-    let Ok(plan) = plan::read(bytes) else { return Ok(()) };
+pub fn long_run(comparison: &mut Comparison, random: &mut Random, n: usize) -> Outcome {
+    let bytes = generate::sound_of(random, n).bytes();
+    let plan = plan::read(&bytes).expect("a sound plan");
     let case = Case { plan: &plan, listed: &plan.lists[0].listed };
     let length = 66_000 * plan.n + random.below(1000);
     let sequence: Vec<u8> = (0..length).map(|place| (place % plan.n) as u8).collect();
     let table = arguments::table_buffer(random, case);
     let limit = random.pick(&[u64::MAX, length as u64, length as u64 - 1]);
-    comparison.call(bytes, &Call::Run { list: 0, sequence, limit, table }).map(|_| ())
+    comparison.call(&bytes, &Call::Run { list: 0, sequence, limit, table }).map(|_| ())
 }

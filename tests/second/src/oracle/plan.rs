@@ -12,7 +12,7 @@ pub const LONGEST_PLAN: usize = 16_731;
 pub const FIRST_BODY: usize = 26;
 pub const MOST_ROUTERS: usize = 64;
 pub const MOST_LISTS: usize = 64;
-pub const NO_DISTANCE: u16 = 65_535;
+const NO_DISTANCE: u16 = 65_535;
 
 /// An egress list, and where in the plan its router numbers start.
 pub struct EgressList {
@@ -32,10 +32,6 @@ pub struct Plan {
 impl Plan {
     pub fn is_reflector(&self, router: Router) -> bool {
         self.reflectors.contains(&router)
-    }
-
-    pub fn are_neighbours(&self, one: Router, other: Router) -> bool {
-        self.neighbours[one].contains(&other)
     }
 
     /// The place of an egress router in the order of preference at `at`: all
@@ -120,8 +116,8 @@ fn read_sessions(body: &[u8], n: usize) -> Result<Vec<BTreeSet<Router>>, u8> {
 fn read_distances(body: &[u8], n: usize) -> Result<Vec<Vec<u16>>, u8> {
     let all: Vec<u16> = body.chunks_exact(2).map(|pair| u16::from(pair[0]) + 256 * u16::from(pair[1])).collect();
     let rows: Vec<Vec<u16>> = all.chunks_exact(n).map(<[u16]>::to_vec).collect();
-    let diagonal_is_nought = rows.iter().enumerate().all(|(router, row)| row[router] == 0);
-    (diagonal_is_nought && !all.contains(&NO_DISTANCE)).then_some(rows).ok_or(6)
+    let diagonal_is_zero = rows.iter().enumerate().all(|(router, row)| row[router] == 0);
+    (diagonal_is_zero && !all.contains(&NO_DISTANCE)).then_some(rows).ok_or(6)
 }
 
 fn read_lists(body: &[u8], body_start: usize, n: usize) -> Result<Vec<EgressList>, u8> {

@@ -1,36 +1,41 @@
 //! Checkers with one fault each, to see that the comparison finds it.
 
-use crate::checker::{Acts, Checker, ListFields, RunFields, VerdictBuffers, VerdictFields};
-use crate::plan::{Plan, Router};
-use crate::rules::{Case, Held, Right, Rules, Table};
-use crate::second::Second;
+use crate::interface::{Acts, Checker, ListFields, RunFields, VerdictBuffers, VerdictFields};
+use crate::oracle::plan::{Plan, Router};
+use crate::oracle::rules::{Case, Right, Route, Rules, Table};
+use crate::oracle::Oracle;
+use std::collections::BTreeSet;
 
 /// A rule misread.
 #[derive(Clone, Copy, Debug, PartialEq, Eq)]
 pub enum Misreading {
     ScaledDistances,
+    DistanceByItsLowByte,
     HigherNumberWinsTie,
     TieIsNoReliance,
-    ListenerJudgesBestClient,
-    ReflectorTellsThirdHand,
+    RelyingOneJudgesBestClient,
+    ReflectorRelaysFromReflector,
     SharedClientOutdoesItself,
     ListedReflectorOffersClient,
-    ClientHearsItsRouteBack,
-    UnlistedClientAnnounces,
+    ClientReliesOnReflectorsAlone,
+    RouteSentBackToItsClient,
+    UnlistedClientAdvertises,
     LowestSenderBeforeEgress,
     HighestSender,
 }
 
-pub const MISREADINGS: [Misreading; 11] = [
+pub const MISREADINGS: [Misreading; 13] = [
     Misreading::ScaledDistances,
+    Misreading::DistanceByItsLowByte,
     Misreading::HigherNumberWinsTie,
     Misreading::TieIsNoReliance,
-    Misreading::ListenerJudgesBestClient,
-    Misreading::ReflectorTellsThirdHand,
+    Misreading::RelyingOneJudgesBestClient,
+    Misreading::ReflectorRelaysFromReflector,
     Misreading::SharedClientOutdoesItself,
     Misreading::ListedReflectorOffersClient,
-    Misreading::ClientHearsItsRouteBack,
-    Misreading::UnlistedClientAnnounces,
+    Misreading::ClientReliesOnReflectorsAlone,
+    Misreading::RouteSentBackToItsClient,
+    Misreading::UnlistedClientAdvertises,
     Misreading::LowestSenderBeforeEgress,
     Misreading::HighestSender,
 ];
@@ -48,18 +53,19 @@ impl Rules for Misread {
         let distance = usize::from(plan.distances[at][egress]);
         match self.0 {
             Misreading::ScaledDistances => (distance / 10, egress),
+            Misreading::DistanceByItsLowByte => (distance % 256, egress),
             Misreading::HigherNumberWinsTie => (distance, plan.n - egress),
             _ => Right.value(plan, at, egress),
         }
     }
 
-    fn offer(&self, case: Case, reflector: Router, listener: Router) -> Option<Router> {
+    fn offer(&self, case: Case, reflector: Router, relying: Router) -> Option<Router> {
         match self.0 {
-            Misreading::ListenerJudgesBestClient if !case.is_listed(reflector) => {
-                self.best_client_valued_at(case, reflector, listener)
+            Misreading::RelyingOneJudgesBestClient if !case.is_listed(reflector) => {
+                self.best_client_valued_at(case, reflector, relying)
             }
             Misreading::ListedReflectorOffersClient => self.best_client(case, reflector),
-            _ => Right.offer(case, reflector, listener),
+            _ => Right.offer(case, reflector, relying),
         }
     }
 
@@ -71,27 +77,35 @@ impl Rules for Misread {
         }
     }
 
-    fn announced(&self, case: Case, table: &Table, from: Router, to: Router) -> Option<Router> {
+    fn relied_on_by_client(&self, case: Case, router: Router) -> BTreeSet<Router> {
+        let mut relied_on = Right.relied_on_by_client(case, router);
+        if self.is(Misreading::ClientReliesOnReflectorsAlone) {
+            relied_on.retain(|&other| case.plan.is_reflector(other));
+        }
+        relied_on
+    }
+
+    fn advertised(&self, case: Case, table: &Table, from: Router, to: Router) -> Option<Router> {
         let plan = case.plan;
         let held = table.get(&from).filter(|held| held.sender != from);
         let unlisted_reflector = plan.is_reflector(from) && !case.is_listed(from);
         let silent_client = !plan.is_reflector(from) && !case.is_listed(from);
-        let third_hand = self.is(Misreading::ReflectorTellsThirdHand) && unlisted_reflector;
-        let back = self.is(Misreading::ClientHearsItsRouteBack) && unlisted_reflector;
+        let relays = self.is(Misreading::ReflectorRelaysFromReflector) && unlisted_reflector;
+        let back = self.is(Misreading::RouteSentBackToItsClient) && unlisted_reflector;
         match held {
-            Some(held) if third_hand && plan.is_reflector(held.sender) => Some(held.egress),
+            Some(held) if relays && plan.is_reflector(held.sender) => Some(held.egress),
             Some(held) if back && held.sender == to => Some(held.egress),
-            Some(held) if self.is(Misreading::UnlistedClientAnnounces) && silent_client => Some(held.egress),
-            _ => Right.announced(case, table, from, to),
+            Some(held) if self.is(Misreading::UnlistedClientAdvertises) && silent_client => Some(held.egress),
+            _ => Right.advertised(case, table, from, to),
         }
     }
 
-    fn value_heard(&self, plan: &Plan, at: Router, heard: Held) -> ((usize, usize), bool, Router) {
-        let value = self.value(plan, at, heard.egress);
+    fn value_received(&self, plan: &Plan, at: Router, route: Route) -> ((usize, usize), bool, Router) {
+        let value = self.value(plan, at, route.egress);
         match self.0 {
-            Misreading::LowestSenderBeforeEgress => (value, false, heard.sender),
-            Misreading::HighestSender => (value, heard.sender != heard.egress, plan.n - heard.sender),
-            _ => (value, heard.sender != heard.egress, heard.sender),
+            Misreading::LowestSenderBeforeEgress => (value, false, route.sender),
+            Misreading::HighestSender => (value, route.sender != route.egress, plan.n - route.sender),
+            _ => (value, route.sender != route.egress, route.sender),
         }
     }
 }
@@ -102,12 +116,14 @@ pub enum Slip {
     FirstActOnly,
     ActLeavesTable,
     ExhaustedAtTheLimit,
+    ExhaustedNever,
     RoundsByDivision,
     SequenceCheckedToTheLimit,
-    RefusalBeforeTen,
+    TenBeforeNine,
     ListCutToAByte,
     LimitCutToAWord,
     FieldsClearedOnRefusal,
+    FirstAndSecondExchanged,
     ByteAfterTheTable,
     ByteAfterTheCycle,
     FlagWrittenAsAWord,
@@ -115,16 +131,18 @@ pub enum Slip {
     LongPlanAccepted,
 }
 
-pub const SLIPS: [Slip; 14] = [
+pub const SLIPS: [Slip; 16] = [
     Slip::FirstActOnly,
     Slip::ActLeavesTable,
     Slip::ExhaustedAtTheLimit,
+    Slip::ExhaustedNever,
     Slip::RoundsByDivision,
     Slip::SequenceCheckedToTheLimit,
-    Slip::RefusalBeforeTen,
+    Slip::TenBeforeNine,
     Slip::ListCutToAByte,
     Slip::LimitCutToAWord,
     Slip::FieldsClearedOnRefusal,
+    Slip::FirstAndSecondExchanged,
     Slip::ByteAfterTheTable,
     Slip::ByteAfterTheCycle,
     Slip::FlagWrittenAsAWord,
@@ -134,12 +152,12 @@ pub const SLIPS: [Slip; 14] = [
 
 pub struct Careless {
     slip: Slip,
-    inner: Second<Right>,
+    inner: Oracle<Right>,
 }
 
 impl Careless {
     pub fn new(slip: Slip) -> Self {
-        Careless { slip, inner: Second::right() }
+        Careless { slip, inner: Oracle::right() }
     }
 
     fn is(&self, slip: Slip) -> bool {
@@ -161,6 +179,7 @@ impl Checker for Careless {
     }
 
     fn compare(&mut self, plan: &[u8], router: usize, pair: (usize, usize), better: &mut u8) -> u8 {
+        let pair = if self.is(Slip::FirstAndSecondExchanged) { (pair.1, pair.0) } else { pair };
         let refusal = self.inner.compare(plan, router, pair, better);
         if self.is(Slip::FieldsClearedOnRefusal) && refusal != 0 {
             *better = 0;
@@ -198,7 +217,7 @@ impl Checker for Careless {
         if refusal == 0 && self.is(Slip::ByteAfterTheTable) && table.len() > 2 * usize::from(plan[4]) {
             table[2 * usize::from(plan[4])] = 0;
         }
-        if refusal == 9 && self.is(Slip::RefusalBeforeTen) {
+        if refusal == 9 && self.is(Slip::TenBeforeNine) {
             return 10;
         }
         refusal
@@ -221,6 +240,7 @@ impl Checker for Careless {
         }
         match self.slip {
             Slip::ExhaustedAtTheLimit => fields.exhausted.value = u8::from(length >= acts.limit),
+            Slip::ExhaustedNever => fields.exhausted.value = 0,
             Slip::RoundsByDivision => fields.rounds = fields.applied / u64::from(plan[4]),
             _ => (),
         }

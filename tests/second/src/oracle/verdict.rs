@@ -1,9 +1,9 @@
 //! Groups by depth-first search (Tarjan), ranks by taking away layer after
-//! layer, the settled table by simulation, the cycle by a walk.
+//! layer, the settled table by activations, the cycle by a walk.
 
-use crate::plan::Router;
-use crate::rules::{Case, Rules, Table};
-use crate::simulate;
+use super::plan::Router;
+use super::rules::{Case, Rules, Table};
+use super::tables;
 use std::collections::{BTreeMap, BTreeSet};
 
 /// For each router the routers it relies on.
@@ -32,7 +32,7 @@ pub fn verdict(rules: &impl Rules, case: Case) -> Verdict {
     let shared = groups.iter().filter(|group| group.len() > 1).min_by_key(|group| group.first().copied());
     let outcome = match shared {
         Some(group) => Outcome::Suspect { cycle: cycle(&reliances, group) },
-        None => Outcome::Stable { ranks: ranks(&reliances), table: simulate::settle(rules, case) },
+        None => Outcome::Stable { ranks: ranks(&reliances), table: tables::settle(rules, case) },
     };
     Verdict { labels, outcome }
 }
@@ -78,7 +78,7 @@ impl Search<'_> {
     }
 }
 
-pub fn groups(reliances: &Reliances) -> Vec<BTreeSet<Router>> {
+fn groups(reliances: &Reliances) -> Vec<BTreeSet<Router>> {
     let mut search =
         Search { reliances, met: BTreeMap::new(), lowest: BTreeMap::new(), open: Vec::new(), groups: Vec::new() };
     for &router in reliances.keys() {
@@ -99,7 +99,7 @@ fn labels(groups: &[BTreeSet<Router>]) -> Vec<Router> {
 
 /// The rank of a router is the number of the layer it is taken away with: a
 /// layer is all those that rely on none but routers taken away before.
-pub fn ranks(reliances: &Reliances) -> Ranks {
+fn ranks(reliances: &Reliances) -> Ranks {
     let mut ranks = Ranks::new();
     for rank in 0.. {
         let layer: Vec<Router> = reliances
@@ -115,6 +115,10 @@ pub fn ranks(reliances: &Reliances) -> Ranks {
         ranks.extend(layer.into_iter().map(|router| (router, rank)));
     }
     ranks
+}
+
+pub fn highest(ranks: &Ranks) -> u64 {
+    ranks.values().copied().max().unwrap_or(0) as u64
 }
 
 /// The walk from the group's lowest router, always to the lowest one relied

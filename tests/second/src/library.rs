@@ -1,6 +1,6 @@
 //! The proved library, linked as a static C library.
 
-use crate::checker::{Acts, Checker, ListFields, RunFields, VerdictBuffers, VerdictFields};
+use crate::interface::{Acts, Checker, ListFields, RunFields, VerdictBuffers, VerdictFields};
 
 extern "C" {
     fn rrp_check(plan: *const u8, plan_len: usize) -> u8;
@@ -64,7 +64,7 @@ pub struct Library;
 
 impl Checker for Library {
     fn check(&mut self, plan: &[u8]) -> u8 {
-        // SAFETY: the pointer and length are those of one slice.
+        // SAFETY: pointer and length are those of one slice.
         unsafe { rrp_check(plan.as_ptr(), plan.len()) }
     }
 

@@ -1,81 +1,10 @@
-//! The calls of the C interface, said with slices, and a way to make one call
-//! on any checker and keep all that it answers and all that it leaves.
+//! Makes one call on any checker and keeps all that it answers and all that it
+//! leaves: results, buffers, and the bytes around them.
 
-/// The four buffers of the verdict call.
-pub struct VerdictBuffers<'a> {
-    pub labels: &'a mut [u8],
-    pub ranks: &'a mut [u8],
-    pub table: &'a mut [u8],
-    pub cycle: &'a mut [u8],
-}
-
-/// A result variable of one byte between known bytes, so that a write wider
-/// than a byte is seen.
-#[derive(Clone, Copy)]
-#[repr(C)]
-pub struct Flag {
-    before: [u8; 8],
-    pub value: u8,
-    pub after: [u8; 15],
-}
-
-impl Flag {
-    pub fn new(value: u8) -> Self {
-        Flag { before: [0xA5; 8], value, after: [0x5A; 15] }
-    }
-
-    fn is_whole(&self) -> bool {
-        self.before == [0xA5; 8] && self.after == [0x5A; 15]
-    }
-}
-
-#[derive(Clone, Copy)]
-pub struct ListFields {
-    pub start: u64,
-    pub count: u64,
-}
-
-#[derive(Clone, Copy)]
-pub struct VerdictFields {
-    pub stable: Flag,
-    pub size: u64,
-}
-
-#[derive(Clone, Copy)]
-pub struct RunFields {
-    pub applied: u64,
-    pub rounds: u64,
-    pub exhausted: Flag,
-}
-
-/// Each call returns its refusal number, 0 for none. A refused call leaves
-/// its buffers and its result fields as they were.
-pub trait Checker {
-    fn check(&mut self, plan: &[u8]) -> u8;
-
-    fn list(&mut self, plan: &[u8], list: usize, fields: &mut ListFields) -> u8;
-
-    /// `better` becomes 0 if both are the same, 1 for the first, 2 for the second.
-    fn compare(&mut self, plan: &[u8], router: usize, pair: (usize, usize), better: &mut u8) -> u8;
-
-    fn relies(&mut self, plan: &[u8], list: usize, pair: (usize, usize), relies: &mut u8) -> u8;
-
-    fn verdict(&mut self, plan: &[u8], list: usize, lent: VerdictBuffers, fields: &mut VerdictFields) -> u8;
-
-    fn activate(&mut self, plan: &[u8], list: usize, router: usize, table: &mut [u8]) -> u8;
-
-    fn run(&mut self, plan: &[u8], list: usize, acts: Acts, table: &mut [u8], fields: &mut RunFields) -> u8;
-}
-
-/// The acts handed to a run: the sequence, and how many at most.
-#[derive(Clone, Copy)]
-pub struct Acts<'a> {
-    pub sequence: &'a [u8],
-    pub limit: u64,
-}
+use crate::interface::{Acts, Checker, Flag, ListFields, RunFields, VerdictBuffers, VerdictFields};
 
 /// One call, with the content of its buffers before it.
-#[derive(Clone, Debug)]
+#[derive(Debug)]
 pub enum Call {
     Check,
     List {
@@ -110,7 +39,7 @@ pub enum Call {
 }
 
 /// All that a call answered and left.
-#[derive(Clone, Debug, PartialEq, Eq)]
+#[derive(Debug, PartialEq)]
 pub struct Answer {
     pub refusal: u8,
     /// The result fields in the order of the interface.

@@ -1,21 +1,22 @@
 //! Damaged plans: aimed at one refusal number, or at random.
 
-use crate::generate::{Bodies, Draft};
-use crate::plan::{FIRST_BODY, LONGEST_PLAN};
-use crate::random::Random;
+use super::draft::{Bodies, Draft};
+use super::random::Random;
+use crate::oracle::plan::{FIRST_BODY, LONGEST_PLAN};
 
 /// A plan whose damage is aimed at the given refusal number, 1 to 7.
 pub fn aimed(random: &mut Random, draft: &Draft, refusal: u8) -> Vec<u8> {
-    let bodies = draft.bodies();
+    let mut bodies = draft.bodies();
     match refusal {
-        1 => letters(random, bodies.bytes()),
-        2 => router_count(random, bodies.bytes()),
-        3 => contents(random, bodies),
-        4 => routers(random, bodies),
-        5 => sessions(random, bodies),
-        6 => distances(random, bodies),
-        _ => lists(random, bodies),
+        1 => return letters(random, bodies.bytes()),
+        2 => return router_count(random, bodies.bytes()),
+        3 => return contents(random, bodies),
+        4 => routers(random, &mut bodies),
+        5 => sessions(random, &mut bodies),
+        6 => distances(random, &mut bodies),
+        _ => lists(random, &mut bodies),
     }
+    bodies.bytes()
 }
 
 /// Damage of any kind, at times none that counts.
@@ -78,10 +79,10 @@ fn two_at_once(random: &mut Random, draft: &Draft) -> Vec<u8> {
 
 fn damage_body(random: &mut Random, bodies: &mut Bodies) {
     match random.below(4) {
-        0 => routers_body(random, bodies),
-        1 => sessions_body(random, bodies),
-        2 => distances_body(random, bodies),
-        _ => lists_body(random, bodies),
+        0 => routers(random, bodies),
+        1 => sessions(random, bodies),
+        2 => distances(random, bodies),
+        _ => lists(random, bodies),
     }
 }
 
@@ -107,11 +108,11 @@ fn router_count(random: &mut Random, mut plan: Vec<u8>) -> Vec<u8> {
 fn contents(random: &mut Random, mut bodies: Bodies) -> Vec<u8> {
     match random.below(9) {
         8 => return wrapped_contents(random, bodies.bytes()),
-        0 => _ = bodies.bodies[0].pop(),
-        1 => bodies.bodies[0].push(0),
-        2 => bodies.bodies[1].push(0),
-        3 => _ = bodies.bodies[2].pop(),
-        4 => bodies.bodies[2].extend([0, 0]),
+        0 => _ = bodies.routers.pop(),
+        1 => bodies.routers.push(0),
+        2 => bodies.sessions.push(0),
+        3 => _ = bodies.distances.pop(),
+        4 => bodies.distances.extend([0, 0]),
         _ => return contents_entry(random, bodies.bytes()),
     }
     bodies.bytes()
@@ -148,14 +149,9 @@ fn contents_entry(random: &mut Random, mut plan: Vec<u8>) -> Vec<u8> {
     plan
 }
 
-fn routers(random: &mut Random, mut bodies: Bodies) -> Vec<u8> {
-    routers_body(random, &mut bodies);
-    bodies.bytes()
-}
-
-fn routers_body(random: &mut Random, bodies: &mut Bodies) {
+fn routers(random: &mut Random, bodies: &mut Bodies) {
     let n = usize::from(bodies.n);
-    let routers = &mut bodies.bodies[0];
+    let routers = &mut bodies.routers;
     if n == 1 || random.chance(50) {
         routers[5 * random.below(n)] = random.pick(&[0, 3, 4, 129, 130, 255]);
         return;
@@ -169,14 +165,9 @@ fn routers_body(random: &mut Random, bodies: &mut Bodies) {
     }
 }
 
-fn sessions(random: &mut Random, mut bodies: Bodies) -> Vec<u8> {
-    sessions_body(random, &mut bodies);
-    bodies.bytes()
-}
-
-fn sessions_body(random: &mut Random, bodies: &mut Bodies) {
+fn sessions(random: &mut Random, bodies: &mut Bodies) {
     let n = bodies.n;
-    let sessions = &mut bodies.bodies[1];
+    let sessions = &mut bodies.sessions;
     let pair = 2 * random.below((sessions.len() / 2).max(1));
     if sessions.is_empty() {
         sessions.extend([0, 0]);
@@ -203,19 +194,13 @@ fn sessions_body(random: &mut Random, bodies: &mut Bodies) {
 
 /// Keeps a grown plan within the longest length, so that the damage shows.
 fn trim_to_longest(bodies: &mut Bodies) {
-    while bodies.bodies.iter().map(Vec::len).sum::<usize>() + FIRST_BODY > LONGEST_PLAN {
-        bodies.bodies[3].pop();
-    }
+    let excess = bodies.bytes().len().saturating_sub(LONGEST_PLAN);
+    bodies.lists.truncate(bodies.lists.len() - excess);
 }
 
-fn distances(random: &mut Random, mut bodies: Bodies) -> Vec<u8> {
-    distances_body(random, &mut bodies);
-    bodies.bytes()
-}
-
-fn distances_body(random: &mut Random, bodies: &mut Bodies) {
+fn distances(random: &mut Random, bodies: &mut Bodies) {
     let n = usize::from(bodies.n);
-    let distances = &mut bodies.bodies[2];
+    let distances = &mut bodies.distances;
     if random.chance(50) {
         let at = 2 * random.below(n * n);
         distances[at..at + 2].fill(255);
@@ -225,14 +210,9 @@ fn distances_body(random: &mut Random, bodies: &mut Bodies) {
     }
 }
 
-fn lists(random: &mut Random, mut bodies: Bodies) -> Vec<u8> {
-    lists_body(random, &mut bodies);
-    bodies.bytes()
-}
-
-fn lists_body(random: &mut Random, bodies: &mut Bodies) {
+fn lists(random: &mut Random, bodies: &mut Bodies) {
     let n = bodies.n;
-    let lists = &mut bodies.bodies[3];
+    let lists = &mut bodies.lists;
     if lists.len() < 3 {
         return lists.clear();
     }

@@ -1,75 +1,42 @@
-//! Random plans of several shapes.
+//! Plans, sound and damaged: random ones of several shapes, the largest and
+//! the deepest.
 
-use crate::plan::{Router, FIRST_BODY, LONGEST_PLAN, MOST_LISTS, MOST_ROUTERS};
-use crate::random::Random;
+use super::damage;
+use super::draft::Draft;
+use super::random::Random;
+use crate::oracle::plan::{Router, MOST_LISTS, MOST_ROUTERS};
 use std::collections::BTreeSet;
 
-/// A plan before it becomes bytes.
-#[derive(Clone)]
-pub struct Draft {
-    pub reflector: Vec<bool>,
-    pub identifiers: Vec<u32>,
-    pub sessions: BTreeSet<(Router, Router)>,
-    pub distances: Vec<Vec<u16>>,
-    pub lists: Vec<BTreeSet<Router>>,
-}
-
-/// The four bodies of a plan and its router count.
-#[derive(Clone)]
-pub struct Bodies {
-    pub n: u8,
-    pub bodies: [Vec<u8>; 4],
-}
-
-impl Draft {
-    pub fn bodies(&self) -> Bodies {
-        let role = |&reflector: &bool| if reflector { 1 } else { 2 };
-        let routers = self.reflector.iter().zip(&self.identifiers);
-        let lists = self
-            .lists
-            .iter()
-            .flat_map(|list| [list.len() as u8].into_iter().chain(list.iter().map(|&router| router as u8)));
-        Bodies {
-            n: self.reflector.len() as u8,
-            bodies: [
-                routers
-                    .flat_map(|(reflector, id)| [vec![role(reflector)], id.to_le_bytes().to_vec()].concat())
-                    .collect(),
-                self.sessions.iter().flat_map(|&(one, other)| [one as u8, other as u8]).collect(),
-                self.distances.iter().flatten().flat_map(|distance| distance.to_le_bytes()).collect(),
-                [self.lists.len() as u8].into_iter().chain(lists).collect(),
-            ],
+/// The plan of the given number, and the source of what is drawn for it next.
+/// Both depend on the seed and the number alone. Number 0 is the largest plan, 1
+/// the deepest; of ten others eight are sound, one is aimed at a refusal and one
+/// damaged anyhow.
+pub fn numbered(seed: u64, number: u64) -> (Vec<u8>, Random) {
+    let mut random = Random::new(seed ^ number.wrapping_mul(0xD6E8_FEB8_6659_FD93));
+    let draft = match number {
+        0 => largest(&mut random),
+        1 => deepest(),
+        _ => sound(&mut random),
+    };
+    let bytes = match number % 10 {
+        7 => {
+            let refusal = random.between(1, 7) as u8;
+            damage::aimed(&mut random, &draft, refusal)
         }
-    }
-
-    pub fn bytes(&self) -> Vec<u8> {
-        self.bodies().bytes()
-    }
-}
-
-impl Bodies {
-    pub fn bytes(&self) -> Vec<u8> {
-        let mut plan = [b"RRP1".as_slice(), &[self.n, 4]].concat();
-        let mut offset = FIRST_BODY;
-        for (kind, body) in (1u8..).zip(&self.bodies) {
-            plan.push(kind);
-            plan.extend((offset as u16).to_le_bytes());
-            plan.extend((body.len() as u16).to_le_bytes());
-            offset += body.len();
-        }
-        plan.extend(self.bodies.concat());
-        plan
-    }
+        8 => damage::any(&mut random, &draft),
+        _ => draft.bytes(),
+    };
+    (bytes, random)
 }
 
 /// A random sound plan.
-pub fn draft(random: &mut Random) -> Draft {
+pub fn sound(random: &mut Random) -> Draft {
     let n = router_count(random);
-    draft_of(random, n)
+    sound_of(random, n)
 }
 
 /// A random sound plan with `n` routers.
-pub fn draft_of(random: &mut Random, n: usize) -> Draft {
+pub fn sound_of(random: &mut Random, n: usize) -> Draft {
     let topology = topology(random, n);
     let distances = distances(random, &topology);
     let (reflector, sessions) = topology;
@@ -84,9 +51,7 @@ pub fn largest(random: &mut Random) -> Draft {
     let distances = distances(random, &topology);
     let (reflector, sessions) = topology;
     let lists = vec![(0..n).collect(); MOST_LISTS];
-    let draft = Draft { identifiers: identifiers(random, n), reflector, sessions, distances, lists };
-    debug_assert_eq!(draft.bytes().len(), LONGEST_PLAN);
-    draft
+    Draft { identifiers: identifiers(random, n), reflector, sessions, distances, lists }
 }
 
 /// A plan whose highest rank is 61, the highest that any plan can have, with
@@ -149,7 +114,8 @@ fn identifiers(random: &mut Random, n: usize) -> Vec<u32> {
     chosen.into_iter().collect()
 }
 
-fn all_pairs(n: usize) -> impl Iterator<Item = (Router, Router)> {
+/// All pairs of routers below n, the lower one first.
+pub fn all_pairs(n: usize) -> impl Iterator<Item = (Router, Router)> {
     (0..n).flat_map(move |one| (one + 1..n).map(move |other| (one, other)))
 }
 

@@ -1,9 +1,9 @@
 //! Arguments for the calls: numbers at and past their bounds, buffers too
-//! short, exact and longer, held-route tables sound and broken, sequences.
+//! short, exact and longer, routing tables sound and broken, sequences.
 
-use crate::random::Random;
-use crate::rules::Case;
-use crate::simulate::NOTHING;
+use super::random::Random;
+use crate::oracle::rules::Case;
+use crate::oracle::tables::NONE;
 
 /// A number at or past its bound (which is at most 64), of many sizes; some
 /// come out small if cut to fewer bits.
@@ -63,16 +63,16 @@ pub fn short_verdict_buffers(random: &mut Random, n: usize) -> [Vec<u8>; 4] {
     }
 }
 
-/// A held-route table: the listed routers hold their own route, each other
-/// one nothing or any left-over route from any neighbour.
-pub fn held_table(random: &mut Random, case: Case) -> Vec<u8> {
+/// A routing table: the listed routers hold their own route, each other one
+/// none or any left-over route from any neighbour.
+pub fn table(random: &mut Random, case: Case) -> Vec<u8> {
     let empty = random.pick(&[0, 20, 50, 100]);
     let entry = |router: usize| {
         let neighbours: Vec<usize> = case.plan.neighbours[router].iter().copied().collect();
         if case.is_listed(router) {
             [router as u8, router as u8]
         } else if neighbours.is_empty() || random.chance(empty) {
-            [NOTHING, NOTHING]
+            [NONE, NONE]
         } else {
             [random.below(case.plan.n) as u8, random.pick(&neighbours) as u8]
         }
@@ -80,9 +80,9 @@ pub fn held_table(random: &mut Random, case: Case) -> Vec<u8> {
     (0..case.plan.n).flat_map(entry).collect()
 }
 
-/// A held-route table with bytes after it that are no part of it.
+/// A routing table with bytes after it that are no part of it.
 pub fn table_buffer(random: &mut Random, case: Case) -> Vec<u8> {
-    let mut table = held_table(random, case);
+    let mut table = table(random, case);
     let more = random.pick(&[0, 0, 1, 2, 9]);
     table.extend(random.bytes(more));
     table
@@ -95,26 +95,22 @@ pub fn broken_table(random: &mut Random, case: Case) -> Vec<u8> {
     if random.chance(10) {
         return random.bytes(table.len());
     }
-    let router = random.pick(&[random_router(n, 0), n - 1, random_router(n, 1)]);
+    let anywhere = random.below(n);
+    let router = random.pick(&[0, n - 1, anywhere]);
     let any = random.below(n) as u8;
     let strange = random.pick(&[n as u8, 64, 128, 254]);
     let entry = &mut table[2 * router..2 * router + 2];
     match random.below(8) {
-        0 => entry[0] = NOTHING,
-        1 => entry[1] = NOTHING,
+        0 => entry[0] = NONE,
+        1 => entry[1] = NONE,
         2 => entry[0] = strange,
         3 => entry[1] = strange,
         4 => entry[1] = router as u8,
         5 => entry[1] = any,
-        6 => entry.fill(NOTHING),
+        6 => entry.fill(NONE),
         _ => entry.fill(any),
     }
     table
-}
-
-/// The first router, or the middle one.
-fn random_router(n: usize, which: usize) -> usize {
-    which * (n / 2)
 }
 
 /// A sequence of acts, of many lengths and kinds.

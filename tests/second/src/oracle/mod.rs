@@ -1,38 +1,41 @@
-//! The second checker behind the interface of the calls.
+//! The second checker, written from document 01 alone and by other algorithms
+//! than the library's: sets and sorted orders, depth-first search, layers.
 
-use crate::checker::{Acts, Checker, Flag, ListFields, RunFields, VerdictBuffers, VerdictFields};
-use crate::plan::{self, Plan};
-use crate::rules::{Case, Right, Rules};
-use crate::simulate;
-use crate::verdict::{self, Outcome};
+mod lines;
+pub mod plan;
+pub mod rules;
+pub mod tables;
+pub mod verdict;
+
+use crate::interface::{store, Acts, Checker, Flag, ListFields, RunFields, VerdictBuffers, VerdictFields};
+pub use lines::verdict_lines;
+use plan::Plan;
+use rules::{Case, Right, Rules};
 use std::collections::VecDeque;
 use std::rc::Rc;
+use verdict::Outcome;
 
 type Reading = Rc<Result<Plan, u8>>;
 
-/// Plans read lately are kept, since the same one is asked about many times.
-pub struct Second<R: Rules> {
-    rules: R,
-    recent: VecDeque<(Vec<u8>, Reading)>,
-    kept: usize,
-}
-
+/// How many plans read lately are kept, since the same one is asked about many times.
 const KEPT_READINGS: usize = 2;
 
-impl Second<Right> {
-    pub fn right() -> Self {
-        Second::with(Right)
-    }
+/// The oracle behind the interface of the calls. Its rules can be replaced by
+/// misread ones.
+pub struct Oracle<R: Rules> {
+    rules: R,
+    recent: VecDeque<(Vec<u8>, Reading)>,
+}
 
-    /// Reads the plan anew at every call, as the other checkers do.
-    pub fn forgetful() -> Self {
-        Second { kept: 0, ..Second::right() }
+impl Oracle<Right> {
+    pub fn right() -> Self {
+        Oracle::with(Right)
     }
 }
 
-impl<R: Rules> Second<R> {
+impl<R: Rules> Oracle<R> {
     pub fn with(rules: R) -> Self {
-        Second { rules, recent: VecDeque::new(), kept: KEPT_READINGS }
+        Oracle { rules, recent: VecDeque::new() }
     }
 
     fn reading(&mut self, bytes: &[u8]) -> Reading {
@@ -41,14 +44,9 @@ impl<R: Rules> Second<R> {
         }
         let reading = Rc::new(plan::read(bytes));
         self.recent.push_front((bytes.to_vec(), reading.clone()));
-        self.recent.truncate(self.kept);
+        self.recent.truncate(KEPT_READINGS);
         reading
     }
-}
-
-/// Turns the outcome of a call into its refusal number.
-fn number(outcome: Result<(), u8>) -> u8 {
-    outcome.err().unwrap_or(0)
 }
 
 fn plan_of(reading: &Reading) -> Result<&Plan, u8> {
@@ -75,39 +73,30 @@ fn fill(buffer: &mut [u8], values: impl IntoIterator<Item = usize>) {
     buffer.iter_mut().zip(values).for_each(|(byte, value)| *byte = value as u8);
 }
 
-impl<R: Rules> Second<R> {
-    fn try_list(&mut self, plan: &[u8], list: usize, fields: &mut ListFields) -> Result<(), u8> {
+impl<R: Rules> Oracle<R> {
+    fn try_list(&mut self, plan: &[u8], list: usize) -> Result<ListFields, u8> {
         let reading = self.reading(plan);
         let asked = plan_of(&reading)?.lists.get(list).ok_or(8u8)?;
-        *fields = ListFields { start: asked.start as u64, count: asked.listed.len() as u64 };
-        Ok(())
+        Ok(ListFields { start: asked.start as u64, count: asked.listed.len() as u64 })
     }
 
-    fn try_compare(&mut self, plan: &[u8], at: usize, pair: (usize, usize), better: &mut u8) -> Result<(), u8> {
+    fn try_compare(&mut self, plan: &[u8], at: usize, pair: (usize, usize)) -> Result<u8, u8> {
         let reading = self.reading(plan);
         let plan = plan_of(&reading)?;
         let (first, second) = pair;
         asked_for(plan, &[at, first, second])?;
         let first_wins = self.rules.is_better(plan, at, first, second);
         let second_wins = self.rules.is_better(plan, at, second, first);
-        *better = u8::from(first_wins) + 2 * u8::from(second_wins);
-        Ok(())
+        Ok(u8::from(first_wins) + 2 * u8::from(second_wins))
     }
 
-    fn try_relies(&mut self, plan: &[u8], list: usize, pair: (usize, usize), relies: &mut u8) -> Result<(), u8> {
+    fn try_relies(&mut self, plan: &[u8], list: usize, pair: (usize, usize)) -> Result<u8, u8> {
         let reading = self.reading(plan);
         let case = case_of(plan_of(&reading)?, list, &[pair.0, pair.1])?;
-        *relies = u8::from(self.rules.relied_on(case, pair.0).contains(&pair.1));
-        Ok(())
+        Ok(u8::from(self.rules.relied_on(case, pair.0).contains(&pair.1)))
     }
 
-    fn try_verdict(
-        &mut self,
-        plan: &[u8],
-        list: usize,
-        lent: VerdictBuffers,
-        fields: &mut VerdictFields,
-    ) -> Result<(), u8> {
+    fn try_verdict(&mut self, plan: &[u8], list: usize, lent: VerdictBuffers) -> Result<VerdictFields, u8> {
         let reading = self.reading(plan);
         let case = case_of(plan_of(&reading)?, list, &[])?;
         let n = case.plan.n;
@@ -116,80 +105,71 @@ impl<R: Rules> Second<R> {
         }
         let verdict = verdict::verdict(&self.rules, case);
         fill(lent.labels, verdict.labels);
-        match verdict.outcome {
+        Ok(match verdict.outcome {
             Outcome::Stable { ranks, table } => {
-                let highest = ranks.values().copied().max().unwrap_or(0);
-                *fields = VerdictFields { stable: Flag::new(1), size: highest as u64 };
+                let size = verdict::highest(&ranks);
                 fill(lent.ranks, ranks.into_values());
-                lent.table[..2 * n].copy_from_slice(&simulate::table_bytes(&table, n));
+                lent.table[..2 * n].copy_from_slice(&tables::bytes(&table, n));
+                VerdictFields { stable: Flag::new(1), size }
             }
             Outcome::Suspect { cycle } => {
-                *fields = VerdictFields { stable: Flag::new(0), size: cycle.len() as u64 };
+                let size = cycle.len() as u64;
                 fill(lent.cycle, cycle);
+                VerdictFields { stable: Flag::new(0), size }
             }
-        }
-        Ok(())
+        })
     }
 
     fn try_activate(&mut self, plan: &[u8], list: usize, router: usize, table: &mut [u8]) -> Result<(), u8> {
         let reading = self.reading(plan);
         let case = case_of(plan_of(&reading)?, list, &[router])?;
         let lent = table.get_mut(..2 * case.plan.n).ok_or(9u8)?;
-        let mut held = simulate::read_table(case, lent).ok_or(10u8)?;
-        simulate::activate(&self.rules, case, &mut held, router);
-        lent.copy_from_slice(&simulate::table_bytes(&held, case.plan.n));
+        let mut held = tables::read(case, lent).ok_or(10u8)?;
+        tables::activate(&self.rules, case, &mut held, router);
+        lent.copy_from_slice(&tables::bytes(&held, case.plan.n));
         Ok(())
     }
 
-    fn try_run(
-        &mut self,
-        plan: &[u8],
-        list: usize,
-        acts: Acts,
-        table: &mut [u8],
-        fields: &mut RunFields,
-    ) -> Result<(), u8> {
+    fn try_run(&mut self, plan: &[u8], list: usize, acts: Acts, table: &mut [u8]) -> Result<RunFields, u8> {
         let reading = self.reading(plan);
         let named: Vec<usize> = acts.sequence.iter().map(|&router| usize::from(router)).collect();
         let case = case_of(plan_of(&reading)?, list, &named)?;
         let lent = table.get_mut(..2 * case.plan.n).ok_or(9u8)?;
-        let mut held = simulate::read_table(case, lent).ok_or(10u8)?;
-        let length = acts.sequence.len() as u64;
+        let mut held = tables::read(case, lent).ok_or(10u8)?;
+        let length = named.len() as u64;
         let applied = length.min(acts.limit);
-        let rounds = simulate::run(&self.rules, case, &mut held, &acts.sequence[..applied as usize]);
-        *fields = RunFields { applied, rounds, exhausted: Flag::new(u8::from(length > acts.limit)) };
-        lent.copy_from_slice(&simulate::table_bytes(&held, case.plan.n));
-        Ok(())
+        let rounds = tables::run(&self.rules, case, &mut held, &named[..applied as usize]);
+        lent.copy_from_slice(&tables::bytes(&held, case.plan.n));
+        Ok(RunFields { applied, rounds, exhausted: Flag::new(u8::from(length > acts.limit)) })
     }
 }
 
-impl<R: Rules> Checker for Second<R> {
+impl<R: Rules> Checker for Oracle<R> {
     fn check(&mut self, plan: &[u8]) -> u8 {
-        let reading = self.reading(plan);
-        number(plan_of(&reading).map(|_| ()))
+        plan_of(&self.reading(plan)).err().unwrap_or(0)
     }
 
     fn list(&mut self, plan: &[u8], list: usize, fields: &mut ListFields) -> u8 {
-        number(self.try_list(plan, list, fields))
+        store(self.try_list(plan, list), fields)
     }
 
     fn compare(&mut self, plan: &[u8], router: usize, pair: (usize, usize), better: &mut u8) -> u8 {
-        number(self.try_compare(plan, router, pair, better))
+        store(self.try_compare(plan, router, pair), better)
     }
 
     fn relies(&mut self, plan: &[u8], list: usize, pair: (usize, usize), relies: &mut u8) -> u8 {
-        number(self.try_relies(plan, list, pair, relies))
+        store(self.try_relies(plan, list, pair), relies)
     }
 
     fn verdict(&mut self, plan: &[u8], list: usize, lent: VerdictBuffers, fields: &mut VerdictFields) -> u8 {
-        number(self.try_verdict(plan, list, lent, fields))
+        store(self.try_verdict(plan, list, lent), fields)
     }
 
     fn activate(&mut self, plan: &[u8], list: usize, router: usize, table: &mut [u8]) -> u8 {
-        number(self.try_activate(plan, list, router, table))
+        store(self.try_activate(plan, list, router, table), &mut ())
     }
 
     fn run(&mut self, plan: &[u8], list: usize, acts: Acts, table: &mut [u8], fields: &mut RunFields) -> u8 {
-        number(self.try_run(plan, list, acts, table, fields))
+        store(self.try_run(plan, list, acts, table), fields)
     }
 }

@@ -1,5 +1,5 @@
-//! A plain checker in ordinary array code: the yardstick of the bench. It is
-//! held against the second checker too.
+//! The yardstick `plain`: ordinary array code, in which a router's neighbours
+//! are found by a loop over all routers.
 
 // Loops over router numbers are the plain way here.
 #![allow(clippy::needless_range_loop)]
@@ -8,12 +8,12 @@ mod reader;
 mod rules;
 mod verdict;
 
-use crate::checker::{Acts, Checker, Flag, ListFields, RunFields, VerdictBuffers, VerdictFields};
+use crate::interface::{store, Acts, Checker, Flag, ListFields, RunFields, VerdictBuffers, VerdictFields};
 use reader::{check, read};
 use verdict::verdict;
 
 const MOST: usize = 64;
-const NOTHING: u8 = 255;
+const NONE: u8 = 255;
 
 type Matrix = [[bool; MOST]; MOST];
 
@@ -44,22 +44,11 @@ fn run(bytes: &[u8], list: usize, acts: Acts, table: &mut [u8]) -> Result<RunFie
     Ok(RunFields { applied, rounds, exhausted: Flag::new(u8::from(length > acts.limit)) })
 }
 
-/// Stores the result, or gives the refusal number and leaves it as it was.
-fn store<T>(result: Result<T, u8>, into: &mut T) -> u8 {
-    match result {
-        Ok(value) => {
-            *into = value;
-            0
-        }
-        Err(refusal) => refusal,
-    }
-}
-
 pub struct Plain;
 
 impl Checker for Plain {
     fn check(&mut self, plan: &[u8]) -> u8 {
-        check(plan).err().unwrap_or(0)
+        store(check(plan).map(|_| ()), &mut ())
     }
 
     fn list(&mut self, plan: &[u8], list: usize, fields: &mut ListFields) -> u8 {
@@ -106,7 +95,7 @@ impl Checker for Plain {
             plan.activate(&listed, table, router);
             Ok(())
         };
-        act().err().unwrap_or(0)
+        store(act(), &mut ())
     }
 
     fn run(&mut self, plan: &[u8], list: usize, acts: Acts, table: &mut [u8], fields: &mut RunFields) -> u8 {

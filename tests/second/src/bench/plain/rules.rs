@@ -1,7 +1,7 @@
-//! Choosing, announcing and reliance in array code.
+//! Choosing, advertising and reliance in array code.
 
 use super::reader::{word, Bodies, PlanView};
-use super::{MOST, NOTHING};
+use super::{MOST, NONE};
 
 impl Bodies<'_> {
     fn distance(&self, u: usize, e: usize) -> usize {
@@ -118,7 +118,7 @@ impl PlanView<'_> {
             if !self.neighbour[w][v] {
                 continue;
             }
-            let Some(egress) = self.announced(listed, table, v, w) else { continue };
+            let Some(egress) = self.advertised(listed, table, v, w) else { continue };
             let takes = match best {
                 None => true,
                 Some((held, _)) if held == egress => v == egress,
@@ -128,20 +128,20 @@ impl PlanView<'_> {
                 best = Some((egress, v));
             }
         }
-        let (egress, sender) = best.map_or((NOTHING, NOTHING), |(e, s)| (e as u8, s as u8));
+        let (egress, sender) = best.map_or((NONE, NONE), |(e, s)| (e as u8, s as u8));
         table[2 * w] = egress;
         table[2 * w + 1] = sender;
     }
 
-    fn announced(&self, listed: &[bool; MOST], table: &[u8], from: usize, to: usize) -> Option<usize> {
+    fn advertised(&self, listed: &[bool; MOST], table: &[u8], from: usize, to: usize) -> Option<usize> {
         if listed[from] {
             return Some(from);
         }
-        if !self.reflector[from] || table[2 * from] == NOTHING {
+        if !self.reflector[from] || table[2 * from] == NONE {
             return None;
         }
         let sender = usize::from(table[2 * from + 1]);
-        let told = if self.reflector[sender] { !self.reflector[to] } else { sender != to };
-        told.then(|| usize::from(table[2 * from]))
+        let advertises = if self.reflector[sender] { !self.reflector[to] } else { sender != to };
+        advertises.then(|| usize::from(table[2 * from]))
     }
 }

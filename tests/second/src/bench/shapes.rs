@@ -1,0 +1,84 @@
+//! The plans that the bench times.
+
+use crate::harness::draft::Draft;
+use crate::harness::generate::all_pairs;
+use crate::harness::random::Random;
+use crate::oracle::verdict_lines;
+use std::collections::BTreeSet;
+
+pub const SIZES: [usize; 5] = [4, 8, 16, 32, 64];
+
+/// The first `reflectors` of n routers are reflectors on a ring, with a session
+/// between two that are at most `reach` apart. Each client has sessions with
+/// `parents` of them, or there are all sessions. Every fifth client is listed.
+pub struct Shape {
+    n: usize,
+    reflectors: usize,
+    reach: usize,
+    parents: usize,
+    all_sessions: bool,
+}
+
+impl Shape {
+    /// A quarter reflectors, all in a mesh; clients with two parents.
+    pub fn mesh(n: usize) -> Self {
+        Shape { n, reflectors: (n / 4).max(2), reach: n, parents: 2, all_sessions: false }
+    }
+
+    /// A mesh; half reflectors in a mesh, and clients with four parents (for four
+    /// routers this is the first again); and the latter with all sessions.
+    pub fn of_size(n: usize) -> Vec<Self> {
+        let dense = Shape { reflectors: n / 2, parents: 4, ..Shape::mesh(n) };
+        let complete = Shape { all_sessions: true, ..dense };
+        if n == 4 {
+            vec![Shape::mesh(n), complete]
+        } else {
+            vec![Shape::mesh(n), dense, complete]
+        }
+    }
+
+    /// A quarter reflectors, each with six others as neighbours; clients with two
+    /// parents. From 32 routers on, a router's neighbours are as many whatever n is.
+    pub fn same_degree(n: usize) -> Self {
+        Shape { reach: 3, ..Shape::mesh(n) }
+    }
+
+    fn sessions(&self) -> BTreeSet<(usize, usize)> {
+        if self.all_sessions {
+            return all_pairs(self.n).collect();
+        }
+        let count = self.reflectors;
+        let among_reflectors = all_pairs(count).filter(|&(one, other)| {
+            let apart = other - one;
+            apart.min(count - apart) <= self.reach
+        });
+        let parents =
+            |client: usize| (0..self.parents.min(count)).map(move |place| ((client + place) % count, client));
+        among_reflectors.chain((count..self.n).flat_map(parents)).collect()
+    }
+
+    /// Distances are drawn at random, again and again until the list is suspect.
+    /// There are shapes in which none is.
+    pub fn draft_suspect(&self, random: &mut Random) -> Option<Draft> {
+        let mut drafts = (0..50).map(|_| self.draft(random, false));
+        drafts.find(|draft| verdict_lines(&draft.bytes()).contains("suspect"))
+    }
+
+    /// With `one_order` all routers prefer the egresses in one order, and every
+    /// list is stable; without, distances are drawn at random.
+    pub fn draft(&self, random: &mut Random, one_order: bool) -> Draft {
+        let n = self.n;
+        let mut distance = |from: usize, to: usize| match (from == to, one_order) {
+            (true, _) => 0,
+            (_, true) => 10 + 3 * to as u16 + random.below(3) as u16,
+            _ => random.between(1, 1000) as u16,
+        };
+        Draft {
+            reflector: (0..n).map(|router| router < self.reflectors).collect(),
+            identifiers: (1..=n as u32).collect(),
+            sessions: self.sessions(),
+            distances: (0..n).map(|from| (0..n).map(|to| distance(from, to)).collect()).collect(),
+            lists: vec![(self.reflectors..n).step_by(5).collect()],
+        }
+    }
+}

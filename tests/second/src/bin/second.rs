@@ -1,0 +1,119 @@
+//! Compares a checker of route-reflection plans with the second one.
+
+use second_checker::{self_test, small_plans, verdict_lines, Checker, Plain, Random};
+use std::env;
+use std::error::Error;
+use std::fs;
+use std::io::{self, Write};
+use std::path::Path;
+use std::process::ExitCode;
+use std::time::Instant;
+
+const USAGE: &str = "\
+second --against library|plain [--seed S] [--first K] [--plans N]   compare a checker with the second one
+second self [--seed S] [--plans N]           test the second checker alone, and the comparison on known faults
+second write FOLDER [--seed S] [--plans N]   write plans and the lines the verdict program is due to print
+second plan largest|deepest                  write the plan with the most bytes or the highest rank";
+
+struct Options {
+    words: Vec<String>,
+    against: String,
+    seed: u64,
+    first: u64,
+    plans: u64,
+}
+
+fn options() -> Result<Options, Box<dyn Error>> {
+    let mut options =
+        Options { words: Vec::new(), against: "library".to_string(), seed: 4456, first: 0, plans: 20_000 };
+    let mut arguments = env::args().skip(1);
+    while let Some(argument) = arguments.next() {
+        let mut value = || arguments.next().ok_or("a value is missing");
+        match argument.as_str() {
+            "--against" => options.against = value()?,
+            "--seed" => options.seed = value()?.parse()?,
+            "--first" => options.first = value()?.parse()?,
+            "--plans" => options.plans = value()?.parse()?,
+            word if word.starts_with("--") => return Err(format!("unknown option {word}").into()),
+            _ => options.words.push(argument),
+        }
+    }
+    Ok(options)
+}
+
+fn subject(name: &str) -> Result<Box<dyn Checker>, Box<dyn Error>> {
+    match name {
+        #[cfg(feature = "library")]
+        "library" => Ok(Box::new(second_checker::Library)),
+        "plain" => Ok(Box::new(Plain)),
+        _ => Err(format!("no checker {name} is built in").into()),
+    }
+}
+
+fn compare(options: &Options) -> Result<bool, Box<dyn Error>> {
+    println!("seed {} against {}", options.seed, options.against);
+    let mut subject = subject(&options.against)?;
+    let started = Instant::now();
+    let mut report = |number: u64, mismatch: &str| println!("mismatch (--first {number} --plans 1)\n{mismatch}\n");
+    let numbers = options.first..options.first + options.plans;
+    let counts = second_checker::compare(subject.as_mut(), options.seed, numbers, &mut report);
+    println!("seconds {:.1}", started.elapsed().as_secs_f64());
+    println!("{counts}");
+    Ok(counts.mismatches == 0)
+}
+
+fn test_self(options: &Options) -> Result<bool, Box<dyn Error>> {
+    println!("seed {}", options.seed);
+    small_plans::test()?;
+    println!("small plans M1 to M9, bounds, example output, rank of the deepest plan: as stated");
+    self_test::aimed_damage()?;
+    println!("damage aimed at refusals 1 to 7: refused so");
+    println!("known faults: {} found, each of them", self_test::faults()?);
+    let counts = self_test::consistency(options.seed, options.plans)?;
+    println!(
+        "second self: {} plans, {} lists, {} suspect, {} starts settled",
+        options.plans, counts.lists, counts.suspect, counts.starts
+    );
+    Ok(true)
+}
+
+fn write_plans(folder: &str, options: &Options) -> Result<bool, Box<dyn Error>> {
+    let folder = Path::new(folder);
+    fs::create_dir_all(folder)?;
+    for number in 0..options.plans {
+        let (bytes, _) = second_checker::numbered(options.seed, number);
+        fs::write(folder.join(format!("{number:05}.plan")), &bytes)?;
+        fs::write(folder.join(format!("{number:05}.expected")), verdict_lines(&bytes))?;
+    }
+    println!("second write: {} plans", options.plans);
+    Ok(true)
+}
+
+fn write(bytes: &[u8]) -> Result<bool, Box<dyn Error>> {
+    io::stdout().write_all(bytes)?;
+    Ok(true)
+}
+
+fn program() -> Result<bool, Box<dyn Error>> {
+    let options = options()?;
+    let words: Vec<&str> = options.words.iter().map(String::as_str).collect();
+    match words[..] {
+        [] => compare(&options),
+        ["self"] => test_self(&options),
+        ["write", folder] => write_plans(folder, &options),
+        ["plan", "largest"] => write(&second_checker::largest(&mut Random::new(options.seed)).bytes()),
+        ["plan", "deepest"] => write(&second_checker::deepest().bytes()),
+        _ => Err("unknown words".into()),
+    }
+}
+
+fn main() -> ExitCode {
+    match program() {
+        Ok(true) => ExitCode::SUCCESS,
+        Ok(false) => ExitCode::FAILURE,
+        Err(fault) => {
+            eprintln!("second: {fault}\n{USAGE}");
+            ExitCode::FAILURE
+        }
+    }
+}

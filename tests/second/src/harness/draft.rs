@@ -1,0 +1,61 @@
+//! Plans before they become bytes.
+
+use crate::oracle::plan::{Router, FIRST_BODY};
+use std::collections::BTreeSet;
+
+/// What a plan says.
+pub struct Draft {
+    pub reflector: Vec<bool>,
+    pub identifiers: Vec<u32>,
+    pub sessions: BTreeSet<(Router, Router)>,
+    pub distances: Vec<Vec<u16>>,
+    pub lists: Vec<BTreeSet<Router>>,
+}
+
+/// The number of routers and the four bodies of a plan.
+pub struct Bodies {
+    pub n: u8,
+    pub routers: Vec<u8>,
+    pub sessions: Vec<u8>,
+    pub distances: Vec<u8>,
+    pub lists: Vec<u8>,
+}
+
+impl Draft {
+    pub fn bodies(&self) -> Bodies {
+        let role = |&reflector: &bool| if reflector { 1 } else { 2 };
+        let routers = self.reflector.iter().zip(&self.identifiers);
+        let numbers = |list: &BTreeSet<Router>| list.iter().map(|&router| router as u8).collect::<Vec<u8>>();
+        let lists = self.lists.iter().flat_map(|list| [vec![list.len() as u8], numbers(list)].concat());
+        Bodies {
+            n: self.reflector.len() as u8,
+            routers: routers
+                .flat_map(|(reflector, id)| [vec![role(reflector)], id.to_le_bytes().to_vec()].concat())
+                .collect(),
+            sessions: self.sessions.iter().flat_map(|&(one, other)| [one as u8, other as u8]).collect(),
+            distances: self.distances.iter().flatten().flat_map(|distance| distance.to_le_bytes()).collect(),
+            lists: [self.lists.len() as u8].into_iter().chain(lists).collect(),
+        }
+    }
+
+    pub fn bytes(&self) -> Vec<u8> {
+        self.bodies().bytes()
+    }
+}
+
+impl Bodies {
+    /// The plan with a table of contents that fits these bodies.
+    pub fn bytes(&self) -> Vec<u8> {
+        let bodies = [&self.routers, &self.sessions, &self.distances, &self.lists];
+        let mut plan = [b"RRP1".as_slice(), &[self.n, 4]].concat();
+        let mut offset = FIRST_BODY;
+        for (kind, body) in (1u8..).zip(bodies) {
+            plan.push(kind);
+            plan.extend((offset as u16).to_le_bytes());
+            plan.extend((body.len() as u16).to_le_bytes());
+            offset += body.len();
+        }
+        bodies.into_iter().for_each(|body| plan.extend(body));
+        plan
+    }
+}

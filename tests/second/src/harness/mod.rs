@@ -1,0 +1,15 @@
+//! What compares a checker with the oracle: plans, damage, arguments, calls and
+//! series; and faults that the comparison must find.
+
+pub mod arguments;
+mod call;
+pub mod comparison;
+mod damage;
+pub mod draft;
+mod faults;
+pub mod generate;
+mod plan_calls;
+pub mod random;
+pub mod self_test;
+mod series;
+pub mod small_plans;

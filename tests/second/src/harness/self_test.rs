@@ -1,0 +1,168 @@
+//! The oracle tested alone, and the comparison tested on checkers with a known
+//! fault.
+
+use super::arguments;
+use super::comparison::compare;
+use super::damage;
+use super::faults::{Careless, Misread, MISREADINGS, SLIPS};
+use super::generate;
+use super::random::Random;
+use crate::interface::Checker;
+use crate::oracle::plan::{self, Router};
+use crate::oracle::rules::{Case, Right, Rules};
+use crate::oracle::tables::{self, Rounds};
+use crate::oracle::verdict::{self, Outcome, Ranks, Reliances};
+use crate::oracle::Oracle;
+use std::collections::BTreeSet;
+
+/// The seed of the plans on which faults and damage are tried.
+const SEED: u64 = 4456;
+
+/// A fault must be found within that many plans.
+const PLANS_FOR_A_FAULT: u64 = 4000;
+
+/// So many damaged plans are tried for each refusal.
+const DAMAGED: usize = 500;
+
+fn finds(subject: &mut dyn Checker, fault: &str) -> Result<(), String> {
+    let counts = compare(subject, SEED, 0..PLANS_FOR_A_FAULT, &mut |_, _| ());
+    if counts.mismatches == 0 {
+        return Err(format!("the fault {fault} was not found"));
+    }
+    Ok(())
+}
+
+/// The comparison finds every known fault; how many there are.
+pub fn faults() -> Result<usize, String> {
+    for misreading in MISREADINGS {
+        finds(&mut Oracle::with(Misread(misreading)), &format!("{misreading:?}"))?;
+    }
+    for slip in SLIPS {
+        finds(&mut Careless::new(slip), &format!("{slip:?}"))?;
+    }
+    Ok(MISREADINGS.len() + SLIPS.len())
+}
+
+/// Damage aimed at a refusal is refused with it, nearly always.
+pub fn aimed_damage() -> Result<(), String> {
+    let mut random = Random::new(SEED);
+    for refusal in 1..=7 {
+        let mut hits = || {
+            let draft = generate::sound(&mut random);
+            plan::read(&damage::aimed(&mut random, &draft, refusal)).err() == Some(refusal)
+        };
+        let count = (0..DAMAGED).filter(|_| hits()).count();
+        if count < DAMAGED * 8 / 10 {
+            return Err(format!("damage aimed at {refusal} hit {count} times of {DAMAGED}"));
+        }
+    }
+    Ok(())
+}
+
+#[derive(Default)]
+pub struct Consistency {
+    pub lists: u64,
+    pub suspect: u64,
+    pub starts: u64,
+}
+
+/// Groups, ranks, cycles and settling on random plans.
+pub fn consistency(seed: u64, plans: u64) -> Result<Consistency, String> {
+    let mut random = Random::new(seed);
+    let mut counts = Consistency::default();
+    for number in 0..plans {
+        let bytes = generate::sound(&mut random).bytes();
+        let plan = plan::read(&bytes).map_err(|refusal| format!("plan {number} refused with {refusal}"))?;
+        for list in &plan.lists {
+            let case = Case { plan: &plan, listed: &list.listed };
+            consistent(&mut random, case, &mut counts).map_err(|fault| format!("plan {number}: {fault}"))?;
+        }
+    }
+    Ok(counts)
+}
+
+fn consistent(random: &mut Random, case: Case, counts: &mut Consistency) -> Result<(), String> {
+    let reliances = verdict::reliances(&Right, case);
+    let verdict = verdict::verdict(&Right, case);
+    counts.lists += 1;
+    labels_fit(&reliances, &verdict.labels)?;
+    match verdict.outcome {
+        Outcome::Suspect { cycle } => {
+            counts.suspect += 1;
+            cycle_fits(&reliances, &cycle)
+        }
+        Outcome::Stable { ranks, table } => {
+            ranks_fit(&reliances, &ranks)?;
+            let highest = verdict::highest(&ranks);
+            let settled = tables::bytes(&table, case.plan.n);
+            for _ in 0..2 {
+                counts.starts += 1;
+                settles(random, case, &settled, highest)?;
+            }
+            Ok(())
+        }
+    }
+}
+
+fn reached(reliances: &Reliances, from: Router) -> BTreeSet<Router> {
+    let mut reached = BTreeSet::new();
+    let mut waiting: Vec<Router> = reliances[&from].iter().copied().collect();
+    while let Some(router) = waiting.pop() {
+        if reached.insert(router) {
+            waiting.extend(&reliances[&router]);
+        }
+    }
+    reached
+}
+
+/// Two routers share a label exactly if they are one or reach each other.
+fn labels_fit(reliances: &Reliances, labels: &[Router]) -> Result<(), String> {
+    let reached: Vec<BTreeSet<Router>> = reliances.keys().map(|&router| reached(reliances, router)).collect();
+    let together = |one: Router, other: Router| reached[one].contains(&other) && reached[other].contains(&one);
+    for (router, &label) in labels.iter().enumerate() {
+        let lowest = (0..router).find(|&other| together(router, other)).unwrap_or(router);
+        if label != lowest {
+            return Err(format!("label of {router} is {label}, not {lowest}"));
+        }
+    }
+    Ok(())
+}
+
+fn cycle_fits(reliances: &Reliances, cycle: &[Router]) -> Result<(), String> {
+    let next = cycle.iter().cycle().skip(1);
+    let closed = cycle.iter().zip(next).all(|(router, next)| reliances[router].contains(next));
+    let simple = cycle.iter().collect::<BTreeSet<_>>().len() == cycle.len();
+    (closed && simple && cycle.len() > 1).then_some(()).ok_or(format!("no cycle: {cycle:?}"))
+}
+
+/// The rank by its own words: 0, or one more than the highest relied on.
+fn ranks_fit(reliances: &Reliances, ranks: &Ranks) -> Result<(), String> {
+    let due = |router: &Router| reliances[router].iter().map(|other| ranks[other] + 1).max().unwrap_or(0);
+    let sound = ranks.len() == reliances.len() && ranks.iter().all(|(router, &rank)| rank == due(router));
+    sound.then_some(()).ok_or(format!("ranks {ranks:?}"))
+}
+
+/// From any table the routers settle within the highest rank plus two rounds;
+/// on the way, a table other than the settled one has an act that changes it.
+fn settles(random: &mut Random, case: Case, settled: &[u8], highest: u64) -> Result<(), String> {
+    let n = case.plan.n;
+    let start = arguments::table(random, case);
+    let mut table = tables::read(case, &start).ok_or("a sound table was refused")?;
+    let mut rounds = Rounds::new(n);
+    let drawn = random.chance(30);
+    let mut order: Vec<Router> = (0..n).collect();
+    while rounds.whole < highest + 2 {
+        random.shuffle(&mut order);
+        let still = (0..n).all(|router| Right.activation(case, &table, router) == table.get(&router).copied());
+        if still != (tables::bytes(&table, n) == settled) {
+            return Err(format!("another table that no act changes, or a settled one that moves: {table:?}"));
+        }
+        for &router in &order {
+            let router = if drawn { random.below(n) } else { router };
+            tables::activate(&Right, case, &mut table, router);
+            rounds.count(router);
+        }
+    }
+    let found = tables::bytes(&table, n);
+    (found == settled).then_some(()).ok_or(format!("from {start:?} to {found:?}, settled {settled:?}"))
+}

@@ -1,0 +1,111 @@
+//! What document 01 states of its small plans: M1 to M9, the bounds, the output
+//! of the verdict program; and the rank of the deepest plan.
+
+use super::call::{perform, Answer, Call};
+use super::draft::Draft;
+use super::generate;
+use crate::oracle::{verdict_lines, Oracle};
+use std::collections::BTreeSet;
+use std::fmt::Debug;
+
+/// Two reflectors with a client each: `p` is the distance from 0 to 3, `q`
+/// the one from 1 to 2.
+fn draft(p: u16, q: u16, lists: &[&[usize]]) -> Draft {
+    let distances = [[0, 30, 10, p], [30, 0, q, 10], [30, 30, 0, 30], [30, 30, 30, 0]];
+    Draft {
+        reflector: vec![true, true, false, false],
+        identifiers: vec![10, 20, 30, 40],
+        sessions: BTreeSet::from([(0, 1), (0, 2), (1, 3)]),
+        distances: distances.map(Vec::from).to_vec(),
+        lists: lists.iter().map(|list| list.iter().copied().collect()).collect(),
+    }
+}
+
+/// All that is stated, or the first thing that is otherwise.
+pub fn test() -> Result<(), String> {
+    verdicts()?;
+    runs()?;
+    bounds()?;
+    example()?;
+    let deepest = "routers 64 lists 1\n0 stable 61\n".to_string();
+    same("deepest plan", verdict_lines(&generate::deepest().bytes()), deepest)
+}
+
+fn same<T: PartialEq + Debug>(what: &str, found: T, expected: T) -> Result<(), String> {
+    if found == expected {
+        return Ok(());
+    }
+    Err(format!("{what}: found {found:?}, expected {expected:?}"))
+}
+
+fn answer(draft: &Draft, call: &Call) -> Answer {
+    perform(&mut Oracle::right(), &draft.bytes(), call, 7)
+}
+
+/// The expected answer of a call that is not refused.
+fn due(fields: &[u64], buffers: &[&[u8]]) -> Answer {
+    let buffers = buffers.iter().map(|buffer| buffer.to_vec()).collect();
+    Answer { refusal: 0, fields: fields.to_vec(), buffers, surroundings_kept: true }
+}
+
+fn verdict(what: &str, draft: &Draft, fields: [u64; 2], buffers: [&[u8]; 4]) -> Result<(), String> {
+    let lent = [4, 4, 8, 4].map(|need| vec![99; need]);
+    same(what, answer(draft, &Call::Verdict { list: 0, buffers: lent }), due(&fields, &buffers))
+}
+
+fn stable(what: &str, draft: &Draft, highest: u64, ranks: [u8; 4], table: [u8; 8]) -> Result<(), String> {
+    verdict(what, draft, [1, highest], [&[0, 1, 2, 3], &ranks, &table, &[99; 4]])
+}
+
+/// Suspect, with the cycle 0 1.
+fn suspect(what: &str, draft: &Draft) -> Result<(), String> {
+    verdict(what, draft, [0, 2], [&[0, 0, 2, 3], &[99; 4], &[99; 8], &[0, 1, 99, 99]])
+}
+
+fn verdicts() -> Result<(), String> {
+    let both: &[usize] = &[2, 3];
+    stable("M1", &draft(14, 14, &[both]), 1, [1, 1, 0, 0], [2, 2, 3, 3, 2, 2, 3, 3])?;
+    stable("M2", &draft(6, 14, &[both]), 2, [2, 1, 0, 0], [3, 1, 3, 3, 2, 2, 3, 3])?;
+    suspect("M3", &draft(6, 6, &[both]))?;
+    stable("M4", &draft(10, 10, &[both]), 2, [1, 2, 0, 0], [2, 2, 2, 0, 2, 2, 3, 3])?;
+    suspect("M5", &draft(9, 10, &[both]))?;
+    stable("M6", &draft(6, 6, &[&[3]]), 3, [2, 1, 3, 0], [3, 1, 3, 3, 3, 0, 3, 3])?;
+    stable("M7", &draft(6, 6, &[&[0]]), 2, [0, 1, 1, 2], [0, 0, 0, 0, 0, 0, 0, 1])
+}
+
+fn run(what: &str, sequence: [u8; 4], table: [u8; 8]) -> Result<(), String> {
+    let start = vec![255, 255, 255, 255, 2, 2, 3, 3];
+    let call = Call::Run { list: 0, sequence: sequence.to_vec(), limit: 9, table: start };
+    same(what, answer(&draft(6, 6, &[&[2, 3]]), &call), due(&[4, 1, 0], &[&table]))
+}
+
+fn runs() -> Result<(), String> {
+    run("M8", [0, 1, 2, 3], [2, 2, 2, 0, 2, 2, 3, 3])?;
+    run("M9", [1, 0, 2, 3], [3, 1, 3, 3, 2, 2, 3, 3])
+}
+
+/// A plan of reflectors without a session, router 0 alone listed.
+fn lone_reflectors(n: usize) -> Draft {
+    Draft {
+        reflector: vec![true; n],
+        identifiers: (0..n as u32).collect(),
+        sessions: BTreeSet::new(),
+        distances: vec![vec![0; n]; n],
+        lists: vec![BTreeSet::from([0])],
+    }
+}
+
+fn bounds() -> Result<(), String> {
+    let check = |draft: &Draft| answer(draft, &Call::Check).refusal;
+    same("64 routers", check(&lone_reflectors(64)), 0)?;
+    same("65 routers", check(&lone_reflectors(65)), 2)?;
+    same("distance 65534", check(&draft(65_534, 6, &[&[0]])), 0)?;
+    same("distance 65535", check(&draft(65_535, 6, &[&[0]])), 6)
+}
+
+fn example() -> Result<(), String> {
+    let bytes = draft(6, 6, &[&[2, 3], &[3]]).bytes();
+    let lines = "routers 4 lists 2\n0 suspect 2 0 1\n1 stable 3\n";
+    same("example output", verdict_lines(&bytes), lines.to_string())?;
+    same("refused output", verdict_lines(b"RRP1"), "refused 1\n".to_string())
+}
