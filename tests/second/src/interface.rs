@@ -30,6 +30,12 @@ impl Flag {
 }
 
 #[derive(Clone, Copy)]
+pub struct SizeFields {
+    pub routers: u64,
+    pub lists: u64,
+}
+
+#[derive(Clone, Copy)]
 pub struct ListFields {
     pub start: u64,
     pub count: u64,
@@ -59,6 +65,8 @@ pub struct Acts<'a> {
 /// its buffers and its result fields as they were.
 pub trait Checker {
     fn check(&mut self, plan: &[u8]) -> u8;
+
+    fn size(&mut self, plan: &[u8], fields: &mut SizeFields) -> u8;
 
     fn list(&mut self, plan: &[u8], list: usize, fields: &mut ListFields) -> u8;
 

@@ -1,9 +1,11 @@
 //! The proved library, linked as a static C library.
 
-use crate::interface::{Acts, Checker, ListFields, RunFields, VerdictBuffers, VerdictFields};
+use crate::interface::{Acts, Checker, ListFields, RunFields, SizeFields, VerdictBuffers, VerdictFields};
 
 extern "C" {
     fn rrp_check(plan: *const u8, plan_len: usize) -> u8;
+
+    fn rrp_size(plan: *const u8, plan_len: usize, routers: *mut u64, lists: *mut u64) -> u8;
 
     fn rrp_list(plan: *const u8, plan_len: usize, list: usize, start: *mut u64, count: *mut u64) -> u8;
 
@@ -68,8 +70,13 @@ impl Checker for Library {
         unsafe { rrp_check(plan.as_ptr(), plan.len()) }
     }
 
-    fn list(&mut self, plan: &[u8], list: usize, fields: &mut ListFields) -> u8 {
+    fn size(&mut self, plan: &[u8], fields: &mut SizeFields) -> u8 {
         // SAFETY: as above; the results are two variables of their own.
+        unsafe { rrp_size(plan.as_ptr(), plan.len(), &mut fields.routers, &mut fields.lists) }
+    }
+
+    fn list(&mut self, plan: &[u8], list: usize, fields: &mut ListFields) -> u8 {
+        // SAFETY: as above.
         unsafe { rrp_list(plan.as_ptr(), plan.len(), list, &mut fields.start, &mut fields.count) }
     }
 

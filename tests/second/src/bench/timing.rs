@@ -8,7 +8,7 @@ use crate::harness::arguments;
 use crate::harness::draft::Draft;
 use crate::harness::generate;
 use crate::harness::random::Random;
-use crate::interface::{Acts, Checker, Flag, ListFields, RunFields, VerdictBuffers, VerdictFields};
+use crate::interface::{Acts, Checker, Flag, ListFields, RunFields, SizeFields, VerdictBuffers, VerdictFields};
 use crate::library::Library;
 use crate::oracle::plan;
 use crate::oracle::rules::Case;
@@ -104,6 +104,12 @@ fn check(checker: &mut dyn Checker, plan: &[u8]) {
     assert_eq!(checker.check(black_box(plan)), 0);
 }
 
+fn size(checker: &mut dyn Checker, plan: &[u8]) {
+    let mut fields = SizeFields { routers: 0, lists: 0 };
+    assert_eq!(checker.size(black_box(plan), &mut fields), 0);
+    black_box((fields.routers, fields.lists));
+}
+
 fn list(checker: &mut dyn Checker, plan: &[u8]) {
     let mut fields = ListFields { start: 0, count: 0 };
     assert_eq!(checker.list(black_box(plan), 0, &mut fields), 0);
@@ -173,6 +179,7 @@ fn time_checks(bench: &Bench, random: &mut Random) {
         let draft = Shape::mesh(n).draft(random, false);
         let (plan, shape) = (draft.bytes(), name_of(&draft));
         bench.line(&format!("check, {shape}"), 1, |checker| check(checker, &plan));
+        bench.line(&format!("size, {shape}"), 1, |checker| size(checker, &plan));
         bench.line(&format!("list, {shape}"), 1, |checker| list(checker, &plan));
         bench.line(&format!("compare, {shape}"), 1, |checker| compare(checker, &plan));
     }

@@ -1,12 +1,13 @@
 //! Makes one call on any checker and keeps all that it answers and all that it
 //! leaves: results, buffers, and the bytes around them.
 
-use crate::interface::{Acts, Checker, Flag, ListFields, RunFields, VerdictBuffers, VerdictFields};
+use crate::interface::{Acts, Checker, Flag, ListFields, RunFields, SizeFields, VerdictBuffers, VerdictFields};
 
 /// One call, with the content of its buffers before it.
 #[derive(Debug)]
 pub enum Call {
     Check,
+    Size,
     List {
         list: usize,
     },
@@ -106,6 +107,11 @@ pub fn perform(checker: &mut dyn Checker, plan: &[u8], call: &Call, prior: u64) 
     let lent_plan = plan.to_vec();
     let mut answer = match call {
         Call::Check => Answer::new(checker.check(&lent_plan), Vec::new()),
+        Call::Size => {
+            let mut fields = SizeFields { routers: prior, lists: !prior };
+            let refusal = checker.size(&lent_plan, &mut fields);
+            Answer::new(refusal, vec![fields.routers, fields.lists])
+        }
         Call::List { list } => {
             let mut fields = ListFields { start: prior, count: !prior };
             let refusal = checker.list(&lent_plan, *list, &mut fields);

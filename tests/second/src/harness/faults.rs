@@ -1,10 +1,11 @@
 //! Checkers with one fault each, to see that the comparison finds it.
 
-use crate::interface::{Acts, Checker, ListFields, RunFields, VerdictBuffers, VerdictFields};
+use crate::interface::{Acts, Checker, ListFields, RunFields, SizeFields, VerdictBuffers, VerdictFields};
 use crate::oracle::plan::{Plan, Router};
 use crate::oracle::rules::{Case, Right, Route, Rules, Table};
 use crate::oracle::Oracle;
 use std::collections::BTreeSet;
+use std::mem::swap;
 
 /// A rule misread.
 #[derive(Clone, Copy, Debug, PartialEq, Eq)]
@@ -124,6 +125,8 @@ pub enum Slip {
     LimitCutToAWord,
     FieldsClearedOnRefusal,
     FirstAndSecondExchanged,
+    SizeZeroOnRefusal,
+    SizeExchanged,
     ByteAfterTheTable,
     ByteAfterTheCycle,
     FlagWrittenAsAWord,
@@ -131,7 +134,7 @@ pub enum Slip {
     LongPlanAccepted,
 }
 
-pub const SLIPS: [Slip; 16] = [
+pub const SLIPS: [Slip; 18] = [
     Slip::FirstActOnly,
     Slip::ActLeavesTable,
     Slip::ExhaustedAtTheLimit,
@@ -143,6 +146,8 @@ pub const SLIPS: [Slip; 16] = [
     Slip::LimitCutToAWord,
     Slip::FieldsClearedOnRefusal,
     Slip::FirstAndSecondExchanged,
+    Slip::SizeZeroOnRefusal,
+    Slip::SizeExchanged,
     Slip::ByteAfterTheTable,
     Slip::ByteAfterTheCycle,
     Slip::FlagWrittenAsAWord,
@@ -171,6 +176,16 @@ impl Checker for Careless {
             return 3;
         }
         self.inner.check(plan)
+    }
+
+    fn size(&mut self, plan: &[u8], fields: &mut SizeFields) -> u8 {
+        let refusal = self.inner.size(plan, fields);
+        match self.slip {
+            Slip::SizeZeroOnRefusal if refusal != 0 => *fields = SizeFields { routers: 0, lists: 0 },
+            Slip::SizeExchanged if refusal == 0 => swap(&mut fields.routers, &mut fields.lists),
+            _ => (),
+        }
+        refusal
     }
 
     fn list(&mut self, plan: &[u8], list: usize, fields: &mut ListFields) -> u8 {

@@ -13,6 +13,7 @@ use crate::oracle::rules::Case;
 pub fn compare(comparison: &mut Comparison, random: &mut Random, bytes: &[u8]) -> Outcome {
     comparison.counts.plans += 1;
     comparison.call(bytes, &Call::Check)?;
+    comparison.call(bytes, &Call::Size)?;
     match plan::read(bytes) {
         Ok(plan) => sound(comparison, random, bytes, &plan),
         Err(_) => refused(comparison, random, bytes),

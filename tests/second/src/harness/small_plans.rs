@@ -100,7 +100,9 @@ fn bounds() -> Result<(), String> {
     same("64 routers", check(&lone_reflectors(64)), 0)?;
     same("65 routers", check(&lone_reflectors(65)), 2)?;
     same("distance 65534", check(&draft(65_534, 6, &[&[0]])), 0)?;
-    same("distance 65535", check(&draft(65_535, 6, &[&[0]])), 6)
+    same("distance 65535", check(&draft(65_535, 6, &[&[0]])), 6)?;
+    let two_lists = draft(6, 6, &[&[2, 3], &[3]]);
+    same("size", answer(&two_lists, &Call::Size), due(&[4, 2], &[]))
 }
 
 fn example() -> Result<(), String> {

@@ -7,7 +7,9 @@ pub mod rules;
 pub mod tables;
 pub mod verdict;
 
-use crate::interface::{store, Acts, Checker, Flag, ListFields, RunFields, VerdictBuffers, VerdictFields};
+use crate::interface::{
+    store, Acts, Checker, Flag, ListFields, RunFields, SizeFields, VerdictBuffers, VerdictFields,
+};
 pub use lines::verdict_lines;
 use plan::Plan;
 use rules::{Case, Right, Rules};
@@ -74,6 +76,12 @@ fn fill(buffer: &mut [u8], values: impl IntoIterator<Item = usize>) {
 }
 
 impl<R: Rules> Oracle<R> {
+    fn try_size(&mut self, plan: &[u8]) -> Result<SizeFields, u8> {
+        let reading = self.reading(plan);
+        let plan = plan_of(&reading)?;
+        Ok(SizeFields { routers: plan.n as u64, lists: plan.lists.len() as u64 })
+    }
+
     fn try_list(&mut self, plan: &[u8], list: usize) -> Result<ListFields, u8> {
         let reading = self.reading(plan);
         let asked = plan_of(&reading)?.lists.get(list).ok_or(8u8)?;
@@ -147,6 +155,10 @@ impl<R: Rules> Oracle<R> {
 impl<R: Rules> Checker for Oracle<R> {
     fn check(&mut self, plan: &[u8]) -> u8 {
         plan_of(&self.reading(plan)).err().unwrap_or(0)
+    }
+
+    fn size(&mut self, plan: &[u8], fields: &mut SizeFields) -> u8 {
+        store(self.try_size(plan), fields)
     }
 
     fn list(&mut self, plan: &[u8], list: usize, fields: &mut ListFields) -> u8 {

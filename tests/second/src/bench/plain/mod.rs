@@ -8,7 +8,9 @@ mod reader;
 mod rules;
 mod verdict;
 
-use crate::interface::{store, Acts, Checker, Flag, ListFields, RunFields, VerdictBuffers, VerdictFields};
+use crate::interface::{
+    store, Acts, Checker, Flag, ListFields, RunFields, SizeFields, VerdictBuffers, VerdictFields,
+};
 use reader::{check, read};
 use verdict::verdict;
 
@@ -49,6 +51,11 @@ pub struct Plain;
 impl Checker for Plain {
     fn check(&mut self, plan: &[u8]) -> u8 {
         store(check(plan).map(|_| ()), &mut ())
+    }
+
+    fn size(&mut self, plan: &[u8], fields: &mut SizeFields) -> u8 {
+        let size = check(plan).map(|plan| (plan.n, plan.lists[0]));
+        store(size.map(|(n, m)| SizeFields { routers: n as u64, lists: u64::from(m) }), fields)
     }
 
     fn list(&mut self, plan: &[u8], list: usize, fields: &mut ListFields) -> u8 {
