@@ -11,6 +11,7 @@ mod oracle;
 pub use bench::plain::Plain;
 #[cfg(feature = "library")]
 pub use bench::timing::bench;
+pub use harness::cases::lines as case_lines;
 pub use harness::comparison::compare;
 pub use harness::generate::{deepest, largest, numbered};
 pub use harness::random::Random;

@@ -12,6 +12,7 @@ use std::time::Instant;
 const USAGE: &str = "\
 second --against library|plain [--seed S] [--first K] [--plans N]   compare a checker with the second one
 second self [--seed S] [--plans N]           test the second checker alone, and the comparison on known faults
+second cases                                 print the lines that the program `cases` is due to print
 second write FOLDER [--seed S] [--plans N]   write plans and the lines the verdict program is due to print
 second plan largest|deepest                  write the plan with the most bytes or the highest rank";
 
@@ -100,6 +101,7 @@ fn program() -> Result<bool, Box<dyn Error>> {
     match words[..] {
         [] => compare(&options),
         ["self"] => test_self(&options),
+        ["cases"] => write(second_checker::case_lines().as_bytes()),
         ["write", folder] => write_plans(folder, &options),
         ["plan", "largest"] => write(&second_checker::largest(&mut Random::new(options.seed)).bytes()),
         ["plan", "deepest"] => write(&second_checker::deepest().bytes()),

@@ -1,8 +1,9 @@
 //! What compares a checker with the oracle: plans, damage, arguments, calls and
-//! series; and faults that the comparison must find.
+//! series; faults that the comparison must find; and the lines of `cases`.
 
 pub mod arguments;
 mod call;
+pub mod cases;
 pub mod comparison;
 mod damage;
 pub mod draft;

@@ -10,7 +10,7 @@ use std::fmt::Debug;
 
 /// Two reflectors with a client each: `p` is the distance from 0 to 3, `q`
 /// the one from 1 to 2.
-fn draft(p: u16, q: u16, lists: &[&[usize]]) -> Draft {
+pub fn draft(p: u16, q: u16, lists: &[&[usize]]) -> Draft {
     let distances = [[0, 30, 10, p], [30, 0, q, 10], [30, 30, 0, 30], [30, 30, 30, 0]];
     Draft {
         reflector: vec![true, true, false, false],
@@ -85,7 +85,7 @@ fn runs() -> Result<(), String> {
 }
 
 /// A plan of reflectors without a session, router 0 alone listed.
-fn lone_reflectors(n: usize) -> Draft {
+pub fn lone_reflectors(n: usize) -> Draft {
     Draft {
         reflector: vec![true; n],
         identifiers: (0..n as u32).collect(),

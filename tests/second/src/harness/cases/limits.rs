@@ -1,0 +1,33 @@
+//! The limits of a plan: routers, distances, bytes.
+
+use super::line::line;
+use super::small;
+use crate::harness::generate;
+use crate::harness::random::Random;
+use crate::harness::small_plans::lone_reflectors;
+
+fn check(name: &str, plan: &[u8]) -> String {
+    line(name, plan, |line| line.check())
+}
+
+/// The small plan with this distance from 0 to 3; the one from 0 to 2 is 10.
+fn distance(name: &str, distance: u16) -> String {
+    let plan = small(distance, 14);
+    check(name, &plan) + &line("compared-to-10", &plan, |line| line.compare(0, 2, 3))
+}
+
+pub fn lines() -> Vec<String> {
+    let largest = generate::largest(&mut Random::new(0)).bytes();
+    let longer = [&largest[..], &[0]].concat();
+    vec![
+        check("n=1", &lone_reflectors(1).bytes()),
+        check("n=64", &lone_reflectors(64).bytes()),
+        check("n=65", &lone_reflectors(65).bytes()),
+        distance("distance-65534", 65_534),
+        distance("distance-65535", 65_535),
+        line("largest-bytes", &largest, |line| line.word(largest.len())),
+        check("largest", &largest),
+        line("largest-list-63", &largest, |line| line.list(63)),
+        check("largest-and-a-byte", &longer),
+    ]
+}
