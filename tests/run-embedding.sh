@@ -1,7 +1,7 @@
 #!/usr/bin/env bash
 # Builds the library for C and runs what embeds it: the header as C and as C++, the C example, the second checker held against the library, the program
 # that measures the stack.
-# Also holds the yardstick of the bench, the expected lines of `cases` and the verdict program against the second checker, and builds the bench.
+# Also holds the yardsticks of the bench, the expected lines of `cases` and the verdict program against the second checker, and builds the bench.
 # usage: tests/run-embedding.sh [SEED]        (needs rt, gcc, g++ and cargo)
 set -uo pipefail
 cd "$(dirname "$0")/.."
@@ -88,6 +88,7 @@ try "the C example's refusal" refuses_cut_plan
 try "the second checker alone" second self
 try "the library against the second checker" second --seed "$seed" --plans "$plans"
 try "the yardstick plain against the second checker" second --against plain --seed "$seed" --plans 2000
+try "the yardstick tight against the second checker" second --against tight --seed "$seed" --plans 2000
 try "the expected lines of cases from the second checker" writes crates/cases/stdout second cases
 try "the bench program" linked build --bin bench
 try "the stack program" gcc -std=gnu11 -Wall -Wextra -Werror -O2 -Iinclude tests/stack.c -L"$archive" -lrrp -o "$out/stack"

@@ -9,6 +9,7 @@ mod library;
 mod oracle;
 
 pub use bench::plain::Plain;
+pub use bench::tight::Tight;
 #[cfg(feature = "library")]
 pub use bench::timing::bench;
 pub use harness::cases::lines as case_lines;

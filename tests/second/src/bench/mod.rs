@@ -1,7 +1,8 @@
-//! The yardstick, and what times the library against it.
+//! The yardsticks, and what times the library against them.
 
 pub mod plain;
 #[cfg(feature = "library")]
 mod shapes;
+pub mod tight;
 #[cfg(feature = "library")]
 pub mod timing;

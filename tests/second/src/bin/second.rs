@@ -1,6 +1,6 @@
 //! Compares a checker of route-reflection plans with the second one.
 
-use second_checker::{self_test, small_plans, verdict_lines, Checker, Plain, Random};
+use second_checker::{self_test, small_plans, verdict_lines, Checker, Plain, Random, Tight};
 use std::env;
 use std::error::Error;
 use std::fs;
@@ -10,7 +10,7 @@ use std::process::ExitCode;
 use std::time::Instant;
 
 const USAGE: &str = "\
-second --against library|plain [--seed S] [--first K] [--plans N]   compare a checker with the second one
+second --against library|plain|tight [--seed S] [--first K] [--plans N]   compare a checker with the second one
 second self [--seed S] [--plans N]           test the second checker alone, and the comparison on known faults
 second cases                                 print the lines that the program `cases` is due to print
 second write FOLDER [--seed S] [--plans N]   write plans and the lines the verdict program is due to print
@@ -47,6 +47,7 @@ fn subject(name: &str) -> Result<Box<dyn Checker>, Box<dyn Error>> {
         #[cfg(feature = "library")]
         "library" => Ok(Box::new(second_checker::Library)),
         "plain" => Ok(Box::new(Plain)),
+        "tight" => Ok(Box::new(Tight)),
         _ => Err(format!("no checker {name} is built in").into()),
     }
 }

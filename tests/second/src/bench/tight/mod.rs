@@ -1,0 +1,126 @@
+//! The yardstick `tight`: straightforward array code written for speed. A plan is
+//! decoded once a call into a set of 64 bits a router, neighbours are found by
+//! their set bits, and routes are compared by one packed key.
+
+mod reader;
+mod rules;
+mod verdict;
+
+use crate::interface::{
+    store, Acts, Checker, Flag, ListFields, RunFields, SizeFields, VerdictBuffers, VerdictFields,
+};
+use reader::{check, read, Bodies};
+use rules::{key, Network};
+use std::iter;
+use verdict::verdict;
+
+const MOST: usize = 64;
+
+/// A distance, or an entry of a routing table: egress and sender.
+type Pair = [u8; 2];
+
+/// The entry that holds no route.
+const NONE: Pair = [255, 255];
+
+fn has(set: u64, router: usize) -> bool {
+    set >> router & 1 == 1
+}
+
+/// The routers of a set, lowest first.
+fn bits(mut set: u64) -> impl Iterator<Item = usize> {
+    iter::from_fn(move || {
+        let lowest = (set != 0).then(|| set.trailing_zeros() as usize)?;
+        set &= set - 1;
+        Some(lowest)
+    })
+}
+
+fn network(plan: &[u8], list: usize) -> Result<Network<'_>, u8> {
+    let (bodies, rows) = read(plan)?;
+    let listed = bodies.listed(list)?;
+    Ok(Network { bodies, rows, listed })
+}
+
+fn compare(plan: &[u8], router: usize, pair: (usize, usize)) -> Result<u8, u8> {
+    let plan = check(plan)?;
+    let distances = plan.distances_from(plan.router(router)?);
+    let [first, second] = [plan.router(pair.0)?, plan.router(pair.1)?].map(|egress| key(distances, egress));
+    Ok(u8::from(first < second) + 2 * u8::from(second < first))
+}
+
+fn relies(plan: &[u8], list: usize, pair: (usize, usize)) -> Result<u8, u8> {
+    let network = network(plan, list)?;
+    let (router, other) = (network.bodies.router(pair.0)?, network.bodies.router(pair.1)?);
+    let relied_on = network.relied_on(router, 1 << other, |reflector| network.offer(reflector));
+    Ok(u8::from(has(relied_on, other)))
+}
+
+fn activate(plan: &[u8], list: usize, router: usize, table: &mut [u8]) -> Result<(), u8> {
+    let network = network(plan, list)?;
+    let router = network.bodies.router(router)?;
+    let (table, _) = table.as_chunks_mut();
+    network.check_table(table)?;
+    network.activate(table, router);
+    Ok(())
+}
+
+fn run(plan: &[u8], list: usize, acts: Acts, table: &mut [u8]) -> Result<RunFields, u8> {
+    let network = network(plan, list)?;
+    let n = network.bodies.n;
+    if acts.sequence.iter().any(|&router| usize::from(router) >= n) {
+        return Err(8);
+    }
+    let (table, _) = table.as_chunks_mut();
+    network.check_table(table)?;
+    let length = acts.sequence.len() as u64;
+    let applied = length.min(acts.limit);
+    let everyone = u64::MAX >> (MOST - n);
+    let (mut awaited, mut rounds) = (everyone, 0);
+    for &router in &acts.sequence[..applied as usize] {
+        network.activate(table, usize::from(router));
+        awaited &= !(1 << router);
+        if awaited == 0 {
+            awaited = everyone;
+            rounds += 1;
+        }
+    }
+    Ok(RunFields { applied, rounds, exhausted: Flag::new(u8::from(length > acts.limit)) })
+}
+
+pub struct Tight;
+
+impl Checker for Tight {
+    fn check(&mut self, plan: &[u8]) -> u8 {
+        store(check(plan).map(|_| ()), &mut ())
+    }
+
+    fn size(&mut self, plan: &[u8], fields: &mut SizeFields) -> u8 {
+        let size = |plan: Bodies| SizeFields { routers: plan.n as u64, lists: u64::from(plan.list_count()) };
+        store(check(plan).map(size), fields)
+    }
+
+    fn list(&mut self, plan: &[u8], list: usize, fields: &mut ListFields) -> u8 {
+        let found = check(plan).and_then(|plan| plan.list(list));
+        store(found.map(|(start, count)| ListFields { start: start as u64, count: count as u64 }), fields)
+    }
+
+    fn compare(&mut self, plan: &[u8], router: usize, pair: (usize, usize), better: &mut u8) -> u8 {
+        store(compare(plan, router, pair), better)
+    }
+
+    fn relies(&mut self, plan: &[u8], list: usize, pair: (usize, usize), answer: &mut u8) -> u8 {
+        store(relies(plan, list, pair), answer)
+    }
+
+    fn verdict(&mut self, plan: &[u8], list: usize, lent: VerdictBuffers, fields: &mut VerdictFields) -> u8 {
+        store(network(plan, list).and_then(|network| verdict(&network, lent)), fields)
+    }
+
+    fn activate(&mut self, plan: &[u8], list: usize, router: usize, table: &mut [u8]) -> u8 {
+        store(activate(plan, list, router, table), &mut ())
+    }
+
+    fn run(&mut self, plan: &[u8], list: usize, acts: Acts, table: &mut [u8], fields: &mut RunFields) -> u8 {
+        store(run(plan, list, acts, table), fields)
+    }
+}

@@ -1,0 +1,164 @@
+//! Checks a plan in one pass, and decodes its sessions into sets of bits on the
+//! way; refusals 1 to 7.
+
+use super::{Pair, MOST};
+
+/// A plan found sound. Distances and lists stay as they are in its bytes.
+pub struct Bodies<'a> {
+    pub n: usize,
+    pub reflectors: u64,
+    distances: &'a [Pair],
+    lists: &'a [u8],
+    lists_at: usize,
+}
+
+/// Checks a plan.
+pub fn check(plan: &[u8]) -> Result<Bodies<'_>, u8> {
+    sound(plan, |_, _| ())
+}
+
+/// Checks a plan and decodes the neighbours of each router.
+pub fn read(plan: &[u8]) -> Result<(Bodies<'_>, [u64; MOST]), u8> {
+    let mut rows = [0; MOST];
+    let bodies = sound(plan, |u, v| {
+        rows[u] |= 1 << v;
+        rows[v] |= 1 << u;
+    })?;
+    Ok((bodies, rows))
+}
+
+fn sound(plan: &[u8], session: impl FnMut(usize, usize)) -> Result<Bodies<'_>, u8> {
+    if plan.len() < 26 || plan.len() > 16_731 || &plan[..4] != b"RRP1" || plan[5] != 4 {
+        return Err(1);
+    }
+    let n = usize::from(plan[4]);
+    if n == 0 || n > MOST {
+        return Err(2);
+    }
+    let [routers, sessions, distances, lists] = cut(plan, n)?;
+    let reflectors = read_routers(routers)?;
+    read_sessions(sessions.as_chunks().0, n, session)?;
+    let (distances, _) = distances.as_chunks();
+    check_distances(distances, n)?;
+    check_lists(lists, n)?;
+    Ok(Bodies { n, reflectors, distances, lists, lists_at: plan.len() - lists.len() })
+}
+
+/// Cuts a plan into its bodies by the table of contents.
+fn cut(plan: &[u8], n: usize) -> Result<[&[u8]; 4], u8> {
+    let mut bodies = [plan; 4];
+    let mut end = 26;
+    for (place, entry) in plan[6..26].as_chunks::<5>().0.iter().enumerate() {
+        let offset = usize::from(u16::from_le_bytes([entry[1], entry[2]]));
+        let start = end;
+        end += usize::from(u16::from_le_bytes([entry[3], entry[4]]));
+        if usize::from(entry[0]) != place + 1 || offset != start || end > plan.len() {
+            return Err(3);
+        }
+        bodies[place] = &plan[start..end];
+    }
+    let lengths = bodies.map(<[u8]>::len);
+    if end != plan.len() || lengths[0] != 5 * n || lengths[1] % 2 != 0 || lengths[2] != 2 * n * n {
+        return Err(3);
+    }
+    Ok(bodies)
+}
+
+fn read_routers(body: &[u8]) -> Result<u64, u8> {
+    let mut reflectors = 0;
+    let mut least = 0;
+    for (u, &[role, a, b, c, d]) in body.as_chunks().0.iter().enumerate() {
+        let identifier = u64::from(u32::from_le_bytes([a, b, c, d]));
+        if role == 0 || role > 2 || identifier < least {
+            return Err(4);
+        }
+        reflectors |= u64::from(role == 1) << u;
+        least = identifier + 1;
+    }
+    Ok(reflectors)
+}
+
+fn read_sessions(pairs: &[Pair], n: usize, mut session: impl FnMut(usize, usize)) -> Result<(), u8> {
+    let mut least = 0;
+    for &[u, v] in pairs {
+        let pair = u16::from_be_bytes([u, v]);
+        if usize::from(v) >= n || u >= v || pair < least {
+            return Err(5);
+        }
+        session(usize::from(u), usize::from(v));
+        least = pair + 1;
+    }
+    Ok(())
+}
+
+fn check_distances(distances: &[Pair], n: usize) -> Result<(), u8> {
+    for (u, row) in distances.chunks_exact(n).enumerate() {
+        if row[u] != [0, 0] || row.contains(&[255, 255]) {
+            return Err(6);
+        }
+    }
+    Ok(())
+}
+
+fn check_lists(body: &[u8], n: usize) -> Result<(), u8> {
+    let (&m, mut rest) = body.split_first().ok_or(7)?;
+    if m == 0 || m > 64 {
+        return Err(7);
+    }
+    for _ in 0..m {
+        let (&count, after) = rest.split_first().ok_or(7)?;
+        let count = usize::from(count);
+        if count == 0 || count > n || count > after.len() {
+            return Err(7);
+        }
+        let mut least = 0;
+        for &router in &after[..count] {
+            if router < least || usize::from(router) >= n {
+                return Err(7);
+            }
+            least = router + 1;
+        }
+        rest = &after[count..];
+    }
+    if rest.is_empty() {
+        Ok(())
+    } else {
+        Err(7)
+    }
+}
+
+impl Bodies<'_> {
+    pub fn list_count(&self) -> u8 {
+        self.lists[0]
+    }
+
+    /// Start in the plan and count of a list.
+    pub fn list(&self, list: usize) -> Result<(usize, usize), u8> {
+        if list >= usize::from(self.lists[0]) {
+            return Err(8);
+        }
+        let mut at = 1;
+        for _ in 0..list {
+            at += 1 + usize::from(self.lists[at]);
+        }
+        Ok((self.lists_at + at + 1, usize::from(self.lists[at])))
+    }
+
+    pub fn listed(&self, list: usize) -> Result<u64, u8> {
+        let (start, count) = self.list(list)?;
+        let numbers = &self.lists[start - self.lists_at..][..count];
+        Ok(numbers.iter().fold(0, |listed, &router| listed | 1 << router))
+    }
+
+    pub fn router(&self, router: usize) -> Result<usize, u8> {
+        if router < self.n {
+            Ok(router)
+        } else {
+            Err(8)
+        }
+    }
+
+    pub fn distances_from(&self, router: usize) -> &[Pair] {
+        &self.distances[self.n * router..][..self.n]
+    }
+}

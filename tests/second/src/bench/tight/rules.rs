@@ -1,0 +1,98 @@
+//! Choosing, advertising and reliance over sets of bits.
+
+use super::reader::Bodies;
+use super::{bits, has, Pair, MOST, NONE};
+
+/// A plan decoded, with the list asked for.
+pub struct Network<'a> {
+    pub bodies: Bodies<'a>,
+    /// The neighbours of each router.
+    pub rows: [u64; MOST],
+    pub listed: u64,
+}
+
+/// A route's key by distance and egress; the better route has the smaller.
+pub fn key(distances: &[Pair], egress: usize) -> u32 {
+    u32::from(u16::from_le_bytes(distances[egress])) << 8 | egress as u32
+}
+
+impl Network<'_> {
+    /// What a reflector offers: itself if listed, else its best client.
+    pub fn offer(&self, reflector: usize) -> Option<usize> {
+        if has(self.listed, reflector) {
+            return Some(reflector);
+        }
+        let distances = self.bodies.distances_from(reflector);
+        let clients = self.rows[reflector] & self.listed & !self.bodies.reflectors;
+        let best = bits(clients).map(|client| key(distances, client)).min();
+        best.map(|key| (key & 0xFF) as usize)
+    }
+
+    /// The routers of a set that a router relies on, and its best client.
+    pub fn relied_on(&self, router: usize, set: u64, offer: impl Fn(usize) -> Option<usize>) -> u64 {
+        let neighbours = self.rows[router] & set;
+        if has(self.listed, router) {
+            return 0;
+        }
+        if !has(self.bodies.reflectors, router) {
+            return neighbours & (self.bodies.reflectors | self.listed);
+        }
+        let distances = self.bodies.distances_from(router);
+        let own = offer(router);
+        let least = own.map_or(u32::MAX, |client| key(distances, client));
+        let mut relied_on = own.map_or(0, |client| 1 << client);
+        for reflector in bits(neighbours & self.bodies.reflectors) {
+            let better = offer(reflector).is_some_and(|egress| key(distances, egress) < least);
+            relied_on |= u64::from(better) << reflector;
+        }
+        relied_on
+    }
+
+    pub fn check_table(&self, table: &[Pair]) -> Result<(), u8> {
+        let n = self.bodies.n;
+        for (u, &entry) in table.get(..n).ok_or(9)?.iter().enumerate() {
+            let [egress, sender] = entry.map(usize::from);
+            let sound = if has(self.listed, u) {
+                egress == u && sender == u
+            } else {
+                entry == NONE || egress < n && sender < n && has(self.rows[u], sender)
+            };
+            if !sound {
+                return Err(10);
+            }
+        }
+        Ok(())
+    }
+
+    /// One activation. A route's key is its distance, its egress and its sender;
+    /// the egress as sender goes before all others.
+    pub fn activate(&self, table: &mut [Pair], router: usize) {
+        if has(self.listed, router) {
+            return;
+        }
+        let reflectors = self.bodies.reflectors;
+        let distances = self.bodies.distances_from(router);
+        let mut best = u32::MAX;
+        for from in bits(self.rows[router] & (self.listed | reflectors)) {
+            if table[from] == NONE {
+                continue;
+            }
+            let [egress, sender] = table[from].map(usize::from);
+            let withheld =
+                if has(reflectors, router) { sender != from && has(reflectors, sender) } else { sender == router };
+            let preference = if egress == from { 0 } else { from as u32 + 1 };
+            let key = key(distances, egress) << 8 | preference;
+            best = best.min(if withheld { u32::MAX } else { key });
+        }
+        table[router] = entry(best);
+    }
+}
+
+/// The entry of the route with this key.
+fn entry(key: u32) -> Pair {
+    match key.to_le_bytes() {
+        [255, ..] => NONE,
+        [0, egress, ..] => [egress, egress],
+        [preference, egress, ..] => [egress, preference - 1],
+    }
+}
