@@ -15,7 +15,7 @@ use Rattle.graph.specs.Closure.{closure, Agree, Irreflexive, Acyclic}
 use Rattle.graph.specs.Groups.{label, stable}
 use Rattle.ranking.specs.Rank.{entry, rank, highestRank}
 use Rattle.cycles.specs.Cycle.{cycle, CycleAsked}
-use Rattle.graph.proofs.Chains.{closure-cong, acyclic-cong}
+use Rattle.graph.proofs.Reaching.{closure-cong, acyclic-cong}
 use Rattle.graph.proofs.Sharing.{labels-cong, stable-cong, stable-acyclic}
 use Rattle.ranking.proofs.RankRule.{rank-cong, highest-rank-cong, rank-falls}
 use Rattle.cycles.proofs.Walking.{cycle-cong}

@@ -2,7 +2,7 @@
 use Prim.Native.Nat.{ℕ, zero, suc, _+_, _≤_, _<_}
 use native.Mathlib.Numerals.{add-one}
 use native.Mathlib.Omega.{arith}
-use mathlib.Core.Path.{_≡_, refl, _∙_, sym, ap}
+use mathlib.Core.Path.{_≡_, refl, _∙_, sym, ap, ap₂}
 use mathlib.Core.Bool.{Bool, true, false, not, _&&_, _||_, or-true}
 use mathlib.Core.Logic.{⊎-elim}
 use Rattle.base.specs.Below.{allBelow, anyBelow}
@@ -30,6 +30,11 @@ all-at p (suc n) h i l =
 pub all-intro : (p : ℕ → Bool) (n : ℕ) → ((i : ℕ) → i < n → p i ≡ true) → allBelow p n ≡ true
 all-intro p zero f = all-none p
 all-intro p (suc n) f = all-suc p n ∙ both _ _ (all-intro p n (λ i l. f i (omega arith))) (f n (omega arith))
+
+pub all-cong : (p q : ℕ → Bool) (n : ℕ) → ((i : ℕ) → i < n → p i ≡ q i) → allBelow p n ≡ allBelow q n
+all-cong p q zero h = all-none p ∙ sym (all-none q)
+all-cong p q (suc n) h =
+    all-suc p n ∙ ap₂ _&&_ (all-cong p q n (λ i l. h i (omega arith))) (h n (omega arith)) ∙ sym (all-suc q n)
 
 pub all-fail : (p : ℕ → Bool) (n i : ℕ) → i < n → p i ≡ false → allBelow p n ≡ false
 all-fail p n i l q = go (allBelow p n) refl

@@ -9,7 +9,7 @@ use lib.Dec.{eqb}
 use Rattle.base.specs.Seek.{flag}
 use Rattle.base.specs.Bits.{bits}
 use Rattle.graph.specs.Groups.{together}
-use Rattle.graph.proofs.BitGroups.{together-two}
+use Rattle.graph.proofs.RowGroups.{together-two}
 
 module _ (closed : List ℕ) (i j : ℕ) where
   pub apart-self : i ≡ j → 0 ≡ min (flag (not (eqb i j))) (together (bits closed) i j)

@@ -13,7 +13,7 @@ use Rattle.base.proofs.Numbers.{eq-or-ne, lt-or-le, not-both}
 use Rattle.graph.specs.Closure.{Relation, closure, Chain, step, more, Agree}
 use Rattle.graph.specs.Groups.{together, stable, grouped}
 use Rattle.cycles.specs.Cycle.{start, next, walk, trail, same, second, first, lap, cycleIn, cycle, IsCycle}
-use Rattle.graph.proofs.Chains.{closure-is, closure-related, closure-trans, closure-cong}
+use Rattle.graph.proofs.Reaching.{closure-is, closure-related, closure-trans, closure-cong}
 use Rattle.graph.proofs.Sharing.{together-cases, together-self, together-both, together-sym, together-trans, stable-groups, Other, grouped-other, grouped-by, together-cong, grouped-cong}
 
 -- a relation that is not stable has a router in a group of two or more

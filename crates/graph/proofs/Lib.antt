@@ -1,4 +1,4 @@
-pub mod Chains
+pub mod Reaching
 pub mod Sharing
-pub mod BitClosure
-pub mod BitGroups
+pub mod RowClosure
+pub mod RowGroups

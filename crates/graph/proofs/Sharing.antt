@@ -1,8 +1,8 @@
 -- Groups: sharing one is an equivalence, the label is the lowest of a group, and what stable means.
-use Prim.Native.Nat.{ℕ, zero, suc, _≤_, _<_, min, max}
+use Prim.Native.Nat.{ℕ, _≤_, _<_, min, max}
 use native.Mathlib.Omega.{arith}
-use mathlib.Core.Path.{_≡_, refl, _∙_, sym, ap, ap₂}
-use mathlib.Core.Bool.{Bool, true, not, _&&_}
+use mathlib.Core.Path.{_≡_, refl, sym, ap, ap₂}
+use mathlib.Core.Bool.{true, not}
 use mathlib.Core.Logic.{_⊎_, inl, inr, ⊎-elim, _↔_}
 use lib.Dec.{eqb}
 use borrow.Author.Tests.{eqb-true, eq-eqb, ne-eqb}
@@ -10,12 +10,12 @@ use Rattle.base.specs.Below.{allBelow}
 use Rattle.base.specs.Seek.{flag, seek}
 use Rattle.base.specs.Tab.{tab}
 use Rattle.base.proofs.Tab.{tab-cong}
-use Rattle.base.proofs.Below.{all-at, all-intro, all-none, all-suc}
+use Rattle.base.proofs.Below.{all-at, all-intro, all-cong}
 use Rattle.base.proofs.Seek.{flag-same, flag-one, seek-found, seek-cong, Top, highest-top, highest-over, highest-cong}
 use Rattle.base.proofs.Numbers.{lt-or-le}
 use Rattle.graph.specs.Closure.{Relation, closure, Chain, step, more, Agree, Irreflexive, Acyclic}
 use Rattle.graph.specs.Groups.{together, label, stable, grouped}
-use Rattle.graph.proofs.Chains.{closure-is, closure-related, closure-trans}
+use Rattle.graph.proofs.Reaching.{closure-is, closure-related, closure-trans}
 
 -- another router in the group of i
 pub record Other (C : Relation) (n i : ℕ) : Type 0 where
@@ -94,11 +94,6 @@ module _ (C : Relation) where
   grouped-by n i j l e h =
       let z : flag (not (eqb i j)) ≡ 1 = rw (ne-eqb i j e) in
       omega (arith, highest-over (λ k. min (flag (not (eqb i k))) (together C i k)) n j l)
-
-all-cong : (p q : ℕ → Bool) (n : ℕ) → ((i : ℕ) → i < n → p i ≡ q i) → allBelow p n ≡ allBelow q n
-all-cong p q zero h = all-none p ∙ sym (all-none q)
-all-cong p q (suc n) h =
-    all-suc p n ∙ ap₂ _&&_ (all-cong p q n (λ i l. h i (omega arith))) (h n (omega arith)) ∙ sym (all-suc q n)
 
 -- the same of the closure of a relation
 module _ (R : Relation) (n : ℕ) where

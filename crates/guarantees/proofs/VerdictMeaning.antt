@@ -10,7 +10,7 @@ use Rattle.base.proofs.Seek.{highest-over}
 use Rattle.contents.specs.Header.{routerCount}
 use Rattle.graph.specs.Closure.{closure, Irreflexive, Acyclic}
 use Rattle.graph.specs.Groups.{together}
-use Rattle.graph.proofs.Chains.{closure-is}
+use Rattle.graph.proofs.Reaching.{closure-is}
 use Rattle.graph.proofs.Sharing.{together-cases, together-self, together-both, label-upto, label-shares, label-lowest, stable-groups, stable-chains, stable-acyclic}
 use Rattle.ranking.proofs.RankRule.{Below, rank-none, rank-falls, rank-top}
 use Rattle.cycles.proofs.Walking.{cycle-is}

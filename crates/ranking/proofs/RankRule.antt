@@ -9,7 +9,7 @@ use Rattle.base.proofs.Seek.{highest-cong, highest-over, highest-under, Top, hi
 use Rattle.graph.specs.Closure.{Relation, closure, Agree, Acyclic}
 use Rattle.ranking.specs.Rank.{onTop, rankOver, entry, rankRounds, rank, highestRank}
 use Rattle.ranking.specs.Search.{reached}
-use Rattle.graph.proofs.Chains.{closure-related, closure-trans}
+use Rattle.graph.proofs.Reaching.{closure-related, closure-trans}
 
 -- a router that is related counts one more than its rank; one that is not counts nothing
 pub on-top : (x r : ℕ) → 1 ≤ x → onTop x r ≡ suc r

@@ -3,7 +3,7 @@ use Prim.Native.Nat.{_-_, _≤_}
 use borrow.Author.Needs.{needs}
 use Rattle.base.specs.Bits.{bits}
 use Rattle.graph.specs.Closure.{Agree, cell, closing}
-use Rattle.graph.proofs.BitClosure.{closing-start, closing-more, closing-done}
+use Rattle.graph.proofs.RowClosure.{closing-start, closing-more, closing-done}
 use Rattle.graph.proofs.closing.close.Statement.{statement}
 use Rattle.graph.proofs.closing.close.Tie as tie
 

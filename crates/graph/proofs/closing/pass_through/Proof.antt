@@ -2,7 +2,7 @@
 use Prim.Native.Nat.{_-_}
 use mathlib.Core.Path.{sym, _∙_}
 use borrow.Author.Needs.{needs}
-use Rattle.graph.proofs.BitClosure.{Passed, passed-start, passed-more, passed-kept, passed-done}
+use Rattle.graph.proofs.RowClosure.{Passed, passed-start, passed-more, passed-kept, passed-done}
 use Rattle.graph.proofs.closing.pass_through.Statement.{statement}
 use Rattle.graph.proofs.closing.pass_through.Tie as tie
 

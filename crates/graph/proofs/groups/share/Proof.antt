@@ -1,7 +1,7 @@
 -- `graph::groups::share`: each answer is what `together` computes to for bits.
 use mathlib.Core.Path.{_∙_, sym}
 use borrow.Author.Needs.{needs}
-use Rattle.graph.proofs.BitGroups.{share-self, share-none, share-back}
+use Rattle.graph.proofs.RowGroups.{share-self, share-none, share-back}
 use Rattle.graph.proofs.groups.share.Statement.{statement}
 use Rattle.graph.proofs.groups.share.Tie as tie
 

@@ -12,7 +12,7 @@ use Rattle.base.specs.Bits.{bitN, bits}
 use Rattle.base.proofs.BitLaws.{bit-or, bit-in}
 use Rattle.base.proofs.Numbers.{eq-or-ne}
 use Rattle.graph.specs.Closure.{Relation, Agree, through, cell, closing, closure}
-use Rattle.graph.proofs.Chains.{stage-none, stage-more}
+use Rattle.graph.proofs.Reaching.{stage-none, stage-more}
 
 -- the rows below i have what they reach through k, and the others are as they were
 pub record Passed (n k : ℕ) (rows₀ rows : List ℕ) (i : ℕ) : Type 0 where
