@@ -18,5 +18,8 @@ module _ (closed : List ℕ) (i j : ℕ) where
   pub apart-other : (i ≡ j → ⊥) → together (bits closed) i j ≡ min (flag (not (eqb i j))) (together (bits closed) i j)
   apart-other e = let z : flag (not (eqb i j)) ≡ 1 = rw (ne-eqb i j e) in omega (arith, together-two closed i j)
 
+  pub within-none : (x : ℕ) → x ≡ 0 → 0 ≡ min x (together (bits closed) i j)
+  within-none x e = omega arith
+
   pub within-some : (x : ℕ) → (x ≡ 0 → ⊥) → together (bits closed) i j ≡ min x (together (bits closed) i j)
   within-some x e = omega (arith, together-two closed i j)

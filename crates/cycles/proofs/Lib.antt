@@ -1,3 +1,4 @@
+pub mod Examples
 pub mod Walking
 pub mod InGroup
 pub mod Following

@@ -1,2 +1,3 @@
+pub mod Examples
 pub mod RankRule
 pub mod RankBuffer

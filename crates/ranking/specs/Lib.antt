@@ -1,2 +1,3 @@
 pub mod Rank
 pub mod Search
+pub mod Examples

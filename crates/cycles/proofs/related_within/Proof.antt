@@ -1,7 +1,7 @@
 -- `cycles::related_within`: by whether the two are related.
-use mathlib.Core.Path.{_∙_}
+use mathlib.Core.Path.{_∙_, sym}
 use borrow.Author.Needs.{needs}
-use Rattle.cycles.proofs.InGroup.{within-some}
+use Rattle.cycles.proofs.InGroup.{within-none, within-some}
 use Rattle.cycles.proofs.related_within.Statement.{statement}
 use Rattle.cycles.proofs.related_within.Tie as tie
 
@@ -15,7 +15,9 @@ bit-requires : tie.Need-bit-requires
 bit-requires c κs = search needs
 
 returns : tie.Need-returns
-returns c = search needs
+returns c =
+    let a = c .before .before .before .args in
+    within-none (a .closed .now) (a .w) (a .v) _ (sym (c .before .bit .ensures) ∙ c .if1 .taken)
 
 share-requires : tie.Need-share-requires
 share-requires c κs = search needs

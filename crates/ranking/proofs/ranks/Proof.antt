@@ -19,7 +19,8 @@ forget-requires c κs = search needs
 loop-holds : tie.Need-loop-holds Inv-loop μ-loop
 loop-holds c =
     let f = c .before .before in
-    ranks-start _ _ _ _ (f .before .before .before .pre) (f .forget .kept .0) (f .forget .ensures)
+    let e = f .before .before .before in
+    ranks-start _ _ (e .args .out .now) _ (e .pre) (f .forget .kept .0) (f .forget .ensures)
 
 rank-of-requires : tie.Need-rank-of-requires Inv-loop μ-loop
 rank-of-requires c κs = ranks-asks _ _ _ _ _ _ (c .before .before .loop .inv) (c .before .loop-test .taken)

@@ -59,7 +59,7 @@ loop-again-2 c =
     passed-kept _ _ _ _ (u .loop .i) (search needs) (u .loop .inv) (λ e. c .if1 .left (c .before .bit .ensures ∙ e))
 
 returns : tie.Need-returns Inv-loop μ-loop
-returns c = passed-done _ _ _ _ (c .before .loop .i) (c .loop-test .left) (c .before .loop .inv)
+returns c = passed-done (c .before .before .before .args .n) _ _ _ (c .before .loop .i) (c .loop-test .left) (c .before .loop .inv)
 
 pub pass-through-spec : {M : Type 1} → statement M
 pass-through-spec =

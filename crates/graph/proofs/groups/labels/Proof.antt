@@ -27,7 +27,7 @@ cast-out c =
     omega (arith, label-upto (bits (u .before .before .args .closed .now)) (u .loop .i), c .label-of .ensures)
 
 slice-write-out : tie.Need-slice-write-out Inv-loop μ-loop
-slice-write-out c = write-room _ _ _ _ _ (c .before .before .loop .inv) (c .before .loop-test .taken)
+slice-write-out c = omega (arith, write-room _ _ _ _ _ (c .before .before .loop .inv) (c .before .loop-test .taken))
 
 add-i : tie.Need-add-i Inv-loop μ-loop
 add-i c = search needs
