@@ -1,3 +1,4 @@
 pub mod VerdictMeaning
 pub mod Series
+pub mod Questions
 pub mod SmallPlans
