@@ -2,3 +2,4 @@ pub mod VerdictMeaning
 pub mod Series
 pub mod Questions
 pub mod SmallPlans
+pub mod TellingExamples
