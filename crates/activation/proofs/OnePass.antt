@@ -18,7 +18,7 @@ use Rattle.routing.specs.RouterBytes.{RouterBelow}
 use Rattle.activation.specs.OnePass.{toldBy, keepRoute, keepHeard, kept, keptHeard}
 use Rattle.activation.proofs.TableBytes.{read-via}
 use Rattle.routing.proofs.Preference.{prefers-order}
-use Rattle.routing.proofs.Activation.{isRouter-same, isRouter-some, ChoiceIs, choice-unique, choose-is, advertises-listed, advertises-client, advertises-reflector}
+use Rattle.routing.proofs.Routes.{isRouter-same, isRouter-some, ChoiceIs, choice-unique, choose-is, advertises-listed, advertises-client, advertises-reflector}
 
 -- a router is not none
 router-not-none : {A : Type 0} (o : Option ℕ) (e : ℕ) → o ≡ some e → o ≡ none → A

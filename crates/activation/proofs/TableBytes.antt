@@ -20,7 +20,7 @@ use Rattle.routing.specs.Preference.{prefers}
 use Rattle.routing.specs.Rounds.{ActsBelow}
 use Rattle.activation.specs.TableBytes.{readRoute, egressByte, senderByte, RouteBelow, routeAt, putRoute, tableOf, tableBytes, TableIn, RoutesIn, activateBytes, runBytes}
 use Rattle.routing.proofs.Preference.{prefers-order}
-use Rattle.routing.proofs.Activation.{ChoiceIs, choice-unique, choose-listed, choose-is, activate-length, activate-own, activate-other, activate-ok}
+use Rattle.routing.proofs.Routes.{ChoiceIs, choice-unique, choose-listed, choose-is, activate-length, activate-own, activate-other, activate-ok}
 
 -- two bytes as a route, and back
 pub read-nothing : readRoute 255 255 ≡ nothing

@@ -18,7 +18,7 @@ use Rattle.plan.proofs.Cascade.{refuse-passed, refuse-true, plan-passes, plan-o
 use Rattle.plan.proofs.Passed.{passed}
 use Rattle.routing.specs.Instance.{Instance, Route}
 use Rattle.routing.specs.Activation.{tableOk, activate, runActs}
-use Rattle.routing.proofs.Activation.{activate-ok}
+use Rattle.routing.proofs.Routes.{activate-ok}
 use Rattle.routing.specs.Rounds.{ActsBelow}
 use Rattle.settling.specs.Settled.{settledTable}
 use Rattle.settling.specs.Claims.{IsTable, Steady}

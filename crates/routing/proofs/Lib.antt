@@ -1,5 +1,5 @@
 pub mod Preference
-pub mod Activation
+pub mod Routes
 pub mod Rounds
 pub mod Reliance
 pub mod RouterBytes

@@ -11,7 +11,7 @@ use Rattle.routing.specs.Reliance.{listedClientOf, bestClient}
 use Rattle.routing.specs.Activation.{advertises, hears, choose}
 use Rattle.routing.proofs.Preference.{prefers-order}
 use Rattle.routing.proofs.Reliance.{bestClient-is, client-neighbour, client-listed, client-intro}
-use Rattle.routing.proofs.Activation.{advertises-listed, advertises-client, hears-neighbour, hears-told, hears-intro, IsChoice, choose-is}
+use Rattle.routing.proofs.Routes.{advertises-listed, advertises-client, hears-neighbour, hears-told, hears-intro, IsChoice, choose-is}
 
 -- where v is an unlisted reflector that holds e from a client, e is its best client
 abbrev pub CleanEntry : Instance → ℕ → Route → Type 0

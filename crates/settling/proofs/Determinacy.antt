@@ -13,8 +13,8 @@ use Rattle.routing.specs.Reliance.{listedClientOf, bestClient, offer, betterOff
 use Rattle.routing.specs.Activation.{advertises, hears, choose}
 use Rattle.routing.proofs.Preference.{prefers-order}
 use Rattle.routing.proofs.Reliance.{bestClient-is, client-neighbour, client-listed, offer-unlisted, relies-client, relies-offer}
-use Rattle.routing.proofs.Activation.{advertises-listed, advertises-client, advertises-reflector, FromClient, reflects-client}
-use Rattle.routing.proofs.Activation.{hears-neighbour, hears-told, hears-intro, IsChoice, ChoiceIs, choice-unique, choose-listed, choose-is}
+use Rattle.routing.proofs.Routes.{advertises-listed, advertises-client, advertises-reflector, FromClient, reflects-client}
+use Rattle.routing.proofs.Routes.{hears-neighbour, hears-told, hears-intro, IsChoice, ChoiceIs, choice-unique, choose-listed, choose-is}
 use Rattle.settling.proofs.Clean.{CleanEntry, hears-listed}
 
 -- an anchor exists, and f is not preferred to it

@@ -13,7 +13,7 @@ use Rattle.base.proofs.Tab.{length-tab, getD-tab}
 use Rattle.routing.specs.Instance.{Instance, Route, nothing}
 use Rattle.routing.specs.Reliance.{relies}
 use Rattle.routing.specs.Activation.{choose, held, entryOk, tableOk, activate, runActs}
-use Rattle.routing.proofs.Activation.{choose-ok, activate-own, activate-none}
+use Rattle.routing.proofs.Routes.{choose-ok, activate-own, activate-none}
 use Rattle.settling.specs.Settled.{chooseAll, chosenAfter, settledTable}
 use Rattle.settling.specs.Claims.{Ranked, IsTable, Steady}
 use Rattle.settling.proofs.Clean.{CleanEntry, choose-clean}

@@ -12,7 +12,7 @@ use Rattle.base.proofs.Numbers.{eq-or-ne, not-both}
 use Rattle.routing.specs.Instance.{Instance, Route, nothing}
 use Rattle.routing.specs.Activation.{choose, held, activate, runActs}
 use Rattle.routing.specs.Rounds.{acted, roundsFrom, rounds}
-use Rattle.routing.proofs.Activation.{activate-length, activate-own, activate-other, run-length, run-append}
+use Rattle.routing.proofs.Routes.{activate-length, activate-own, activate-other, run-length, run-append}
 use Rattle.routing.proofs.Rounds.{acted-none, acted-before, rounds-end, rounds-on, rounds-done}
 use Rattle.settling.specs.Settled.{settledTable}
 use Rattle.settling.specs.Claims.{Ranked, IsTable, SettlesInTime}

@@ -9,7 +9,7 @@ use lib.Seq.{ext-getD}
 use Rattle.base.proofs.Numbers.{eq-or-ne}
 use Rattle.routing.specs.Instance.{Instance, Route, nothing, Route-discrete}
 use Rattle.routing.specs.Activation.{choose, held, activate}
-use Rattle.routing.proofs.Activation.{activate-own}
+use Rattle.routing.proofs.Routes.{activate-own}
 use Rattle.settling.specs.Settled.{settledTable}
 use Rattle.settling.specs.Claims.{Ranked, IsTable, Steady, OneSteadyTable}
 use Rattle.settling.proofs.Clean.{CleanEntry, choose-clean}

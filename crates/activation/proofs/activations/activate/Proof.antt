@@ -5,7 +5,7 @@ use borrow.Author.Tests.{eqb-true}
 use Rattle.routing.specs.Instance.{Instance}
 use Rattle.network.specs.Decoded.{decoded}
 use Rattle.activation.specs.TableBytes.{RoutesIn, routeAt, putRoute, activateBytes}
-use Rattle.routing.proofs.Activation.{choose-listed}
+use Rattle.routing.proofs.Routes.{choose-listed}
 use Rattle.activation.proofs.TableBytes.{read-via, table-below}
 use Rattle.activation.proofs.OnePass.{heard-choice}
 use Rattle.activation.proofs.activations.activate.Statement.{statement}

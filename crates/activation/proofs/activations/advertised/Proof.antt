@@ -2,7 +2,7 @@ use native.Mathlib.Omega.{arith}
 use mathlib.Core.Path.{refl, _∙_, sym}
 use borrow.Author.Needs.{needs}
 use Rattle.network.specs.Decoded.{decoded}
-use Rattle.routing.proofs.Activation.{advertises-listed, advertises-client, advertises-reflector}
+use Rattle.routing.proofs.Routes.{advertises-listed, advertises-client, advertises-reflector}
 use Rattle.routing.proofs.RouterBytes.{router-none, router-some}
 use Rattle.activation.proofs.activations.advertised.Statement.{statement}
 use Rattle.activation.proofs.activations.advertised.Tie as tie
