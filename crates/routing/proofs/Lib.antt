@@ -1,3 +1,4 @@
+pub mod Examples
 pub mod Preference
 pub mod Routes
 pub mod Rounds

@@ -4,3 +4,4 @@ pub mod Activation
 pub mod Rounds
 pub mod Reliance
 pub mod RouterBytes
+pub mod Examples

@@ -1,0 +1,67 @@
+-- The examples, worked out from the rules.
+use mathlib.Core.Path.{refl}
+use Rattle.base.specs.Below.{allBelow, anyBelow}
+use Rattle.base.specs.Best.{keepBest, best}
+use Rattle.routing.specs.Preference.{prefers}
+use Rattle.routing.specs.Activation.{reflects, advertises, hears, senderOf, routeTo, choice, choose, entryOk, tableOk, activate, runActs}
+use Rattle.routing.specs.Rounds.{acted, roundsFrom, rounds, tallyAct, tallyActs}
+use Rattle.routing.specs.Reliance.{listedClientOf, bestClient, offer, betterOffer, relies}
+use Rattle.routing.specs.RouterBytes.{asRouter}
+use Rattle.routing.specs.Examples.{among, neighbours, distances, six, start, RoutingExamples}
+
+pub routing-examples : RoutingExamples
+unfolding
+    among neighbours distances six start
+    prefers reflects advertises hears senderOf routeTo choice choose entryOk tableOk activate runActs
+    acted roundsFrom rounds tallyAct tallyActs listedClientOf bestClient offer betterOffer relies asRouter
+    allBelow anyBelow keepBest best
+routing-examples =
+    record {
+      nearerIsPreferred = refl;
+      fartherIsNot = refl;
+      distancesAsTheyAre = refl;
+      tieToTheLower = refl;
+      tieNotToTheHigher = refl;
+      notBackToItsClient = refl;
+      clientsRouteToAReflector = refl;
+      notFromAThird = refl;
+      reflectorsRouteToAClient = refl;
+      listedAnnouncesItself = refl;
+      clientAnnouncesNothing = refl;
+      notFromAStranger = refl;
+      egressItselfIsTheSender = refl;
+      lowestIsTheSender = refl;
+      listedHoldsItsOwn = refl;
+      bestIsHeld = refl;
+      nothingIsHeld = refl;
+      neighbourAsSender = refl;
+      strangerAsSender = refl;
+      egressAtN = refl;
+      listedFromAnother = refl;
+      listedWithNothing = refl;
+      everyEntry = refl;
+      actChangesItsEntry = refl;
+      actsInOrder = refl;
+      roundStartsAnew = refl;
+      everyRouterActs = refl;
+      twoRounds = refl;
+      tallyOfEveryRouter = refl;
+      tallyOfTwoRounds = refl;
+      bestByItsOwnDistances = refl;
+      reflectorIsNoClient = refl;
+      listedOffersItself = refl;
+      unlistedOffersItsClient = refl;
+      sharedClientIsNotBetter = refl;
+      anyOfferIsBetter = refl;
+      rule1 = refl;
+      rule2Reflector = refl;
+      rule2ListedClient = refl;
+      rule2UnlistedClient = refl;
+      rule3BestClient = refl;
+      rule3Tie = refl;
+      rule3SharedClient = refl;
+      rule3OfferByItsOwnDistances = refl;
+      rule3ListedReflector = refl;
+      noRouter = refl;
+      lastRouterByte = refl;
+    }

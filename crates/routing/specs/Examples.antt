@@ -1,0 +1,142 @@
+-- Examples that tell each rule of document 01 from a misreading of it, over one network given by literal lists. Beside each stands
+-- what a misreading gives.
+use Prim.Native.Nat.{ℕ}
+use mathlib.Core.Path.{_≡_}
+use mathlib.Core.Bool.{Bool, true, false, _||_}
+use mathlib.Core.Option.{none, some}
+use mathlib.Core.List.{List, [], _∷_}
+use lib.Dec.{eqb}
+use lib.ListN.{getD}
+use Rattle.routing.specs.Instance.{Instance, Route, nothing, via}
+use Rattle.routing.specs.Preference.{prefers}
+use Rattle.routing.specs.Activation.{reflects, advertises, hears, senderOf, choose, held, entryOk, tableOk, activate, runActs}
+use Rattle.routing.specs.Rounds.{rounds, freshTally, tallyActs}
+use Rattle.routing.specs.Reliance.{bestClient, offer, betterOffer, relies}
+use Rattle.routing.specs.RouterBytes.{asRouter}
+
+-- v is one of the numbers
+unfoldable pub among : List ℕ → ℕ → Bool
+among [] v = false
+among (x ∷ numbers) v = eqb x v || among numbers v
+
+-- the neighbours of each router
+unfoldable pub neighbours : List (List ℕ)
+neighbours =
+    (1 ∷ 2 ∷ 3 ∷ [])
+    ∷ (0 ∷ 2 ∷ 4 ∷ 5 ∷ [])
+    ∷ (0 ∷ 1 ∷ 4 ∷ [])
+    ∷ (0 ∷ 5 ∷ [])
+    ∷ (1 ∷ 2 ∷ [])
+    ∷ (1 ∷ 3 ∷ [])
+    ∷ []
+
+-- the distances from each router
+unfoldable pub distances : List (List ℕ)
+distances =
+    (0 ∷ 30 ∷ 30 ∷ 19 ∷ 11 ∷ 258 ∷ [])
+    ∷ (30 ∷ 0 ∷ 30 ∷ 20 ∷ 20 ∷ 10 ∷ [])
+    ∷ (30 ∷ 30 ∷ 0 ∷ 7 ∷ 9 ∷ 30 ∷ [])
+    ∷ (30 ∷ 30 ∷ 30 ∷ 0 ∷ 30 ∷ 30 ∷ [])
+    ∷ (30 ∷ 30 ∷ 30 ∷ 30 ∷ 0 ∷ 30 ∷ [])
+    ∷ (30 ∷ 30 ∷ 30 ∷ 30 ∷ 30 ∷ 0 ∷ [])
+    ∷ []
+
+-- reflectors 0, 1, 2 and clients 3, 4, 5, with the given routers listed
+unfoldable pub six : (listed : List ℕ) → Instance
+six listed =
+    record {
+      n = 6;
+      reflector = among (0 ∷ 1 ∷ 2 ∷ []);
+      neighbour = λ w v. among (getD neighbours w []) v;
+      dist = λ w e. getD (getD distances w []) e 0;
+      listed = among listed;
+    }
+
+-- its lists
+abbrev pub clients34 : Instance
+clients34 = six (3 ∷ 4 ∷ [])
+
+abbrev pub clients345 : Instance
+clients345 = six (3 ∷ 4 ∷ 5 ∷ [])
+
+abbrev pub reflector1And34 : Instance
+reflector1And34 = six (1 ∷ 3 ∷ 4 ∷ [])
+
+abbrev pub client4 : Instance
+client4 = six (4 ∷ [])
+
+abbrev pub reflector0 : Instance
+reflector0 = six (0 ∷ [])
+
+-- a table where client 4 is listed: reflectors 1 and 2 hold its route, and client 3 holds it from 5
+unfoldable pub start : List Route
+start = nothing ∷ via 4 4 ∷ via 4 4 ∷ via 4 5 ∷ via 4 4 ∷ nothing ∷ []
+
+pub record RoutingExamples : Type 0 where
+  -- "At router w, route e is better than f if w's distance to e is smaller, or equal and e's number lower."
+  pub nearerIsPreferred : prefers clients34 1 5 4 ≡ true  -- by the number alone: false
+  pub fartherIsNot : prefers clients34 1 4 5 ≡ false  -- by the number alone: true
+  pub distancesAsTheyAre : prefers clients34 0 3 4 ≡ false  -- in tens, where 19 and 11 are equal: true
+  pub tieToTheLower : prefers clients34 1 3 4 ≡ true  -- a tie as no preference: false
+  pub tieNotToTheHigher : prefers clients34 1 4 3 ≡ false  -- a tie as either: true
+  -- "one heard from a client to all neighbours but that client"
+  pub notBackToItsClient : reflects client4 (via 4 5) 5 ≡ none  -- to that client too: some 4
+  pub clientsRouteToAReflector : reflects client4 (via 4 5) 0 ≡ some 4  -- to clients only: none
+  -- "one heard from a reflector to its clients only"
+  pub notFromAThird : reflects client4 (via 4 2) 0 ≡ none  -- to all neighbours: some 4
+  pub reflectorsRouteToAClient : reflects client4 (via 4 2) 5 ≡ some 4  -- to no one: none
+  -- "A listed router holds its own route always and announces it to every neighbour. An unlisted client announces nothing."
+  pub listedAnnouncesItself : advertises reflector1And34 1 (via 1 1) 0 ≡ some 1  -- as one heard from a reflector: none
+  pub clientAnnouncesNothing : advertises client4 5 (via 4 3) 1 ≡ none  -- as a reflector does: some 4
+  -- "announced to it": a neighbour's alone
+  pub notFromAStranger : hears client4 (held start) 0 4 4 ≡ false  -- from any router: true
+  -- "the egress router itself is the sender if it is one of them, else the lowest number"
+  pub egressItselfIsTheSender : senderOf (λ v e. among (1 ∷ 2 ∷ 4 ∷ []) v) 6 4 ≡ some 4  -- the lowest always: some 1
+  pub lowestIsTheSender : senderOf (λ v e. among (1 ∷ 2 ∷ []) v) 6 4 ≡ some 1  -- the highest: some 2
+  -- "An act of a listed router leaves its own route. An act of another leaves the best route announced to it, or nothing if there is
+  -- none."
+  pub listedHoldsItsOwn : choose reflector1And34 1 (held start) ≡ via 1 1  -- as another does: via 4 4
+  pub bestIsHeld : choose clients345 1 (held start) ≡ via 5 5  -- the lowest number: via 4 4
+  pub nothingIsHeld : choose client4 3 (held start) ≡ nothing  -- what it held: via 4 5
+  -- "A listed router's entry names itself twice. Any other entry is 255 255, or an egress below n with a neighbour as sender."
+  pub neighbourAsSender : entryOk client4 0 (via 5 1) ≡ true  -- with a listed egress only: false
+  pub strangerAsSender : entryOk client4 0 (via 4 5) ≡ false  -- with any router below n: true
+  pub egressAtN : entryOk client4 0 (via 6 1) ≡ false  -- with an egress at most n: true
+  pub listedFromAnother : entryOk client4 4 (via 4 1) ≡ false  -- as another router's: true
+  pub listedWithNothing : entryOk client4 4 nothing ≡ false  -- as another router's: true
+  pub everyEntry : tableOk client4 (nothing ∷ nothing ∷ nothing ∷ via 4 4 ∷ via 4 4 ∷ nothing ∷ []) ≡ false  -- without 3's: true
+  -- "An act changes no entry but that of the router that acts": the last here, and neither another nor none
+  pub actChangesItsEntry : activate client4 5 start ≡ nothing ∷ via 4 4 ∷ via 4 4 ∷ via 4 5 ∷ via 4 4 ∷ via 4 1 ∷ []
+  -- "A run applies a sequence of acts": 0 acts, and then 3, which hears from 0; in the other order 3 holds nothing
+  pub actsInOrder : runActs client4 start (0 ∷ 3 ∷ []) ≡ via 4 1 ∷ via 4 4 ∷ via 4 4 ∷ via 4 0 ∷ via 4 4 ∷ nothing ∷ []
+  -- "A round ends at the first act by which every router has acted since the round before ended."
+  pub roundStartsAnew : rounds 3 (0 ∷ 1 ∷ 2 ∷ 2 ∷ []) ≡ 1  -- since the start: 2
+  pub everyRouterActs : rounds 3 (0 ∷ 1 ∷ 1 ∷ 0 ∷ []) ≡ 0  -- by three acts: 1
+  pub twoRounds : rounds 3 (0 ∷ 1 ∷ 1 ∷ 2 ∷ 0 ∷ 2 ∷ 1 ∷ []) ≡ 2  -- since the start: 4
+  pub tallyOfEveryRouter : tallyActs 3 (freshTally 3) (0 ∷ 1 ∷ 1 ∷ 0 ∷ []) .ended ≡ 0  -- by three acts: 1
+  pub tallyOfTwoRounds : tallyActs 3 (freshTally 3) (0 ∷ 1 ∷ 1 ∷ 2 ∷ 0 ∷ 2 ∷ 1 ∷ []) .ended ≡ 2
+  -- "The best client of a reflector is the best, at that reflector, of the listed clients it neighbours."
+  pub bestByItsOwnDistances : bestClient clients345 1 ≡ some 5  -- at router 0: some 4
+  pub reflectorIsNoClient : bestClient reflector0 1 ≡ none  -- of the listed routers: some 0
+  -- "A listed reflector offers itself; an unlisted one offers its best client, if any."
+  pub listedOffersItself : offer reflector1And34 1 ≡ some 1  -- its best client always: some 4
+  pub unlistedOffersItsClient : offer clients34 1 ≡ some 4  -- listed ones alone offer: none
+  -- "better, at the relying one, than its own best client. With no best client, any offer counts as better."
+  pub sharedClientIsNotBetter : betterOffer clients34 1 (some 4) (some 4) ≡ false  -- better than itself: true
+  pub anyOfferIsBetter : betterOffer client4 0 (some 5) none ≡ true  -- no client as the best: false
+  -- "1. A listed router relies on no one."
+  pub rule1 : relies reflector1And34 1 4 ≡ false  -- as an unlisted one: true
+  -- "2. An unlisted client relies on each neighbouring reflector and on each neighbouring listed client."
+  pub rule2Reflector : relies clients34 5 1 ≡ true  -- on clients alone: false
+  pub rule2ListedClient : relies clients34 5 3 ≡ true  -- on reflectors alone: false
+  pub rule2UnlistedClient : relies client4 5 3 ≡ false  -- on every neighbour: true
+  -- "3. An unlisted reflector relies on its best client, and on each neighbouring reflector whose offer exists and is better, at the
+  -- relying one, than its own best client."
+  pub rule3BestClient : relies clients34 1 4 ≡ true  -- on reflectors alone: false
+  pub rule3Tie : relies clients34 1 0 ≡ true  -- a tie as no reliance: false
+  pub rule3SharedClient : relies clients34 1 2 ≡ false  -- a shared client as better than itself: true
+  pub rule3OfferByItsOwnDistances : relies clients345 0 1 ≡ false  -- the offer by the distances of 0: true
+  pub rule3ListedReflector : relies reflector1And34 0 1 ≡ false  -- the client of 1 as its offer: true
+  -- a router in a byte, 255 for none
+  pub noRouter : asRouter 255 ≡ none
+  pub lastRouterByte : asRouter 254 ≡ some 254
