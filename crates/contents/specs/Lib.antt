@@ -1,3 +1,4 @@
 pub mod Header
 pub mod Contents
 pub mod Passed
+pub mod Examples

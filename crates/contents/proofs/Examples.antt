@@ -1,0 +1,22 @@
+-- The examples, worked out from the rules.
+use mathlib.Core.Path.{refl}
+use Rattle.contents.specs.Header.{headerOk, routerCountOk}
+use Rattle.contents.specs.Contents.{kindsOk, placesOk, sizesOk, contentsOk}
+use Rattle.contents.specs.Examples.{firstBytes, fourEntries, ContentsExamples}
+
+pub contents-examples : ContentsExamples
+unfolding firstBytes fourEntries headerOk routerCountOk kindsOk placesOk sizesOk contentsOk
+contents-examples =
+    record {
+      header = refl;
+      count = refl;
+      sixtyFour = refl;
+      sixtyFive = refl;
+      noRouter = refl;
+      highBytes = refl;
+      accepted = refl;
+      byLowBytes = refl;
+      gap = refl;
+      otherEnd = refl;
+      part = refl;
+    }
