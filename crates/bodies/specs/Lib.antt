@@ -4,3 +4,4 @@ pub mod Sessions
 pub mod Distances
 pub mod Lists
 pub mod Passed
+pub mod Examples

@@ -1,0 +1,41 @@
+-- The examples, worked out from the rules.
+use mathlib.Core.Path.{refl}
+use Rattle.base.specs.Below.{allBelow}
+use Rattle.bodies.specs.Routers.{routerOk, routersOk}
+use Rattle.bodies.specs.Sessions.{sessionOk, sessionsOk}
+use Rattle.bodies.specs.Distances.{distanceOk, distanceRowOk, distancesOk}
+use Rattle.bodies.specs.Lists.{listPlace, memberOk, listAtOk, listOk, eachListOk, listsOk}
+use Rattle.bodies.specs.Examples.{BodiesExamples}
+
+pub bodies-examples : BodiesExamples
+unfolding
+    routerOk routersOk sessionOk sessionsOk distanceOk distanceRowOk distancesOk
+    listPlace memberOk listAtOk listOk eachListOk listsOk allBelow
+bodies-examples =
+    record {
+      fourBytes = refl;
+      lowBytesFall = refl;
+      lowBytesRise = refl;
+      lowThreeFall = refl;
+      equalIdentifiers = refl;
+      thirdRole = refl;
+      byFirstThenSecond = refl;
+      secondFalls = refl;
+      higherFirst = refl;
+      numberAtN = refl;
+      noSession = refl;
+      highByte = refl;
+      rowThenColumn = refl;
+      most = refl;
+      oneMore = refl;
+      diagonal = refl;
+      secondList = refl;
+      itsNumber = refl;
+      lastNumber = refl;
+      listedAtN = refl;
+      numbersFall = refl;
+      emptyList = refl;
+      noList = refl;
+      emptyBody = refl;
+      oneByteAfter = refl;
+    }

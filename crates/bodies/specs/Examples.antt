@@ -1,0 +1,44 @@
+-- Examples that tell each rule of the four bodies from a misreading of it, in literal bytes. Beside each stands what a misreading
+-- gives.
+use Prim.Native.Nat.{ℕ}
+use mathlib.Core.Path.{_≡_}
+use mathlib.Core.Bool.{true, false}
+use mathlib.Core.List.{[], _∷_}
+use Rattle.bodies.specs.Routers.{identifier, routersOk}
+use Rattle.bodies.specs.Sessions.{sessionsOk}
+use Rattle.bodies.specs.Distances.{distanceIn, distancesOk}
+use Rattle.bodies.specs.Lists.{listsOk, listPlace, member}
+
+pub record BodiesExamples : Type 0 where
+  -- "role (1 reflector, 2 client), then a 4-byte identifier, low byte first": 4 + 3 * 256 + 2 * 65,536 + 16,777,216
+  pub fourBytes : identifier (1 ∷ 0 ∷ 0 ∷ 0 ∷ 0 ∷ 2 ∷ 4 ∷ 3 ∷ 2 ∷ 1 ∷ []) 1 ≡ 16909060  -- by two bytes: 772
+  -- "Identifiers rise strictly"
+  pub lowBytesFall : routersOk (1 ∷ 9 ∷ 0 ∷ 0 ∷ 0 ∷ 2 ∷ 8 ∷ 0 ∷ 1 ∷ 0 ∷ []) 2 ≡ true  -- by two bytes: false
+  pub lowBytesRise : routersOk (1 ∷ 4 ∷ 0 ∷ 1 ∷ 0 ∷ 2 ∷ 5 ∷ 0 ∷ 0 ∷ 0 ∷ []) 2 ≡ false  -- by two bytes: true
+  pub lowThreeFall : routersOk (1 ∷ 9 ∷ 0 ∷ 9 ∷ 0 ∷ 2 ∷ 8 ∷ 0 ∷ 8 ∷ 1 ∷ []) 2 ≡ true  -- by three bytes: false
+  pub equalIdentifiers : routersOk (1 ∷ 9 ∷ 0 ∷ 0 ∷ 0 ∷ 2 ∷ 9 ∷ 0 ∷ 0 ∷ 0 ∷ []) 2 ≡ false  -- not strictly: true
+  pub thirdRole : routersOk (3 ∷ 9 ∷ 0 ∷ 0 ∷ 0 ∷ []) 1 ≡ false  -- any role from 1: true
+  -- "pairs of router numbers, one byte each and below n, the first below the second, pairs rising strictly"
+  pub byFirstThenSecond : sessionsOk (0 ∷ 2 ∷ 1 ∷ 2 ∷ 1 ∷ 3 ∷ []) 4 ≡ true  -- by the second number: false
+  pub secondFalls : sessionsOk (0 ∷ 2 ∷ 0 ∷ 1 ∷ []) 4 ≡ false  -- by the first number: true
+  pub higherFirst : sessionsOk (1 ∷ 0 ∷ []) 4 ≡ false  -- in either order: true
+  pub numberAtN : sessionsOk (0 ∷ 4 ∷ []) 4 ≡ false  -- at most n: true
+  pub noSession : sessionsOk [] 4 ≡ true  -- one at least: false
+  -- "row u, column e is the distance from u to e", two bytes, low byte first
+  pub highByte : distanceIn (0 ∷ 0 ∷ 2 ∷ 1 ∷ 7 ∷ 0 ∷ 0 ∷ 0 ∷ []) 2 0 1 ≡ 258  -- by the low byte: 2
+  pub rowThenColumn : distanceIn (0 ∷ 0 ∷ 2 ∷ 1 ∷ 7 ∷ 0 ∷ 0 ∷ 0 ∷ []) 2 1 0 ≡ 7  -- column, then row: 258
+  -- "0 to 65,534 .. The diagonal is 0."
+  pub most : distancesOk (0 ∷ 0 ∷ 254 ∷ 255 ∷ 7 ∷ 0 ∷ 0 ∷ 0 ∷ []) 2 ≡ true  -- below 65,534: false
+  pub oneMore : distancesOk (0 ∷ 0 ∷ 255 ∷ 255 ∷ 7 ∷ 0 ∷ 0 ∷ 0 ∷ []) 2 ≡ false  -- any two bytes: true
+  pub diagonal : distancesOk (0 ∷ 0 ∷ 2 ∷ 1 ∷ 7 ∷ 0 ∷ 0 ∷ 1 ∷ []) 2 ≡ false  -- by the low byte: true
+  -- "one byte m, 1 to 64, then m lists, each a count byte c from 1 to n and c router numbers below n, rising strictly"
+  pub secondList : listPlace (2 ∷ 2 ∷ 0 ∷ 1 ∷ 1 ∷ 3 ∷ []) 1 ≡ 4  -- by lists of one number: 3
+  pub itsNumber : member (2 ∷ 2 ∷ 0 ∷ 1 ∷ 1 ∷ 3 ∷ []) 4 0 ≡ 3  -- the count byte: 1
+  pub lastNumber : listsOk (2 ∷ 2 ∷ 0 ∷ 1 ∷ 1 ∷ 3 ∷ []) 4 ≡ true  -- below n - 1: false
+  pub listedAtN : listsOk (2 ∷ 2 ∷ 0 ∷ 1 ∷ 1 ∷ 4 ∷ []) 4 ≡ false  -- at most n: true
+  pub numbersFall : listsOk (1 ∷ 2 ∷ 1 ∷ 0 ∷ []) 4 ≡ false  -- in any order: true
+  pub emptyList : listsOk (1 ∷ 0 ∷ []) 4 ≡ false  -- from 0: true
+  pub noList : listsOk (0 ∷ []) 4 ≡ false  -- from 0: true
+  pub emptyBody : listsOk [] 4 ≡ false  -- as no list: true
+  -- "Nothing follows."
+  pub oneByteAfter : listsOk (1 ∷ 1 ∷ 3 ∷ 0 ∷ []) 4 ≡ false  -- with bytes after: true
