@@ -1,3 +1,4 @@
 pub mod Decoded
 pub mod FromPlan
 pub mod WellFormed
+pub mod Examples

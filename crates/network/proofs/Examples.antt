@@ -1,0 +1,24 @@
+-- The examples, worked out from the bytes.
+use mathlib.Core.Path.{refl}
+use Rattle.base.specs.Below.{anyBelow}
+use Rattle.bodies.specs.Lists.{listPlace}
+use Rattle.network.specs.FromPlan.{pairs, inSession, named}
+use Rattle.network.specs.Examples.{threeRouters, NetworkExamples}
+
+pub network-examples : NetworkExamples
+unfolding threeRouters pairs inSession named listPlace anyBelow
+network-examples =
+    record {
+      count = refl;
+      reflector = refl;
+      client = refl;
+      neighbours = refl;
+      inEitherOrder = refl;
+      strangers = refl;
+      distance = refl;
+      distanceBack = refl;
+      listed = refl;
+      notByPosition = refl;
+      ofTheListAsked = refl;
+      ofThatListAlone = refl;
+    }
