@@ -1,3 +1,4 @@
+pub mod Examples
 pub mod TableBytes
 pub mod OnePass
 pub mod Running
