@@ -5,8 +5,8 @@ use mathlib.Core.List.{List, [], _∷_}
 use Rattle.checker.specs.declared.verdict.VerdictAnswer.the-variants.{Stable, Suspect}
 use Rattle.guarantees.specs.Questions.{Question, verdictAsked, runAsked, Answer, verdictIs, runIs, Example, example, Hold}
 
--- "Routers 0, 1 reflectors; 2, 3 clients; sessions 0-1, 0-2, 1-3; identifiers 10, 20, 30, 40. Distances 0 to 2 and 1 to 3 are 10, p is 0 to 3,
--- q is 1 to 2, other off-diagonal ones 30." Lists 0, 1, 2 of the plan are list 2,3, list 3 and list 0 of the cases.
+-- "Routers 0, 1 reflectors; 2, 3 clients; sessions 0-1, 0-2, 1-3; identifiers 10, 20, 30, 40. Distances 0 to 2 and 1 to 3 are 10,
+-- p is 0 to 3, q is 1 to 2, other off-diagonal ones 30." Lists 0, 1, 2 of the plan are list 2,3, list 3 and list 0 of the cases.
 unfoldable pub smallPlan : (p q : ℕ) → List ℕ
 smallPlan p q =
     82 ∷ 82 ∷ 80 ∷ 49 ∷ 4 ∷ 4  -- the letters RRP1, n, the number of contents entries
