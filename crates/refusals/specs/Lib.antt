@@ -1,2 +1,3 @@
 pub mod Refusals
 pub mod InOrder
+pub mod Examples

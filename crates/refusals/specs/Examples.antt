@@ -1,0 +1,73 @@
+-- Examples that tell rows 8 to 10 of the refusal table from a misreading of them, in literal bytes. Beside each stands what a
+-- misreading gives.
+use Prim.Native.Nat.{ℕ}
+use mathlib.Core.Path.{_≡_}
+use mathlib.Core.List.{List, [], _∷_}
+use Rattle.refusals.specs.Refusals.{egressListRefusal, compareRefusal, reliesRefusal, verdictRefusal, activateRefusal, runRefusal}
+
+-- reflector 0, a neighbour of clients 1 and 2
+unfoldable pub threeRouters : List ℕ
+threeRouters =
+    82 ∷ 82 ∷ 80 ∷ 49 ∷ 3 ∷ 4  -- the letters RRP1, n, the number of contents entries
+    ∷ 1 ∷ 26 ∷ 0 ∷ 15 ∷ 0  -- contents: kind, offset, length of the routers
+    ∷ 2 ∷ 41 ∷ 0 ∷ 4 ∷ 0  -- .. of the sessions
+    ∷ 3 ∷ 45 ∷ 0 ∷ 18 ∷ 0  -- .. of the distances
+    ∷ 4 ∷ 63 ∷ 0 ∷ 5 ∷ 0  -- .. of the lists
+    ∷ 1 ∷ 10 ∷ 0 ∷ 0 ∷ 0  -- router 0: role, identifier
+    ∷ 2 ∷ 20 ∷ 0 ∷ 0 ∷ 0
+    ∷ 2 ∷ 30 ∷ 0 ∷ 0 ∷ 0
+    ∷ 0 ∷ 1 ∷ 0 ∷ 2  -- sessions
+    ∷ 0 ∷ 0 ∷ 5 ∷ 0 ∷ 5 ∷ 0  -- distances from 0
+    ∷ 5 ∷ 0 ∷ 0 ∷ 0 ∷ 5 ∷ 0
+    ∷ 5 ∷ 0 ∷ 5 ∷ 0 ∷ 0 ∷ 0
+    ∷ 2  -- m
+    ∷ 1 ∷ 1  -- list 0: count, number
+    ∷ 1 ∷ 2  -- list 1
+    ∷ []
+
+-- tables for list 0: one that obeys its rule, one in which 2 holds a route from 1, which is not its neighbour, and one of 5 bytes
+unfoldable pub lent : List ℕ
+lent = 255 ∷ 255 ∷ 1 ∷ 1 ∷ 255 ∷ 255 ∷ []
+
+unfoldable pub broken : List ℕ
+broken = 255 ∷ 255 ∷ 1 ∷ 1 ∷ 1 ∷ 1 ∷ []
+
+unfoldable pub short : List ℕ
+short = 255 ∷ 255 ∷ 1 ∷ 1 ∷ 255 ∷ []
+
+-- a byte for each router, and one fewer
+unfoldable pub three : List ℕ
+three = 9 ∷ 9 ∷ 9 ∷ []
+
+unfoldable pub two : List ℕ
+two = 9 ∷ 9 ∷ []
+
+pub record RefusalsExamples : Type 0 where
+  -- row 8: "the list asked for is m or more"
+  pub lastList : egressListRefusal threeRouters 1 ≡ 0  -- m - 1 or more: 8
+  pub listAtM : egressListRefusal threeRouters 2 ≡ 8  -- above m: 0
+  -- ".. or a router asked for, .. is n or more"; "Each router number handed over in these is a router asked for."
+  pub lastRouters : compareRefusal threeRouters 2 2 2 ≡ 0  -- n - 1 or more: 8
+  pub routerAtN : compareRefusal threeRouters 3 0 0 ≡ 8  -- above n: 0
+  pub firstAtN : compareRefusal threeRouters 0 3 0 ≡ 8  -- not asked for: 0
+  pub secondAtN : compareRefusal threeRouters 0 0 3 ≡ 8  -- not asked for: 0
+  pub relyingAtN : reliesRefusal threeRouters 0 3 0 ≡ 8  -- not asked for: 0
+  pub otherAtN : reliesRefusal threeRouters 0 0 3 ≡ 8  -- not asked for: 0
+  pub activatedLast : activateRefusal threeRouters 0 2 lent ≡ 0  -- n - 1 or more: 8
+  pub activatedAtN : activateRefusal threeRouters 0 3 lent ≡ 8  -- above n: 0
+  -- ".. or named in a sequence of acts"
+  pub lastNamed : runRefusal threeRouters 0 (0 ∷ 2 ∷ []) lent ≡ 0  -- n - 1 or more: 8
+  pub namedAtN : runRefusal threeRouters 0 (0 ∷ 3 ∷ []) lent ≡ 8  -- by the first act: 0
+  -- row 9: "The verdict call needs n bytes for labels, n for ranks, 2n for the settled table, n for the ring."
+  pub longEnough : verdictRefusal threeRouters 0 three three lent three ≡ 0  -- a byte more: 9
+  pub labelsShort : verdictRefusal threeRouters 0 two three lent three ≡ 9  -- no need of it: 0
+  pub ranksShort : verdictRefusal threeRouters 0 three two lent three ≡ 9
+  pub tableShort : verdictRefusal threeRouters 0 three three short three ≡ 9  -- n for the table: 0
+  pub cycleShort : verdictRefusal threeRouters 0 three three lent two ≡ 9
+  -- "An act or a run needs 2n bytes of table"
+  pub activatedInFive : activateRefusal threeRouters 0 0 short ≡ 9  -- n bytes: 0
+  -- row 10: "a held-route table breaks its rule"
+  pub tableBroken : activateRefusal threeRouters 0 0 broken ≡ 10  -- with any router as sender: 0
+  -- "The lowest number that applies is returned"
+  pub eightBeforeNine : activateRefusal threeRouters 0 3 short ≡ 8  -- the last: 9
+  pub eightBeforeTen : runRefusal threeRouters 2 (0 ∷ []) broken ≡ 8  -- the last: 10
