@@ -21,6 +21,10 @@ module _ (I : Instance) where
   bestClient-is v = best-is (prefers I v) (prefers-order I v) (listedClientOf I v) (I .n)
 
   -- a listed client neighbour, part by part
+  pub client-no-reflector : (v e : ℕ) → listedClientOf I v e ≡ true → I .reflector e ≡ false
+  unfolding listedClientOf
+  client-no-reflector v e h = not-true (I .reflector e) (both-right (I .neighbour v e && I .listed e) (not (I .reflector e)) h)
+
   pub client-neighbour : (v e : ℕ) → listedClientOf I v e ≡ true → I .neighbour v e ≡ true
   unfolding listedClientOf
   client-neighbour v e h = both-left (I .neighbour v e) (I .listed e) (both-left (I .neighbour v e && I .listed e) _ h)
@@ -28,10 +32,6 @@ module _ (I : Instance) where
   pub client-listed : (v e : ℕ) → listedClientOf I v e ≡ true → I .listed e ≡ true
   unfolding listedClientOf
   client-listed v e h = both-right (I .neighbour v e) (I .listed e) (both-left (I .neighbour v e && I .listed e) _ h)
-
-  pub client-no-reflector : (v e : ℕ) → listedClientOf I v e ≡ true → I .reflector e ≡ false
-  unfolding listedClientOf
-  client-no-reflector v e h = not-true (I .reflector e) (both-right (I .neighbour v e && I .listed e) (not (I .reflector e)) h)
 
   pub client-intro : (v e : ℕ) → I .neighbour v e ≡ true → I .listed e ≡ true → I .reflector e ≡ false → listedClientOf I v e ≡ true
   unfolding listedClientOf

@@ -168,18 +168,19 @@ module _ (I : Instance) (w : ℕ) (view : ℕ → Route) where
   choose-is h = rw h (choice-is (prefers I w) (hears I view w) (I .n) (prefers-order I w))
 
 module _ (I : Instance) where
-  pub activate-length : (w : ℕ) (t : List Route) → length (activate I w t) ≡ length t
-  unfolding activate
-  activate-length w t = length-set t w _
-
-  pub activate-own : (w : ℕ) (t : List Route) → w < length t → held (activate I w t) w ≡ choose I w (held t)
-  unfolding activate
-  activate-own w t l = getD-set-same t w _ nothing l
-
   -- an activation changes no entry but the router's own
   pub activate-other : (w : ℕ) (t : List Route) (v : ℕ) → (v ≡ w → ⊥) → held (activate I w t) v ≡ held t v
   unfolding activate
   activate-other w t v d = getD-set-other t w v _ nothing d
+
+  -- .. and leaves there what the router chooses
+  pub activate-own : (w : ℕ) (t : List Route) → w < length t → held (activate I w t) w ≡ choose I w (held t)
+  unfolding activate
+  activate-own w t l = getD-set-same t w _ nothing l
+
+  pub activate-length : (w : ℕ) (t : List Route) → length (activate I w t) ≡ length t
+  unfolding activate
+  activate-length w t = length-set t w _
 
   pub activate-none : (w : ℕ) (t : List Route) → length t ≤ w → activate I w t ≡ t
   unfolding activate

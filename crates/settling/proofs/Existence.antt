@@ -38,14 +38,15 @@ module _ (I : Instance) where
       go (inl l) = s a l
       go (inr l) = activate-none I a t (omega arith)
 
+  -- what each router holds the next time is what it chooses now
+  chosen-at : (k w : ℕ) → w < I .n → held (chosenAfter I (suc k)) w ≡ choose I w (held (chosenAfter I k))
+  unfolding chosenAfter chooseAll
+  chosen-at k w l = getD-tab _ (I .n) nothing w l
+
   chosen-length : (k : ℕ) → length (chosenAfter I k) ≡ I .n
   unfolding chosenAfter chooseAll
   chosen-length zero = length-replicate (I .n) nothing
   chosen-length (suc k) = length-tab _ (I .n)
-
-  chosen-at : (k w : ℕ) → w < I .n → held (chosenAfter I (suc k)) w ≡ choose I w (held (chosenAfter I k))
-  unfolding chosenAfter chooseAll
-  chosen-at k w l = getD-tab _ (I .n) nothing w l
 
   chosen-clean : (k v : ℕ) → 1 ≤ k → v < I .n → CleanEntry I v (held (chosenAfter I k) v)
   chosen-clean zero v p l = absurd (omega arith)
