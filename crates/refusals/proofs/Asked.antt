@@ -1,5 +1,6 @@
 -- What a call that is not refused was handed.
 use Prim.Native.Nat.{ℕ, _*_, _≤_, _<_}
+use native.Mathlib.Omega.{arith}
 use mathlib.Core.Path.{_≡_, refl, _∙_, sym, ap}
 use mathlib.Core.Bool.{Bool, true, false, _&&_}
 use mathlib.Core.List.{List}
@@ -7,16 +8,18 @@ use mathlib.Core.Logic.{⊎-elim}
 use borrow.Author.Tests.{ltb-true, leb-true}
 use lib.ListN.{length}
 use Rattle.base.proofs.Below.{all-at}
-use Rattle.base.proofs.Numbers.{facts, eq-or-ne}
+use Rattle.base.proofs.Numbers.{facts, eq-or-ne, true-or-false}
 use Rattle.contents.specs.Header.{routerCount}
 use Rattle.plan.specs.EgressLists.{listCount}
 use Rattle.plan.specs.Refusal.{refuse, planChecks, planRefusal}
-use Rattle.plan.proofs.Cascade.{call-cascade, plan-passes, plan-of-passed, refuse-passed}
+use Rattle.plan.proofs.Cascade.{call-cascade, refuse-passed}
 use Rattle.plan.proofs.Passed.{passed}
 use Rattle.routing.specs.Instance.{Instance}
 use Rattle.routing.specs.Rounds.{ActsBelow}
 use Rattle.activation.specs.TableBytes.{TableIn}
 use Rattle.refusals.specs.Refusals.{sequenceOk, askedChecks, egressListRefusal, compareRefusal, reliesRefusal, routerRefusal, sequenceRefusal, buffersOk, verdictRefusal, tableChecks}
+use Rattle.refusals.specs.InOrder.{InOrder}
+use Rattle.refusals.proofs.InOrder.{asked-in-order, list-in-order, compare-in-order, relies-in-order, verdict-in-order}
 
 module _ (plan : List ℕ) (h : planRefusal plan ≡ 0) where
   pub header-long : 26 ≤ length plan
@@ -55,26 +58,31 @@ module _ (plan : List ℕ) (ok : Bool) where
       ⊎-elim (λ (z : asked ≡ 0). h .0 z ∙ more-passed x refl (sym e ∙ z)) (λ (ne : asked ≡ 0 → ⊥). h .1 ne ∙ more-refused x asked e ne)
       (eq-or-ne asked 0)
 
-  -- the plan passes, and so do the call's numbers and the rest
-  pub record Granted (rest : ℕ) : Type 0 where
-    pub planOk : planRefusal plan ≡ 0
-    pub callOk : ok ≡ true
-    pub restOk : rest ≡ 0
+-- a call that is not refused passes every row
+record Granted (plan : List ℕ) (ok long : Bool) : Type 0 where
+  planOk : planRefusal plan ≡ 0
+  callOk : ok ≡ true
+  longOk : long ≡ true
 
-  pub granted : (rest : ℕ) → askedChecks plan ok rest ≡ 0 → Granted rest
-  granted rest h =
-      let p : planRefusal plan ≡ 0 = plan-of-passed plan _ h in
-      let q = refuse-passed ok 7 rest (sym (plan-passes plan _ p) ∙ h) in
-      record { planOk = p; callOk = q .0; restOk = q .1 }
+granted : {plan : List ℕ} {ok long rule : Bool} {number : ℕ} → InOrder plan ok long rule number → number ≡ 0 → Granted plan ok long
+granted {plan} {ok} {long} r z = record { planOk = p; callOk = a; longOk = b }
+  where
+    p : planRefusal plan ≡ 0
+    p = ⊎-elim (λ e. e) (λ ne. sym (r .rows-1-to-7 ne) ∙ z) (eq-or-ne (planRefusal plan) 0)
+
+    a : ok ≡ true
+    a = ⊎-elim (λ e. e) (λ (e : ok ≡ false). absurd (omega (arith, r .row-8 p e))) (true-or-false ok)
+
+    b : long ≡ true
+    b = ⊎-elim (λ e. e) (λ (e : long ≡ false). absurd (omega (arith, r .row-9 p a e))) (true-or-false long)
 
 pub record ListAsked (plan : List ℕ) (k : ℕ) : Type 0 where
   pub planOk : planRefusal plan ≡ 0
   pub list : k < listCount plan
 
 pub list-asked : (plan : List ℕ) (k : ℕ) → egressListRefusal plan k ≡ 0 → ListAsked plan k
-unfolding egressListRefusal
 list-asked plan k h =
-    let g = granted plan _ _ h in
+    let g = granted (list-in-order plan k) h in
     record { planOk = g .planOk; list = ltb-true _ _ (g .callOk) }
 
 pub record CompareAsked (plan : List ℕ) (w e f : ℕ) : Type 0 where
@@ -84,9 +92,8 @@ pub record CompareAsked (plan : List ℕ) (w e f : ℕ) : Type 0 where
   pub second : f < routerCount plan
 
 pub compare-asked : (plan : List ℕ) (w e f : ℕ) → compareRefusal plan w e f ≡ 0 → CompareAsked plan w e f
-unfolding compareRefusal
 compare-asked plan w e f h =
-    let g = granted plan _ _ h in
+    let g = granted (compare-in-order plan w e f) h in
     let q : ((w < routerCount plan) × (e < routerCount plan)) × (f < routerCount plan) = simp facts at (g .callOk) in
     record { planOk = g .planOk; router = q .0 .0; first = q .0 .1; second = q .1 }
 
@@ -97,7 +104,7 @@ pub record RouterAsked (plan : List ℕ) (k w : ℕ) : Type 0 where
 
 pub router-asked : (plan : List ℕ) (k w : ℕ) → routerRefusal plan k w ≡ 0 → RouterAsked plan k w
 router-asked plan k w h =
-    let g = granted plan _ _ h in
+    let g = granted (asked-in-order plan _) h in
     let q : (k < listCount plan) × (w < routerCount plan) = simp facts at (g .callOk) in
     record { planOk = g .planOk; list = q .0; router = q .1 }
 
@@ -108,9 +115,8 @@ pub record ReliesAsked (plan : List ℕ) (k w v : ℕ) : Type 0 where
   pub other : v < routerCount plan
 
 pub relies-asked : (plan : List ℕ) (k w v : ℕ) → reliesRefusal plan k w v ≡ 0 → ReliesAsked plan k w v
-unfolding reliesRefusal
 relies-asked plan k w v h =
-    let g = granted plan _ _ h in
+    let g = granted (relies-in-order plan k w v) h in
     let q : ((k < listCount plan) × (w < routerCount plan)) × (v < routerCount plan) = simp facts at (g .callOk) in
     record { planOk = g .planOk; list = q .0 .0; router = q .0 .1; other = q .1 }
 
@@ -123,7 +129,7 @@ pub record SequenceAsked (plan : List ℕ) (k : ℕ) (acts : List ℕ) : Type 0 
 pub sequence-asked : (plan : List ℕ) (k : ℕ) (acts : List ℕ) → sequenceRefusal plan k acts ≡ 0 → SequenceAsked plan k acts
 unfolding sequenceOk
 sequence-asked plan k acts h =
-    let g = granted plan _ _ h in
+    let g = granted (asked-in-order plan _) h in
     let q : (k < listCount plan) × (sequenceOk acts (routerCount plan) ≡ true) = simp facts at (g .callOk) in
     record {
       planOk = g .planOk;
@@ -142,12 +148,12 @@ pub record VerdictAsked (plan : List ℕ) (k : ℕ) (labels ranks table cycle : 
 
 pub verdict-asked : (plan : List ℕ) (k : ℕ) (labels ranks table cycle : List ℕ) → verdictRefusal plan k labels ranks table cycle ≡ 0
     → VerdictAsked plan k labels ranks table cycle
-unfolding verdictRefusal buffersOk
+unfolding buffersOk
 verdict-asked plan k labels ranks table cycle h =
-    let g = granted plan _ _ h in
+    let g = granted (verdict-in-order plan k labels ranks table cycle) h in
     let n = routerCount plan in
     let q : (((n ≤ length labels) × (n ≤ length ranks)) × (2 * n ≤ length table)) × (n ≤ length cycle)
-    = simp facts at (refuse-passed _ 8 0 (g .restOk) .0) in
+    = simp facts at (g .longOk) in
     record {
       planOk = g .planOk;
       list = ltb-true _ _ (g .callOk);

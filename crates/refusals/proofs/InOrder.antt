@@ -23,6 +23,11 @@ in-order plan ok long rule =
     }
 
 module _ (plan : List ℕ) where
+  -- rows 1 to 8 alone
+  pub asked-in-order : (ok : Bool) → InOrder plan ok true true (askedChecks plan ok 0)
+  unfolding refuse
+  asked-in-order ok = in-order plan ok true true
+
   pub list-in-order : (k : ℕ) → InOrder plan (hasList plan k) true true (egressListRefusal plan k)
   unfolding egressListRefusal refuse
   list-in-order k = in-order plan _ true true
