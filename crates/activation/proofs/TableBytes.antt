@@ -188,11 +188,14 @@ module _ (I : Instance) (w : ℕ) where
 
 module _ (I : Instance) where
   module _ (w : ℕ) (buffer : List ℕ) where
-    pub act-length : length (activateBytes I w buffer) ≡ length buffer
+    -- an act on a buffer leaves in the router's own entry what it chooses
+    pub act-own : I .n ≤ 64 → w < I .n → 2 * I .n ≤ length buffer → routeAt (activateBytes I w buffer) w ≡ choose I w (held (tableOf buffer (I .n)))
     unfolding activateBytes
-    act-length = put-length buffer w (choose I w (routeAt buffer))
+    act-own small l h =
+        put-own buffer w (choose I w (routeAt buffer)) (omega arith) (written-below (I .n) _ small (choose-below I w (routeAt buffer) l))
+        ∙ choose-same I w (routeAt buffer) (held (tableOf buffer (I .n))) (λ v m. sym (table-held buffer (I .n) v m))
 
-    -- an act on a buffer changes no entry but the router's own
+    -- .. changes no other entry
     pub act-other : (v : ℕ) → (v ≡ w → ⊥) → routeAt (activateBytes I w buffer) v ≡ routeAt buffer v
     unfolding activateBytes
     act-other = put-other buffer w (choose I w (routeAt buffer))
@@ -202,18 +205,16 @@ module _ (I : Instance) where
     unfolding activateBytes
     act-rest = put-rest buffer w (choose I w (routeAt buffer)) (I .n)
 
-    module _ (small : I .n ≤ 64) (l : w < I .n) (h : 2 * I .n ≤ length buffer) where
-      pub act-own : routeAt (activateBytes I w buffer) w ≡ choose I w (held (tableOf buffer (I .n)))
-      unfolding activateBytes
-      act-own =
-          put-own buffer w (choose I w (routeAt buffer)) (omega arith) (written-below (I .n) _ small (choose-below I w (routeAt buffer) l))
-          ∙ choose-same I w (routeAt buffer) (held (tableOf buffer (I .n))) (λ v m. sym (table-held buffer (I .n) v m))
+    pub act-length : length (activateBytes I w buffer) ≡ length buffer
+    unfolding activateBytes
+    act-length = put-length buffer w (choose I w (routeAt buffer))
 
+    module _ (small : I .n ≤ 64) (l : w < I .n) (h : 2 * I .n ≤ length buffer) where
       act-entry : (v : ℕ) → v < I .n → (v ≡ w) ⊎ (v ≡ w → ⊥) → held (tableOf (activateBytes I w buffer) (I .n)) v ≡ held (activate I w (tableOf buffer (I .n))) v
       act-entry v m (inl e) =
           table-held (activateBytes I w buffer) (I .n) v m
           ∙ ap (routeAt (activateBytes I w buffer)) e
-          ∙ act-own
+          ∙ act-own small l h
           ∙ sym (activate-own I w (tableOf buffer (I .n)) (omega (arith, table-length buffer (I .n))))
           ∙ ap (held (activate I w (tableOf buffer (I .n)))) (sym e)
       act-entry v m (inr d) =

@@ -24,7 +24,7 @@ asked c = compare-asked _ _ _ _ (given c)
 prefers-requires : tie.Need-prefers-requires
 prefers-requires c κs =
     let q = asked (c .before .before .before) in
-    (q .router, q .first, q .second, few-routers _ (q .planOk), omega (arith, distances-length _ (q .planOk), ap length (c .part .ensures)))
+    (q .router, omega arith, omega arith, few-routers _ (q .planOk), omega (arith, distances-length _ (q .planOk), ap length (c .part .ensures)))
 
 -- the preference found is that of the plan's network
 judged : (c : tie.After-prefers) → let a = c .before .before .before .before .before .before .before .args in

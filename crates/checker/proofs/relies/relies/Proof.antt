@@ -1,3 +1,4 @@
+use native.Mathlib.Omega.{arith}
 use mathlib.Core.Path.{_≡_, refl, _∙_, sym, ap}
 use borrow.Author.Needs.{needs}
 use lib.Dec.{lit<}
@@ -28,8 +29,8 @@ relies-requires c κs =
     let q = asked (guard d) in
     let read = d .before .decode .ensures in (
       rw (d .part .ensures) (well-formed _ _ _ _ (q .planOk) (q .list) read),
-      rw (read .count) (q .router),
-      rw (read .count) (q .other),
+      rw (read .count) (omega arith),
+      rw (read .count) (omega arith),
     )
 
 -- the reliance found is that of the plan's network

@@ -31,7 +31,7 @@ listed-word-requires c κs =
     let start = c .before .before .before .before .before .before .before .before .before .before .before in
     let p = passed _ (start .pre .0) in
     rw (span-numbers _ _ _ _ (c .before .before .list-span .ensures))
-    (λ j l. omega (arith, number-below _ p _ (start .pre .1) j l, p .count .most))
+    (λ j l. omega (arith, number-below _ p _ (omega arith) j l, p .count .most))
 
 returns : tie.Need-returns
 returns c =
