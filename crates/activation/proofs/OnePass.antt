@@ -150,28 +150,6 @@ module _ (prefer : ℕ → ℕ → Bool) (o : StrictOrder prefer) (told : ℕ �
       kept-choice = is-choice (kept prefer told n) (kept-is n (omega arith))
 
 module _ (I : Instance) where
-  -- what a reflector passes on, case by case
-  pub reflects-nothing : (w : ℕ) → reflects I nothing w ≡ none
-  unfolding reflects
-  reflects-nothing w = refl
-
-  module _ (e s w : ℕ) where
-    pub reflects-apart : I .reflector s ≡ true → I .reflector w ≡ true → reflects I (via e s) w ≡ none
-    unfolding reflects
-    reflects-apart p q = cc
-
-    pub reflects-down : I .reflector s ≡ true → I .reflector w ≡ false → reflects I (via e s) w ≡ some e
-    unfolding reflects
-    reflects-down p q = cc
-
-    pub reflects-back : I .reflector s ≡ false → s ≡ w → reflects I (via e s) w ≡ none
-    unfolding reflects
-    reflects-back p q = cc (eq-eqb s w q)
-
-    pub reflects-on : I .reflector s ≡ false → (s ≡ w → ⊥) → reflects I (via e s) w ≡ some e
-    unfolding reflects
-    reflects-on p q = cc (ne-eqb s w q)
-
   -- what is told names routers below n if what is held does
   reflects-below : (x : Route) (w : ℕ) → RouteBelow (I .n) x → RouterBelow (I .n) (reflects I x w)
   unfolding reflects

@@ -9,7 +9,7 @@ use mathlib.Core.Logic.{_⊎_, inl, inr}
 use lib.Dec.{ltb, eqb}
 use lib.ListN.{length, length-set}
 use lib.Seq.{getD-set-same, getD-set-other, set-out}
-use borrow.Author.Tests.{ltb-false, lt-ltb, eqb-true, eq-eqb}
+use borrow.Author.Tests.{ltb-false, lt-ltb, eqb-true, eq-eqb, ne-eqb}
 use Rattle.base.proofs.Numbers.{both-left, both-right, not-both, eq-or-ne, lt-or-le}
 use Rattle.base.specs.Below.{anyBelow}
 use Rattle.base.proofs.Below.{Witness, any-at, any-found, all-at, all-intro}
@@ -17,7 +17,7 @@ use Rattle.base.specs.Best.{best}
 use Rattle.base.proofs.Best.{StrictOrder, BestIs, IsBest, best-is, order-same, ltb-order}
 use Rattle.routing.specs.Instance.{Instance, Route, nothing, via, isRouter}
 use Rattle.routing.specs.Preference.{prefers}
-use Rattle.routing.specs.Activation.{reflects, advertises, hears, senderOf, routeFrom, routeTo, choice, choose, held, entryOk, tableOk, activate, runActs}
+use Rattle.routing.specs.Activation.{reflects, advertises, Advertising, hears, senderOf, routeFrom, routeTo, choice, choose, held, entryOk, tableOk, activate, runActs}
 use Rattle.routing.proofs.Preference.{prefers-order}
 
 pub isRouter-same : (v : ℕ) (o : Option ℕ) → isRouter v o ≡ true → o ≡ some v
@@ -40,6 +40,41 @@ module _ (I : Instance) where
   pub advertises-reflector : (v : ℕ) (x : Route) (w : ℕ) → I .listed v ≡ false → I .reflector v ≡ true → advertises I v x w ≡ reflects I x w
   unfolding advertises
   advertises-reflector v x w h r = cc
+
+  -- what a reflector passes on, case by case
+  pub reflects-nothing : (w : ℕ) → reflects I nothing w ≡ none
+  unfolding reflects
+  reflects-nothing w = refl
+
+  module _ (e s w : ℕ) where
+    pub reflects-apart : I .reflector s ≡ true → I .reflector w ≡ true → reflects I (via e s) w ≡ none
+    unfolding reflects
+    reflects-apart p q = cc
+
+    pub reflects-down : I .reflector s ≡ true → I .reflector w ≡ false → reflects I (via e s) w ≡ some e
+    unfolding reflects
+    reflects-down p q = cc
+
+    pub reflects-back : I .reflector s ≡ false → s ≡ w → reflects I (via e s) w ≡ none
+    unfolding reflects
+    reflects-back p q = cc (eq-eqb s w q)
+
+    pub reflects-on : I .reflector s ≡ false → (s ≡ w → ⊥) → reflects I (via e s) w ≡ some e
+    unfolding reflects
+    reflects-on p q = cc (ne-eqb s w q)
+
+  -- what each router advertises, in plain facts
+  pub advertising : (v : ℕ) → Advertising I v
+  advertising v =
+      record {
+        listed = λ h x w. advertises-listed v x w h;
+        client = λ h r x w. advertises-client v x w h r;
+        holds-nothing = λ h r w. advertises-reflector v nothing w h r ∙ reflects-nothing w;
+        from-client = λ h r e s w p d. advertises-reflector v (via e s) w h r ∙ reflects-on e s w p d;
+        not-back = λ h r e s p. advertises-reflector v (via e s) s h r ∙ reflects-back e s s p refl;
+        to-client = λ h r e s w p q. advertises-reflector v (via e s) w h r ∙ reflects-down e s w p q;
+        to-no-reflector = λ h r e s w p q. advertises-reflector v (via e s) w h r ∙ reflects-apart e s w p q;
+      }
 
   -- a route that comes from a client
   pub record FromClient (x : Route) (e : ℕ) : Type 0 where

@@ -1,7 +1,8 @@
 -- What a router advertises, and what an activation leaves (document 01, "Choosing and announcing"; there the words are "announces" and
 -- "act").
 use Prim.Native.Nat.{ℕ}
-use mathlib.Core.Bool.{Bool, not, cond, _&&_}
+use mathlib.Core.Path.{_≡_}
+use mathlib.Core.Bool.{Bool, true, false, not, cond, _&&_}
 use mathlib.Core.Option.{Option, none, some}
 use mathlib.Core.List.{List, foldl}
 use lib.Dec.{ltb, eqb}
@@ -21,6 +22,29 @@ reflects I (via e s) w = cond (cond (I .reflector s) (not (I .reflector w)) (not
 -- The egress of what v, holding the given route, advertises to its neighbour w.
 unfoldable pub advertises : Instance → ℕ → Route → ℕ → Option ℕ
 advertises I v held w = cond (I .listed v) (some v) (cond (I .reflector v) (reflects I held w) none)
+
+-- The same in plain facts, sentence by sentence; x is what v holds. The theorem `advertising` says that they hold.
+pub record Advertising (I : Instance) (v : ℕ) : Type 0 where
+  -- "A listed router .. announces it to every neighbour."
+  pub listed : I .listed v ≡ true → (x : Route) (w : ℕ) → advertises I v x w ≡ some v
+  -- "An unlisted client announces nothing."
+  pub client : I .listed v ≡ false → I .reflector v ≡ false → (x : Route) (w : ℕ) → advertises I v x w ≡ none
+  -- "An unlisted reflector announces the route it holds", if it holds one:
+  pub holds-nothing : I .listed v ≡ false → I .reflector v ≡ true → (w : ℕ) → advertises I v nothing w ≡ none
+  -- "one heard from a client to all neighbours but that client,
+  pub from-client :
+      I .listed v ≡ false → I .reflector v ≡ true → (e s w : ℕ) →
+      I .reflector s ≡ false → (s ≡ w → ⊥) → advertises I v (via e s) w ≡ some e
+  pub not-back :
+      I .listed v ≡ false → I .reflector v ≡ true → (e s : ℕ) →
+      I .reflector s ≡ false → advertises I v (via e s) s ≡ none
+  -- one heard from a reflector to its clients only."
+  pub to-client :
+      I .listed v ≡ false → I .reflector v ≡ true → (e s w : ℕ) →
+      I .reflector s ≡ true → I .reflector w ≡ false → advertises I v (via e s) w ≡ some e
+  pub to-no-reflector :
+      I .listed v ≡ false → I .reflector v ≡ true → (e s w : ℕ) →
+      I .reflector s ≡ true → I .reflector w ≡ true → advertises I v (via e s) w ≡ none
 
 -- w hears e from its neighbour v, where `view v` is what w sees v hold. The view need not be the table of one moment.
 unfoldable pub hears : Instance → (ℕ → Route) → ℕ → ℕ → ℕ → Bool
