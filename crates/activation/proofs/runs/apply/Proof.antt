@@ -48,14 +48,14 @@ returns c =
 activate-requires : tie.Need-activate-requires Inv-loop μ-loop
 activate-requires c κs =
     let d = c .before .before .before .before in
-    (entry (d .before) .pre .0, rw (c .before .wide .ensures .0) (router-below d), d .before .loop .inv .1 .legal)
+    (entry (d .before) .pre .0, rw (c .before .wide .ensures .0) (entry (d .before) .pre .2 _ (omega (arith, d .loop-test .taken))), d .before .loop .inv .1 .legal)
 
 act-requires : tie.Need-act-requires Inv-loop μ-loop
 act-requires c κs =
     let d = c .before .before .before .before .before .before .before in
     let r = d .before .loop .inv .1 in (
       entry (d .before) .pre .0 .count,
-      rw (c .before .before .before .before .wide .ensures .0) (router-below d),
+      rw (c .before .before .before .before .wide .ensures .0) (entry (d .before) .pre .2 _ (omega (arith, d .loop-test .taken))),
       r .waits,
       omega (arith, r .few, d .loop-test .taken, entry (d .before) .good),
     )
