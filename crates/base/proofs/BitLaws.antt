@@ -1,12 +1,12 @@
 -- Laws of single bits.
-use Prim.Native.Nat.{ℕ, suc, _+_, _-_, _/_, _%_, _^_, _≤_, _<_, max}
+use Prim.Native.Nat.{ℕ, suc, _+_, _-_, _/_, _%_, _^_, _≤_, _<_, min, max}
 use native.Mathlib.Omega.{arith}
 use mathlib.Core.Path.{_≡_, _∙_, ap}
 use mathlib.Core.List.{List}
 use mathlib.Core.Logic.{_⊎_, inl, inr, ⊎-elim}
 use native.Mathlib.Nat.{zero-div, div-self, div-eq-of-lt, lt-of-lt-of-le}
 use lib.ListN.{length, List·getD-eq-default}
-use lib.Bits.{bitOr, or-step, or-shr}
+use lib.Bits.{bitOr, bitAnd, or-step, and-step, or-shr, and-shr}
 use lib.Pow.{pow-pos, pow-lt, pow-mono, pow-add, shl-shr}
 use Rattle.base.specs.Bits.{bitN, bits}
 use Rattle.base.proofs.Numbers.{lt-or-le}
@@ -16,6 +16,12 @@ odd-or a b = omega (arith, or-step a b)
 
 pub bit-or : (a b j : ℕ) → bitN (bitOr a b) j ≡ max (bitN a j) (bitN b j)
 bit-or a b j = ap (λ x. x % 2) (or-shr a b j) ∙ odd-or (a / 2 ^ j) (b / 2 ^ j)
+
+odd-and : (a b : ℕ) → bitAnd a b % 2 ≡ min (a % 2) (b % 2)
+odd-and a b = omega (arith, and-step a b)
+
+pub bit-and : (a b j : ℕ) → bitN (bitAnd a b) j ≡ min (bitN a j) (bitN b j)
+bit-and a b j = ap (λ x. x % 2) (and-shr a b j) ∙ odd-and (a / 2 ^ j) (b / 2 ^ j)
 
 -- a word with one bit set
 pub bit-pow-same : (a : ℕ) → bitN (2 ^ a) a ≡ 1

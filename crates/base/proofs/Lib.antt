@@ -5,3 +5,4 @@ pub mod Seek
 pub mod Tab
 pub mod BitLaws
 pub mod SetBits
+pub mod BitWalk

@@ -5,3 +5,4 @@ pub mod Tab
 pub mod Bytes
 pub mod Bits
 pub mod Lent
+pub mod BitWalk

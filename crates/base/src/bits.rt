@@ -1,10 +1,11 @@
 // Single bits of a word.
 
 ghost use mathlib.Core.Path.{_≡_};
-ghost use Prim.Native.Nat.{_<_, _^_};
+ghost use Prim.Native.Nat.{ℕ, suc, _<_, _^_};
 ghost use lib.Bits.{bitOr};
 ghost use lib.Dec.{eqb};
 ghost use Rattle.base.specs.Bits.{bitN, withBit};
+ghost use Rattle.base.specs.BitWalk.{fromBit, LowestBit};
 
 // Bit j of x.
 pub fn bit(x: u64, j: usize) -> u64
@@ -36,4 +37,20 @@ pub fn set_bit(rows: &mut [u64; 64], i: usize, j: usize)
     ensures { λ r. ⌜ now (rows .exit) ≡ withBit (now (rows .entry)) i j ⌝ }
 {
     rows[i] = with_bit(rows[i], j);
+}
+
+// The lowest set bit of x.
+pub fn lowest_bit(x: u64) -> usize
+    requires { ⌜ 0 < x ⌝ }
+    ensures { λ r. ⌜ LowestBit x r × (r < 64) ⌝ }
+{
+    u64::trailing_zeros(x) as usize
+}
+
+// x without its lowest set bit.
+pub fn without_lowest(x: u64) -> u64
+    requires { ⌜ 0 < x ⌝ }
+    ensures { λ r. ⌜ (r < x) × ((v : ℕ) → LowestBit x v → r ≡ fromBit x (suc v)) ⌝ }
+{
+    x & (x - 1)
 }
