@@ -1,6 +1,5 @@
 -- One pass over the routers finds the choice of an activation.
 use Prim.Native.Nat.{ℕ, zero, suc, _+_, _≤_, _<_}
-use native.Mathlib.Numerals.{add-one}
 use native.Mathlib.Omega.{arith}
 use mathlib.Core.Path.{_≡_, refl, _∙_, sym, ap}
 use mathlib.Core.Bool.{Bool, true, false, not, cond, _&&_, _||_, and-false, or-true}
@@ -211,9 +210,9 @@ module _ (I : Instance) where
   heard-none w view = refl
 
   pub heard-more : (w : ℕ) (view : ℕ → Route) (v : ℕ)
-      → keptHeard I w view (v + 1) ≡ keepHeard I w v (view v) (keptHeard I w view v)
+      → keptHeard I w view (suc v) ≡ keepHeard I w v (view v) (keptHeard I w view v)
   unfolding keptHeard kept
-  heard-more w view v = ap (keptHeard I w view) (add-one v)
+  heard-more w view v = refl
 
 -- what is kept, case by case
 module _ (prefer : ℕ → ℕ → Bool) (v : ℕ) where

@@ -7,6 +7,7 @@ ghost use mathlib.Core.Path.{_≡_};
 ghost use mathlib.Core.List.{List};
 ghost use Prim.Native.Nat.{ℕ, _*_, _≤_, _<_};
 ghost use lib.ListN.{length};
+ghost use Rattle.base.specs.Bits.{bits};
 ghost use Rattle.bodies.specs.Distances.{distanceIn};
 ghost use Rattle.routing.specs.Instance.{Instance};
 ghost use Rattle.routing.specs.Preference.{prefers};
@@ -83,27 +84,24 @@ fn keep(distances: &[u8], n: usize, w: usize, v: usize, told: u8, kept: RouteByt
     kept
 }
 
-// The same of router v's entry: nothing is told but by a neighbour.
+// The same of neighbour v's entry.
 fn hear(
     net: Network,
-    rows: &[u64; 64],
     distances: &[u8],
     w: usize,
     v: usize,
     entry: RouteBytes,
     kept: RouteBytes,
 ) -> RouteBytes
-    requires { ⌜ WellFormed net (now rows) (now distances) × (w < net .n) × (v < net .n)
+    requires { ⌜ (net .n ≤ 64) × (w < net .n) × (v < net .n) × (2 * (net .n * net .n) ≤ length (now distances))
         × RouteBelow (net .n) (routeOf entry) × RouteBelow (net .n) (routeOf kept) ⌝ }
-    ensures { λ r. ⌜ routeOf r ≡ keepHeard (instance net (rows .entry) (distances .entry)) w v (routeOf entry) (routeOf kept) ⌝ }
+    ensures { λ r. ⌜ ((rows : List ℕ) → bits rows w v ≡ 1
+        → routeOf r ≡ keepHeard (decoded net rows (now (distances .entry))) w v (routeOf entry) (routeOf kept)) ⌝ }
 {
-    if !base::bits::has_bit(rows[w], v) {
-        return kept;
-    }
     keep(distances, net.n, w, v, advertised(net, v, entry, w), kept)
 }
 
-// The best route advertised to w.
+// The best route advertised to w: of its neighbours only listed routers and reflectors advertise any.
 fn best_heard(
     net: Network,
     rows: &[u64; 64],
@@ -114,23 +112,15 @@ fn best_heard(
     requires { ⌜ WellFormed net (now rows) (now distances) × (w < net .n) × RoutesIn (net .n) (now table) ⌝ }
     ensures { λ r. ⌜ routeOf r ≡ keptHeard (instance net (rows .entry) (distances .entry)) w (routeAt (now (table .entry))) (net .n) ⌝ }
 {
-    let n = net.n;
     let mut kept = RouteBytes {
         egress: NO_ROUTER,
         sender: NO_ROUTER,
     };
-    let mut v = 0;
-    while v < n {
-        kept = hear(
-            net,
-            rows,
-            distances,
-            w,
-            v,
-            crate::table::route_at(table, v),
-            kept,
-        );
-        v += 1;
+    let mut left = rows[w] & (net.listed | net.reflectors);
+    while left != 0 {
+        let v = base::bits::lowest_bit(left);
+        kept = hear(net, distances, w, v, crate::table::route_at(table, v), kept);
+        left = base::bits::without_lowest(left);
     }
     kept
 }

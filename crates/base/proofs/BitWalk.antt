@@ -4,10 +4,10 @@ use native.Mathlib.Numerals.{add-one}
 use native.Mathlib.Omega.{arith}
 use native.Mathlib.Nat.{zero-div, mul-assoc, mul-comm, suc-mul, pow-suc}
 use mathlib.Core.Path.{_≡_, refl, _∙_, sym, ap, ap₂}
-use mathlib.Core.Logic.{_⊎_, inl, inr, ⊎-elim}
+use mathlib.Core.Logic.{⊎-elim}
 use lib.Bits.{bitAnd, and-step, and-block, and-self, and-zero-l, shifted-even}
 use lib.Count.{trailingZeros, under}
-use lib.Pow.{pow-pos, pow-add, shl-shr, shr-shr, high}
+use lib.Pow.{pow-pos, pow-add, shl-shr, shr-shr}
 use Rattle.base.specs.Bits.{bitN}
 use Rattle.base.specs.BitWalk.{fromBit, LowestBit, BitWalk}
 use Rattle.base.proofs.Numbers.{lt-or-le, eq-or-ne}
@@ -43,8 +43,36 @@ from-below x p v l =
 below-lowest : (m v u : ℕ) → LowestBit m v → u < v → bitN m u ≡ 0
 below-lowest m v u h l = ap (λ y. bitN y u) (sym (h .low)) ∙ from-below m v u l
 
+pub walk-start : (P : ℕ → Type 0) (x n : ℕ) → P 0 → BitWalk P x n x
+unfolding fromBit
+walk-start P x n h = record { at = 0; upto = omega arith; left = omega arith; holds = h }
+
+-- a visit: m is not used up, and v is its lowest bit
+module _ (P : ℕ → Type 0) (x n m v : ℕ) (within : (u : ℕ) → bitN x u ≡ 1 → u < n) (w : BitWalk P x n m) (h : LowestBit m v) where
+  not-before : w .at ≤ v
+  not-before =
+      ⊎-elim (λ (l : v < w .at). absurd (omega (arith, h .set, ap (λ y. bitN y v) (w .left) ∙ from-below x (w .at) v l)))
+      (λ (l : w .at ≤ v). l)
+      (lt-or-le v (w .at))
+
+  pub walk-set : bitN x v ≡ 1
+  walk-set = sym (ap (λ y. bitN y v) (w .left) ∙ from-above x (w .at) v not-before) ∙ h .set
+
+  pub walk-within : v < n
+  walk-within = within v walk-set
+
+  -- the walk goes on with what holds after v
+  pub walk-more : (Q : ℕ → Type 0) (m′ : ℕ) → m′ ≡ fromBit m (suc v) → Q (suc v) → BitWalk Q x n m′
+  walk-more Q m′ e q =
+      record {
+        at = suc v;
+        upto = walk-within;
+        left = e ∙ ap (λ y. fromBit y (suc v)) (w .left) ∙ from-from x (w .at) (suc v) (omega (arith, not-before));
+        holds = q;
+      }
+
+-- at an unset bit the claim goes on
 module _ (P : ℕ → Type 0) (x n : ℕ) (pass : (v : ℕ) → v < n → bitN x v ≡ 0 → P v → P (suc v)) where
-  -- over unset bits the claim goes on
   over : (at v : ℕ) → at ≤ v → v ≤ n → ((u : ℕ) → at ≤ u → u < v → bitN x u ≡ 0) → P at → P v
   over at zero a b unset h = let e : at ≡ 0 = omega arith in rw e at h
   over at (suc v) a b unset h =
@@ -53,37 +81,12 @@ module _ (P : ℕ → Type 0) (x n : ℕ) (pass : (v : ℕ) → v < n → bitN x
       pass v b (unset v (omega arith) (omega arith)) (over at v (omega arith) (omega arith) (λ u c l. unset u c (omega arith)) h))
       (eq-or-ne at (suc v))
 
-  pub walk-start : P 0 → BitWalk P x n x
-  unfolding fromBit
-  walk-start h = record { at = 0; upto = omega arith; left = omega arith; holds = h }
-
-  module _ (within : (v : ℕ) → bitN x v ≡ 1 → v < n) (m v : ℕ) (w : BitWalk P x n m) (h : LowestBit m v) where
-    not-before : w .at ≤ v
-    not-before =
-        ⊎-elim (λ (l : v < w .at). absurd (omega (arith, h .set, ap (λ y. bitN y v) (w .left) ∙ from-below x (w .at) v l)))
-        (λ (l : w .at ≤ v). l)
-        (lt-or-le v (w .at))
-
-    pub walk-set : bitN x v ≡ 1
-    walk-set = sym (ap (λ y. bitN y v) (w .left) ∙ from-above x (w .at) v not-before) ∙ h .set
-
-    pub walk-within : v < n
-    walk-within = within v walk-set
-
-    pub walk-visit : P v
-    walk-visit =
-        over (w .at) v not-before (omega (arith, walk-within))
-        (λ u a b. sym (ap (λ y. bitN y u) (w .left) ∙ from-above x (w .at) u a) ∙ below-lowest m v u h b)
-        (w .holds)
-
-    pub walk-more : (m′ : ℕ) → m′ ≡ fromBit m (suc v) → P (suc v) → BitWalk P x n m′
-    walk-more m′ e p =
-        record {
-          at = suc v;
-          upto = walk-within;
-          left = e ∙ ap (λ y. fromBit y (suc v)) (w .left) ∙ from-from x (w .at) (suc v) (omega (arith, not-before));
-          holds = p;
-        }
+  -- .. so that it holds where a bit is visited, and at the end
+  pub walk-visit : (m v : ℕ) → ((u : ℕ) → bitN x u ≡ 1 → u < n) → BitWalk P x n m → LowestBit m v → P v
+  walk-visit m v within w h =
+      over (w .at) v (not-before P x n m v within w h) (omega (arith, walk-within P x n m v within w h))
+      (λ u a b. sym (ap (λ y. bitN y u) (w .left) ∙ from-above x (w .at) u a) ∙ below-lowest m v u h b)
+      (w .holds)
 
   pub walk-done : (m : ℕ) → BitWalk P x n m → m ≡ 0 → P n
   walk-done m w e =
