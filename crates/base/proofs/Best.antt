@@ -1,6 +1,5 @@
 -- Laws of `best`: it is the best candidate below the bound, and there is only one.
-use Prim.Native.Nat.{ℕ, zero, suc, _+_, _<_, _≤_}
-use native.Mathlib.Numerals.{add-one}
+use Prim.Native.Nat.{ℕ, zero, suc, _<_, _≤_}
 use native.Mathlib.Omega.{arith}
 use mathlib.Core.Path.{_≡_, refl, _∙_, sym, ap}
 use mathlib.Core.Bool.{Bool, true, false, not, cond}
@@ -119,9 +118,9 @@ pub best-start : (before : ℕ → ℕ → Bool) (P : ℕ → Bool) → best bef
 unfolding best
 best-start before P = refl
 
-pub best-more : (before : ℕ → ℕ → Bool) (P : ℕ → Bool) (n : ℕ) → best before P (n + 1) ≡ keepBest before (P n) n (best before P n)
+pub best-more : (before : ℕ → ℕ → Bool) (P : ℕ → Bool) (n : ℕ) → best before P (suc n) ≡ keepBest before (P n) n (best before P n)
 unfolding best
-best-more before P n = ap (best before P) (add-one n)
+best-more before P n = refl
 
 -- the order of the numbers themselves
 pub ltb-order : StrictOrder ltb

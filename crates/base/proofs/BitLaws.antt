@@ -1,12 +1,12 @@
 -- Laws of single bits.
-use Prim.Native.Nat.{ℕ, suc, _+_, _-_, _/_, _%_, _^_, _≤_, _<_, min, max}
+use Prim.Native.Nat.{ℕ, zero, suc, _+_, _-_, _/_, _%_, _^_, _≤_, _<_, min, max}
 use native.Mathlib.Omega.{arith}
-use mathlib.Core.Path.{_≡_, _∙_, ap}
+use mathlib.Core.Path.{_≡_, refl, _∙_, ap}
 use mathlib.Core.List.{List}
 use mathlib.Core.Logic.{_⊎_, inl, inr, ⊎-elim}
 use native.Mathlib.Nat.{zero-div, div-self, div-eq-of-lt, lt-of-lt-of-le}
 use lib.ListN.{length, List·getD-eq-default}
-use lib.Bits.{bitOr, bitAnd, or-step, and-step, or-shr, and-shr}
+use lib.Bits.{differ, bitOr, bitAnd, bitXor, or-step, and-step, xor-step, or-shr, and-shr, xor-shr}
 use lib.Pow.{pow-pos, pow-lt, pow-mono, pow-add, shl-shr}
 use Rattle.base.specs.Bits.{bitN, bits}
 use Rattle.base.proofs.Numbers.{lt-or-le}
@@ -22,6 +22,24 @@ odd-and a b = omega (arith, and-step a b)
 
 pub bit-and : (a b j : ℕ) → bitN (bitAnd a b) j ≡ min (bitN a j) (bitN b j)
 bit-and a b j = ap (λ x. x % 2) (and-shr a b j) ∙ odd-and (a / 2 ^ j) (b / 2 ^ j)
+
+-- a's bits that are not b's
+less-digit : (x z : ℕ) → x < 2 → z < 2 → differ x (min x z) ≡ min x (1 - z)
+less-digit zero z h l = omega arith
+less-digit (suc zero) zero h l = refl
+less-digit (suc zero) (suc zero) h l = refl
+less-digit (suc zero) (suc (suc z)) h l = absurd (omega arith)
+less-digit (suc (suc x)) z h l = absurd (omega arith)
+
+odd-less : (a b : ℕ) → bitXor a (bitAnd a b) % 2 ≡ min (a % 2) (1 - b % 2)
+odd-less a b =
+    let e : differ (a % 2) (bitAnd a b % 2) ≡ min (a % 2) (1 - b % 2) =
+        ap (differ (a % 2)) (odd-and a b) ∙ less-digit (a % 2) (b % 2) (omega arith) (omega arith) in
+    omega (arith, xor-step a (bitAnd a b))
+
+pub bit-less : (a b j : ℕ) → bitN (bitXor a (bitAnd a b)) j ≡ min (bitN a j) (1 - bitN b j)
+bit-less a b j =
+    ap (λ x. x % 2) (xor-shr a (bitAnd a b) j ∙ ap (bitXor (a / 2 ^ j)) (and-shr a b j)) ∙ odd-less (a / 2 ^ j) (b / 2 ^ j)
 
 -- a word with one bit set
 pub bit-pow-same : (a : ℕ) → bitN (2 ^ a) a ≡ 1

@@ -1,19 +1,20 @@
 -- Which bits are set, as tests: of a word and of rows, before and after one more is set.
-use Prim.Native.Nat.{ℕ, _%_, _^_, _≤_, _<_, max}
+use Prim.Native.Nat.{ℕ, zero, suc, _-_, _%_, _^_, _≤_, _<_, min, max}
 use native.Mathlib.Omega.{arith}
 use native.Mathlib.Nat.{zero-div}
-use mathlib.Core.Path.{_≡_, _∙_, sym, ap, ap₂}
-use mathlib.Core.Bool.{false, _&&_, _||_, or-true, or-false}
+use mathlib.Core.Path.{_≡_, refl, _∙_, sym, ap, ap₂}
+use mathlib.Core.Bool.{false, not, _&&_, _||_, or-true, or-false}
 use mathlib.Core.List.{List}
 use mathlib.Core.Logic.{⊎-elim}
 use borrow.Author.Tests.{eq-eqb, ne-eqb}
-use lib.Bits.{bitOr}
+use lib.Bits.{bitOr, bitAnd}
 use lib.Dec.{eqb}
 use lib.ListN.{length, getD, replicate, List·getD-eq-default, getD-replicate, length-replicate}
 use lib.Seq.{getD-set-same, getD-set-other}
+use Rattle.base.specs.Seek.{flag}
 use Rattle.base.specs.Bits.{bitN, bits, withBit}
 use Rattle.base.proofs.Numbers.{lt-or-le, eq-or-ne}
-use Rattle.base.proofs.BitLaws.{bit-or, bit-pow-same, bit-pow-other}
+use Rattle.base.proofs.BitLaws.{bit-or, bit-and, bit-pow-same, bit-pow-other}
 
 -- of 0 none; of a word with bit a set that one, beside those before
 pub bit-none : (v : ℕ) → eqb (bitN 0 v) 1 ≡ false
@@ -30,6 +31,41 @@ bit-with x a v =
     let same : max (bitN x v) (bitN (2 ^ a) v) ≡ bitN x v = omega (arith, bit-pow-other a v e) in
     ap (λ b. eqb b 1) same ∙ sym (ap (_||_ (eqb (bitN x v) 1)) (ne-eqb a v e) ∙ or-false (eqb (bitN x v) 1)))
     (eq-or-ne a v)
+
+-- a bit is the test of it
+pub bit-flag : (x v : ℕ) → bitN x v ≡ flag (eqb (bitN x v) 1)
+bit-flag x v = go (bitN x v) (omega arith)
+  where
+    go : (d : ℕ) → d < 2 → d ≡ flag (eqb d 1)
+    go zero l = refl
+    go (suc zero) l = refl
+    go (suc (suc d)) l = absurd (omega arith)
+
+-- of two words, those set in both, in one of them, and in the first alone
+digits : (P : ℕ → ℕ → Type 0) → P 0 0 → P 0 1 → P 1 0 → P 1 1 → (x y : ℕ) → x < 2 → y < 2 → P x y
+digits P a b c d zero zero h l = a
+digits P a b c d zero (suc zero) h l = b
+digits P a b c d (suc zero) zero h l = c
+digits P a b c d (suc zero) (suc zero) h l = d
+digits P a b c d zero (suc (suc y)) h l = absurd (omega arith)
+digits P a b c d (suc zero) (suc (suc y)) h l = absurd (omega arith)
+digits P a b c d (suc (suc x)) y h l = absurd (omega arith)
+
+module _ (a b v : ℕ) where
+  pub set-and : eqb (bitN (bitAnd a b) v) 1 ≡ (eqb (bitN a v) 1 && eqb (bitN b v) 1)
+  set-and =
+      ap (λ d. eqb d 1) (bit-and a b v)
+      ∙ digits (λ x y. eqb (min x y) 1 ≡ (eqb x 1 && eqb y 1)) refl refl refl refl (bitN a v) (bitN b v) (omega arith) (omega arith)
+
+  pub set-or : eqb (bitN (bitOr a b) v) 1 ≡ (eqb (bitN a v) 1 || eqb (bitN b v) 1)
+  set-or =
+      ap (λ d. eqb d 1) (bit-or a b v)
+      ∙ digits (λ x y. eqb (max x y) 1 ≡ (eqb x 1 || eqb y 1)) refl refl refl refl (bitN a v) (bitN b v) (omega arith) (omega arith)
+
+  pub set-less : (r : ℕ) → bitN r v ≡ min (bitN a v) (1 - bitN b v) → eqb (bitN r v) 1 ≡ (eqb (bitN a v) 1 && not (eqb (bitN b v) 1))
+  set-less r e =
+      ap (λ d. eqb d 1) e
+      ∙ digits (λ x y. eqb (min x (1 - y)) 1 ≡ (eqb x 1 && not (eqb y 1))) refl refl refl refl (bitN a v) (bitN b v) (omega arith) (omega arith)
 
 -- the same of rows
 pub rows-none : (n w v : ℕ) → eqb (bits (replicate n 0) w v) 1 ≡ false

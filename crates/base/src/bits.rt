@@ -1,7 +1,7 @@
 // Single bits of a word.
 
 ghost use mathlib.Core.Path.{_≡_};
-ghost use Prim.Native.Nat.{ℕ, suc, _<_, _^_};
+ghost use Prim.Native.Nat.{ℕ, suc, _-_, _<_, _^_, min};
 ghost use lib.Bits.{bitOr};
 ghost use lib.Dec.{eqb};
 ghost use Rattle.base.specs.Bits.{bitN, withBit};
@@ -37,6 +37,13 @@ pub fn set_bit(rows: &mut [u64; 64], i: usize, j: usize)
     ensures { λ r. ⌜ now (rows .exit) ≡ withBit (now (rows .entry)) i j ⌝ }
 {
     rows[i] = with_bit(rows[i], j);
+}
+
+// The bits of a that are not set in b.
+pub fn without(a: u64, b: u64) -> u64
+    ensures { λ r. ⌜ ((j : ℕ) → bitN r j ≡ min (bitN a j) (1 - bitN b j)) ⌝ }
+{
+    a ^ (a & b)
 }
 
 // The lowest set bit of x.

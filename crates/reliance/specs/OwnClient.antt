@@ -3,17 +3,10 @@ use Prim.Native.Nat.{ℕ, _<_}
 use mathlib.Core.Path.{_≡_}
 use mathlib.Core.Bool.{true, false}
 use mathlib.Core.List.{List}
-use mathlib.Core.Option.{Option}
 use lib.ListN.{getD}
-use Rattle.base.specs.Best.{keepBest}
 use Rattle.routing.specs.Instance.{Instance}
-use Rattle.routing.specs.Preference.{prefers}
-use Rattle.routing.specs.Reliance.{listedClientOf, bestClient}
+use Rattle.routing.specs.Reliance.{bestClient}
 use Rattle.routing.specs.RouterBytes.{asRouter}
-
--- of v's best client so far and e, the one to keep
-abbrev pub keepClient : Instance → ℕ → ℕ → Option ℕ → Option ℕ
-keepClient I v e best = keepBest (prefers I v) (listedClientOf I v e) e best
 
 -- the byte `own` is the best client of v if that is a reflector; of a client nothing is said, and no rule asks
 abbrev pub OwnClient : Instance → ℕ → ℕ → Type 0

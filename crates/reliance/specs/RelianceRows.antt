@@ -1,12 +1,19 @@
 -- The reliances of all routers as rows of bits.
 use Prim.Native.Nat.{ℕ, _≤_, _<_}
 use mathlib.Core.Path.{_≡_}
+use mathlib.Core.Bool.{_&&_, _||_}
 use mathlib.Core.List.{List}
+use mathlib.Core.Option.{Option}
+use lib.Dec.{eqb}
 use lib.ListN.{length, getD}
 use Rattle.base.specs.Bits.{bitN}
 use Rattle.base.specs.Seek.{flag}
-use Rattle.routing.specs.Instance.{Instance}
+use Rattle.routing.specs.Instance.{Instance, isRouter}
 use Rattle.routing.specs.Reliance.{relies}
+
+-- a word with bit v for each reflector v of a row, and for the best client, if there is one
+abbrev pub Candidates : ℕ → ℕ → Option ℕ → ℕ → Type 0
+Candidates reflectors row own r = (v : ℕ) → eqb (bitN r v) 1 ≡ ((eqb (bitN row v) 1 && eqb (bitN reflectors v) 1) || isRouter v own)
 
 -- a word with bit v for each router v below k that w relies on, and no other bit
 pub record RelianceRow (I : Instance) (w k row : ℕ) : Type 0 where

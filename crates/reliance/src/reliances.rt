@@ -3,46 +3,42 @@
 use network::NO_ROUTER;
 use network::Network;
 ghost use mathlib.Core.Path.{_≡_};
-ghost use mathlib.Core.Bool.{cond};
+ghost use mathlib.Core.Bool.{true, cond};
 ghost use mathlib.Core.List.{List};
 ghost use Prim.Native.Nat.{ℕ, _*_, _≤_, _<_, _^_};
 ghost use lib.Bits.{bitOr};
-ghost use lib.ListN.{length};
+ghost use lib.Dec.{eqb};
+ghost use lib.ListN.{length, getD};
+ghost use Rattle.base.specs.Best.{keepBest};
+ghost use Rattle.base.specs.Bits.{bitN};
 ghost use Rattle.bodies.specs.Distances.{distanceIn};
 ghost use Rattle.routing.specs.Instance.{Instance};
+ghost use Rattle.routing.specs.Preference.{prefers};
 ghost use Rattle.routing.specs.Reliance.{listedClientOf, bestClient, offer, betterOffer, relies};
-ghost use Rattle.reliance.specs.OwnClient.{keepClient, OwnClient, OwnClients, UnlistedReflector};
-ghost use Rattle.reliance.specs.RelianceRows.{RelianceRow, RelianceRows};
+ghost use Rattle.reliance.specs.OwnClient.{OwnClient, OwnClients, UnlistedReflector};
+ghost use Rattle.reliance.specs.RelianceRows.{Candidates, RelianceRow, RelianceRows};
 ghost use Rattle.network.specs.Decoded.{decoded, instance};
 ghost use Rattle.routing.specs.RouterBytes.{asRouter, RouterBelow};
 ghost use Rattle.network.specs.WellFormed.{WellFormed};
 
-// Whether e is a listed client that v neighbours.
-fn is_listed_client(net: Network, rows: &[u64; 64], v: usize, e: usize) -> bool
-    requires { ⌜ (v < 64) × (e < 64) ⌝ }
-    ensures { λ r. ⌜ ((distances : List ℕ) → r ≡ listedClientOf (decoded net (now (rows .entry)) distances) v e) ⌝ }
+// The listed clients that v neighbours, as bits.
+fn listed_clients(net: Network, rows: &[u64; 64], v: usize) -> u64
+    requires { ⌜ v < 64 ⌝ }
+    ensures { λ r. ⌜ ((distances : List ℕ) (e : ℕ) → eqb (bitN r e) 1 ≡ listedClientOf (decoded net (now (rows .entry)) distances) v e) ⌝ }
 {
-    if !base::bits::has_bit(rows[v], e) {
-        return false;
-    }
-    if !base::bits::has_bit(net.listed, e) {
-        return false;
-    }
-    !base::bits::has_bit(net.reflectors, e)
+    base::bits::without(rows[v] & net.listed, net.reflectors)
 }
 
-// Of the best client so far and e.
-fn keep_client(net: Network, rows: &[u64; 64], distances: &[u8], v: usize, e: usize, best: u8) -> u8
-    requires { ⌜ WellFormed net (now rows) (now distances) × (v < net .n) × (e < net .n) × RouterBelow (net .n) (asRouter best) ⌝ }
-    ensures { λ r. ⌜ asRouter r ≡ keepClient (instance net (rows .entry) (distances .entry)) v e (asRouter best) ⌝ }
+// Of the best client so far and e, another.
+fn keep_client(distances: &[u8], n: usize, v: usize, e: usize, best: u8) -> u8
+    requires { ⌜ (v < n) × (e < n) × (n ≤ 64) × (2 * (n * n) ≤ length (now distances)) × RouterBelow n (asRouter best) ⌝ }
+    ensures { λ r. ⌜ ((I : Instance) → I .dist ≡ distanceIn (now (distances .entry)) n
+        → asRouter r ≡ keepBest (prefers I v) true e (asRouter best)) ⌝ }
 {
-    if !is_listed_client(net, rows, v, e) {
-        return best;
-    }
     if best == NO_ROUTER {
         return e as u8;
     }
-    if network::comparison::prefers(distances, net.n, v, e, base::wide(best)) {
+    if network::comparison::prefers(distances, n, v, e, base::wide(best)) {
         return e as u8;
     }
     best
@@ -52,12 +48,12 @@ fn best_client(net: Network, rows: &[u64; 64], distances: &[u8], v: usize) -> u8
     requires { ⌜ WellFormed net (now rows) (now distances) × (v < net .n) ⌝ }
     ensures { λ r. ⌜ asRouter r ≡ bestClient (instance net (rows .entry) (distances .entry)) v ⌝ }
 {
-    let n = net.n;
     let mut best = NO_ROUTER;
-    let mut e = 0;
-    while e < n {
-        best = keep_client(net, rows, distances, v, e, best);
-        e += 1;
+    let mut left = listed_clients(net, rows, v);
+    while left != 0 {
+        let e = base::bits::lowest_bit(left);
+        best = keep_client(distances, net.n, v, e, best);
+        left = base::bits::without_lowest(left);
     }
     best
 }
@@ -191,20 +187,47 @@ fn noted(row: u64, v: usize, relied: bool) -> u64
     row
 }
 
+// The routers that rule 3 asks about: the neighbouring reflectors, and the best client if there is one.
+fn candidates(net: Network, rows: &[u64; 64], w: usize, own: u8) -> u64
+    requires { ⌜ (net .n ≤ 64) × (w < net .n) × RouterBelow (net .n) (asRouter own) ⌝ }
+    ensures { λ r. ⌜ Candidates (net .reflectors) (getD (now (rows .entry)) w 0) (asRouter own) r ⌝ }
+{
+    let reflectors = rows[w] & net.reflectors;
+    if own == NO_ROUTER {
+        return reflectors;
+    }
+    base::bits::with_bit(reflectors, base::wide(own))
+}
+
+// The routers that an unlisted reflector w relies on, where `best` has every reflector's best client.
+fn reflector_row(net: Network, rows: &[u64; 64], distances: &[u8], best: &[u8; 64], w: usize) -> u64
+    requires { ⌜ WellFormed net (now rows) (now distances) × (w < net .n) × OwnClients (instance net rows distances) (now best)
+        × UnlistedReflector (instance net rows distances) w (getD (now best) w 0) ⌝ }
+    ensures { λ r. ⌜ RelianceRow (instance net (rows .entry) (distances .entry)) w (net .n) r ⌝ }
+{
+    let own = best[w];
+    let mut row: u64 = 0;
+    let mut left = candidates(net, rows, w, own);
+    while left != 0 {
+        let v = base::bits::lowest_bit(left);
+        row = noted(row, v, reflector_relies(net, rows, distances, w, v, own, best[v]));
+        left = base::bits::without_lowest(left);
+    }
+    row
+}
+
 // The routers that w relies on, where `best` has every reflector's best client.
 fn reliance_row(net: Network, rows: &[u64; 64], distances: &[u8], best: &[u8; 64], w: usize) -> u64
     requires { ⌜ WellFormed net (now rows) (now distances) × (w < net .n) × OwnClients (instance net rows distances) (now best) ⌝ }
     ensures { λ r. ⌜ RelianceRow (instance net (rows .entry) (distances .entry)) w (net .n) r ⌝ }
 {
-    let n = net.n;
-    let own = best[w];
-    let mut row: u64 = 0;
-    let mut v = 0;
-    while v < n {
-        row = noted(row, v, relies_by(net, rows, distances, w, v, own, best[v]));
-        v += 1;
+    if base::bits::has_bit(net.listed, w) {
+        return 0;
     }
-    row
+    if base::bits::has_bit(net.reflectors, w) {
+        return reflector_row(net, rows, distances, best, w);
+    }
+    rows[w] & (net.reflectors | net.listed)
 }
 
 // The routers that each router relies on.

@@ -1,7 +1,5 @@
-use Prim.Native.Nat.{_<_}
 use native.Mathlib.Omega.{arith}
-use lib.Count.{trailingZeros, trailing-le}
-use lib.Dec.{lit<}
+use lib.Count.{trailing-le}
 use Rattle.base.proofs.BitWalk.{lowest-is}
 use Rattle.base.proofs.bits.lowest_bit.Statement.{statement}
 use Rattle.base.proofs.bits.lowest_bit.Tie as tie

@@ -1,56 +1,45 @@
-use Prim.Native.Nat.{ℕ, _≤_, _-_}
-use native.Mathlib.Omega.{arith}
-use mathlib.Core.Path.{_≡_, refl, _∙_, sym, ap}
-use mathlib.Core.Bool.{Bool}
+use mathlib.Core.Path.{refl, _∙_, sym}
 use borrow.Author.Needs.{needs}
-use Rattle.base.specs.Best.{keepBest, best}
-use Rattle.base.proofs.Best.{best-start, best-more}
+use borrow.Author.Tests.{eqb-true, eq-eqb}
 use Rattle.routing.specs.Instance.{Instance}
-use Rattle.routing.specs.Preference.{prefers}
 use Rattle.network.specs.Decoded.{decoded}
-use Rattle.routing.specs.Reliance.{listedClientOf, bestClient}
 use Rattle.routing.specs.RouterBytes.{asRouter}
 use Rattle.routing.proofs.RouterBytes.{router-none}
-use Rattle.routing.proofs.Reliance.{clients-below}
+use Rattle.routing.proofs.Reliance.{client-neighbour}
+use Rattle.reliance.proofs.Clients.{Seeking, seeking-start, seeking-below, seeking-router, seeking-more, seeking-done}
 use Rattle.reliance.proofs.reliances.best_client.Statement.{statement}
 use Rattle.reliance.proofs.reliances.best_client.Tie as tie
 
 abbrev Inv-loop : tie.InvT-loop
-Inv-loop net rows distances v n best₀ e₀ best′ e =
-    (e ≤ n) × (asRouter best′ ≡ best (prefers (decoded net rows distances) v) (listedClientOf (decoded net rows distances) v) e)
+Inv-loop net rows distances v best₀ left₀ best left = Seeking (decoded net rows distances) v left₀ (asRouter best) left
 
 abbrev μ-loop : tie.MeasureT-loop
-μ-loop net rows distances v n best₀ e₀ best′ e = n - e
+μ-loop net rows distances v best₀ left₀ best left = left
 
-module _ (c : tie.Start Inv-loop μ-loop) where
-  abbrev I : Instance
-  I = decoded (c .args .net) (c .args .rows .now) (c .args .distances .now)
+abbrev instance : tie.Start Inv-loop μ-loop → Instance
+instance c = decoded (c .args .net) (c .args .rows .now) (c .args .distances .now)
 
-  abbrev prefer : ℕ → ℕ → Bool
-  prefer = prefers I (c .args .v)
-
-  abbrev client : ℕ → Bool
-  client = listedClientOf I (c .args .v)
+loop-holds : tie.Need-loop-holds Inv-loop μ-loop
+loop-holds c =
+    let d = c .before .before in
+    let marks = c .listed-clients .ensures (d .args .distances .now) in
+    seeking-start (instance d) (d .args .v) _ _ (router-none 255 refl) marks
+    (λ e set. d .pre .0 .neighbours (d .args .v) e (eqb-true _ 1 (client-neighbour (instance d) (d .args .v) e (sym (marks e) ∙ eq-eqb _ 1 set))))
 
 keep-client-requires : tie.Need-keep-client-requires Inv-loop μ-loop
 keep-client-requires c κs =
-    let d = c .before .before .before in
-    let l = c .before .loop in
-    (d .pre .0, d .pre .1, c .loop-test .taken, rw (l .inv .1) (clients-below (I d) _ (l .e) (l .inv .0)))
+    let d = c .before .before .before .before .before in
+    let inv = c .before .before .loop .inv in
+    let low = c .lowest-bit .ensures .0 in
+    (d .pre .1, seeking-below _ _ _ _ _ inv _ low, d .pre .0 .count, d .pre .0 .pairs, seeking-router _ _ _ _ _ inv _ low)
 
 loop-again : tie.Need-loop-again Inv-loop μ-loop
 loop-again c =
-    let l = c .before .before .loop in
-    let d = c .before .before .before .before in
-    (omega arith, c .keep-client .ensures ∙ ap (keepBest (prefer d) (client d (l .e)) (l .e)) (l .inv .1) ∙ sym (best-more (prefer d) (client d) (l .e)))
-
-returns : tie.Need-returns Inv-loop μ-loop
-unfolding bestClient
-returns c =
-    let d = c .before .before .before in
-    let i = c .before .loop .inv in
-    let l = c .loop-test .left in
-    i .1 ∙ ap (best (prefer d) (client d)) (omega arith)
+    let k = c .before in
+    let v = k .before in
+    let d = v .before .before .before .before .before in
+    let low = v .lowest-bit .ensures .0 in
+    seeking-more _ _ _ _ _ (v .before .before .loop .inv) _ low _ _ (c .without-lowest .ensures .1 _ low) (k .keep-client .ensures (instance d) refl)
 
 pub best-client-spec : {M : Type 1} → statement M
 best-client-spec =
@@ -58,9 +47,11 @@ best-client-spec =
     (tie.spec
     Inv-loop
     μ-loop
-    (λ c. (omega arith, router-none 255 refl ∙ sym (best-start _ _)))
+    (λ c κs. search needs)
+    loop-holds
+    (λ c κs. search needs)
     keep-client-requires
-    (λ c. search needs)
-    (λ c. search needs)
+    (λ c κs. search needs)
+    (λ c. c .without-lowest .ensures .0)
     loop-again
-    returns)
+    (λ c. seeking-done _ _ _ _ _ (c .before .loop .inv) (c .loop-test .left)))
