@@ -15,7 +15,7 @@ use Rattle.base.proofs.BitWalk.{walk-start, walk-set, walk-within, walk-visit, 
 use Rattle.base.proofs.BitLaws.{bit-and, bit-or}
 use Rattle.routing.specs.Instance.{Route, nothing}
 use Rattle.routing.specs.Preference.{prefers}
-use Rattle.routing.proofs.Activation.{advertises-client}
+use Rattle.routing.proofs.Routes.{advertises-client}
 use Rattle.network.specs.declared.Network.{Network}
 use Rattle.network.specs.Decoded.{decoded}
 use Rattle.network.specs.WellFormed.{WellFormed}

@@ -12,7 +12,7 @@ use Rattle.network.specs.Decoded.{decoded}
 use Rattle.activation.specs.TableBytes.{routeOf}
 use Rattle.activation.proofs.TableBytes.{read-via}
 use Rattle.routing.proofs.RouterBytes.{router-none, router-some}
-use Rattle.routing.proofs.Activation.{reflects-nothing, reflects-apart, reflects-down, reflects-back, reflects-on}
+use Rattle.routing.proofs.Routes.{reflects-nothing, reflects-apart, reflects-down, reflects-back, reflects-on}
 use Rattle.activation.proofs.OnePass.{route-none, route-some}
 use Rattle.activation.proofs.activations.reflected.Statement.{statement}
 use Rattle.activation.proofs.activations.reflected.Tie as tie
