@@ -175,14 +175,14 @@ module _ (plan : List ℕ) (k : ℕ) (acts : List ℕ) (limit : ℕ) (table : Le
         cut = sym (when-refused _ _ _ n);
       }
 
-  pub run-given : r .refused ≡ 0
-      → RunExport plan k acts limit 0 table (wrote applied (r .applied)) (wrote rounds (r .rounds)) (wrote exhausted (flag (r .exhausted)))
-  run-given zero =
+  pub run-given : (exhausted′ : ℕ) → exhausted′ ≡ flag (r .exhausted) → r .refused ≡ 0
+      → RunExport plan k acts limit 0 table (wrote applied (r .applied)) (wrote rounds (r .rounds)) (wrote exhausted exhausted′)
+  run-given exhausted′ is zero =
       let n : runRefusal plan k acts (table .before) ≡ 0 = sym (call .number) ∙ zero in
       record {
         numbered = sym n;
         bytes = call .bytes;
         acted = call .applied ∙ sym (when-given _ _ _ n);
         whole = call .whole ∙ sym (when-given _ _ _ n);
-        cut = ap flag (call .exhausted) ∙ sym (when-given _ _ _ n);
+        cut = is ∙ ap flag (call .exhausted) ∙ sym (when-given _ _ _ n);
       }

@@ -14,7 +14,7 @@ as-byte false = refl
 returns-2 : tie.Need-returns-2
 returns-2 c =
     let run = c .before .before .before .before .before .run in
-    rw (as-byte (run .result .exhausted)) (run-given _ _ _ _ _ (run .result) (run .ensures) _ _ _ (c .before .if1 .left))
+    run-given _ _ _ _ _ (run .result) (run .ensures) _ _ _ _ (as-byte (run .result .exhausted)) (c .before .if1 .left)
 
 pub rrp-run-spec : {M : Type 1} → statement M
 rrp-run-spec =
