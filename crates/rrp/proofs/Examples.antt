@@ -21,8 +21,9 @@ use Rattle.ranking.specs.Rank.{rankOver, rankRounds, rank}
 use Rattle.cycles.specs.Cycle.{start, next, walk, second, first, lap, cycleIn, cycle}
 use Rattle.settling.specs.Settled.{chooseAll, chosenAfter, settledTable}
 use Rattle.activation.specs.TableBytes.{readRoute, tableOf, tableBytes, activateBytes, runBytes}
-use Rattle.refusals.specs.Refusals.{egressListRefusal, compareRefusal, reliesRefusal, buffersOk, verdictRefusal, tableChecks, sequenceOk, runRefusal}
+use Rattle.refusals.specs.Refusals.{egressListRefusal, compareRefusal, reliesRefusal, buffersOk, verdictRefusal, tableChecks, sequenceOk, activateRefusal, runRefusal}
 use Rattle.checker.specs.Compare.{better}
+use Rattle.checker.specs.Activate.{activateTable}
 use Rattle.checker.specs.Verdict.{isStable, labelsOf, ranksOf, highestOf, settledBytes, cycleOf, sizeOf, labelsAfter, ranksAfter, tableAfter, cycleAfter}
 use Rattle.checker.specs.Run.{runApplied, runRounds, runExhausted, runTable}
 use Rattle.rrp.specs.Examples.{plan, ExportExamples}
@@ -31,7 +32,7 @@ pub export-examples : ExportExamples
 unfolding
     plan egressListRefusal compareRefusal reliesRefusal better
     isStable labelsOf ranksOf highestOf settledBytes cycleOf sizeOf buffersOk verdictRefusal labelsAfter ranksAfter tableAfter cycleAfter
-    tableChecks sequenceOk runRefusal runApplied runRounds runExhausted runTable
+    tableChecks sequenceOk activateRefusal activateTable runRefusal runApplied runRounds runExhausted runTable
     readRoute tableOf tableBytes activateBytes runBytes chooseAll chosenAfter settledTable start next walk second first lap cycleIn cycle
     rankOver rankRounds rank together label stable grouped closing acted roundsFrom rounds
     reflects advertises hears senderOf routeTo choice choose entryOk tableOk listedClientOf bestClient offer betterOffer relies prefers
@@ -51,6 +52,7 @@ export-examples =
       suspect = λ r l k t c v s e. (e .numbered, e .judged, e .sized, e .labelled, e .ranked, e .settled, e .cycled);
       stable = λ r l k t c v s e. (e .numbered, e .judged, e .sized, e .labelled, e .ranked, e .settled, e .cycled);
       refusedVerdict = λ r l k t c v s e. (e .numbered, e .judged, e .sized, e .labelled, e .ranked, e .settled, e .cycled);
+      activated = λ r t e. (e .number, e .bytes);
       limited = λ r t a n x e. (e .numbered, e .bytes, e .acted, e .whole, e .cut);
       unlimited = λ r t a n x e. (e .numbered, e .bytes, e .acted, e .whole, e .cut);
       refusedRun = λ r t a n x e. (e .numbered, e .bytes, e .acted, e .whole, e .cut);

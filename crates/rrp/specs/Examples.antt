@@ -3,6 +3,7 @@ use Prim.Native.Nat.{ℕ}
 use mathlib.Core.Path.{_≡_}
 use mathlib.Core.List.{List, [], _∷_}
 use Rattle.base.specs.Lent.{Lent}
+use Rattle.checker.specs.Activate.{Activates}
 use Rattle.rrp.specs.Exports.{SizeExport, ListExport, CompareExport, ReliesExport, VerdictExport, RunExport}
 
 -- Document 01, "Small plans", M3's distances: "Routers 0, 1 reflectors; 2, 3 clients; sessions 0-1, 0-2, 1-3; identifiers 10, 20, 30, 40.
@@ -30,18 +31,19 @@ plan =
 abbrev pub from : List ℕ → List ℕ → Lent (List ℕ)
 from before after = record { before = before; after = after }
 
--- the bytes lent: 9 is no router; in the table the listed routers 2 and 3 hold their own routes, the others nothing, and a byte follows it
+-- bytes that a verdict is lent: one more than it needs, and 9 is no router
 abbrev pub five : List ℕ
 five = 9 ∷ 9 ∷ 9 ∷ 9 ∷ 9 ∷ []
 
 abbrev pub nine : List ℕ
 nine = 9 ∷ 9 ∷ 9 ∷ 9 ∷ 9 ∷ 9 ∷ 9 ∷ 9 ∷ 9 ∷ []
 
+-- a table for list 3 in which the unlisted routers hold nothing, and a byte after it; a sequence of activations
 abbrev pub fromNothing : List ℕ
-fromNothing = 255 ∷ 255 ∷ 255 ∷ 255 ∷ 2 ∷ 2 ∷ 3 ∷ 3 ∷ 9 ∷ []
+fromNothing = 255 ∷ 255 ∷ 255 ∷ 255 ∷ 255 ∷ 255 ∷ 3 ∷ 3 ∷ 9 ∷ []
 
 abbrev pub sequence : List ℕ
-sequence = 0 ∷ 1 ∷ 2 ∷ 3 ∷ 0 ∷ 1 ∷ 2 ∷ 3 ∷ []
+sequence = 2 ∷ 0 ∷ 1 ∷ 3 ∷ 0 ∷ 2 ∷ 1 ∷ 3 ∷ []
 
 -- r is the number returned
 pub record ExportExamples : Type 0 where
@@ -76,18 +78,21 @@ pub record ExportExamples : Type 0 where
       → VerdictExport plan 3 r (from five labels) (from five ranks) (from nine table) (from five cycle) stable size
       → (r ≡ 8) × (stable .after ≡ stable .before) × (size .after ≡ size .before)
       × (labels ≡ five) × (ranks ≡ five) × (table ≡ nine) × (cycle ≡ five)
-  -- six activations of eight: one round ends among them, and the limit cuts the sequence short
+  -- list 3: router 1 takes the route of its client 3
+  pub activated : (r : ℕ) (table : List ℕ) → Activates plan 1 1 fromNothing r table
+      → (r ≡ 0) × (table ≡ 255 ∷ 255 ∷ 3 ∷ 3 ∷ 255 ∷ 255 ∷ 3 ∷ 3 ∷ 9 ∷ [])
+  -- five activations of eight: one round ends among them, router 2 is not activated again, and the limit cuts the sequence short
   pub limited : (r : ℕ) (table : List ℕ) (applied rounds exhausted : Lent ℕ)
-      → RunExport plan 0 sequence 6 r (from fromNothing table) applied rounds exhausted
-      → (r ≡ 0) × (table ≡ 2 ∷ 2 ∷ 2 ∷ 0 ∷ 2 ∷ 2 ∷ 3 ∷ 3 ∷ 9 ∷ [])
-      × (applied .after ≡ 6) × (rounds .after ≡ 1) × (exhausted .after ≡ 1)
+      → RunExport plan 1 sequence 5 r (from fromNothing table) applied rounds exhausted
+      → (r ≡ 0) × (table ≡ 3 ∷ 1 ∷ 3 ∷ 3 ∷ 255 ∷ 255 ∷ 3 ∷ 3 ∷ 9 ∷ [])
+      × (applied .after ≡ 5) × (rounds .after ≡ 1) × (exhausted .after ≡ 1)
   -- a limit above the sequence's length: all eight activations, two rounds
   pub unlimited : (r : ℕ) (table : List ℕ) (applied rounds exhausted : Lent ℕ)
-      → RunExport plan 0 sequence 9 r (from fromNothing table) applied rounds exhausted
-      → (r ≡ 0) × (table ≡ 2 ∷ 2 ∷ 2 ∷ 0 ∷ 2 ∷ 2 ∷ 3 ∷ 3 ∷ 9 ∷ [])
+      → RunExport plan 1 sequence 9 r (from fromNothing table) applied rounds exhausted
+      → (r ≡ 0) × (table ≡ 3 ∷ 1 ∷ 3 ∷ 3 ∷ 3 ∷ 0 ∷ 3 ∷ 3 ∷ 9 ∷ [])
       × (applied .after ≡ 8) × (rounds .after ≡ 2) × (exhausted .after ≡ 0)
-  -- for list 3 router 2 holds its own route in that table, which it must not: number 10, and everything is left as it was
+  -- for list 2,3 router 2 does not hold its own route in that table: number 10, and everything is left as it was
   pub refusedRun : (r : ℕ) (table : List ℕ) (applied rounds exhausted : Lent ℕ)
-      → RunExport plan 1 sequence 6 r (from fromNothing table) applied rounds exhausted
+      → RunExport plan 0 sequence 5 r (from fromNothing table) applied rounds exhausted
       → (r ≡ 10) × (table ≡ fromNothing)
       × (applied .after ≡ applied .before) × (rounds .after ≡ rounds .before) × (exhausted .after ≡ exhausted .before)
