@@ -27,9 +27,9 @@ cond-itself : (b : Bool) → cond b true false ≡ b
 cond-itself true = refl
 cond-itself false = refl
 
--- a buffer that is left as it was
-abbrev kept : List ℕ → Lent (List ℕ)
-kept bytes = record { before = bytes; after = bytes }
+-- what is left as it was
+abbrev pub kept : {A : Type 0} → A → Lent A
+kept x = record { before = x; after = x }
 
 module _ (plan : List ℕ) (k : ℕ) where
   pub verdict-refused : (labels ranks table shown : List ℕ) (number : ℕ)

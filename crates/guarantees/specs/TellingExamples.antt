@@ -7,7 +7,9 @@ use lib.ListN.{replicate}
 use Rattle.checker.specs.declared.compare.CompareAnswer.the-variants.{First, Second, Same}
 use Rattle.checker.specs.declared.relies.ReliesAnswer.the-variants.{Yes, No}
 use Rattle.checker.specs.declared.verdict.VerdictAnswer.the-variants.{Suspect}
-use Rattle.guarantees.specs.Questions.{checkAsked, listAsked, compareAsked, reliesAsked, verdictAsked, activateAsked, runAsked, checkIs, listIs, compareIs, reliesIs, verdictIs, activateIs, runIs, Example, example, Hold}
+use Rattle.guarantees.specs.Questions.{checkAsked, listAsked, compareAsked, reliesAsked, verdictAsked, activateAsked, runAsked}
+use Rattle.guarantees.specs.Questions.{checkIs, listIs, compareIs, reliesIs, verdictIs, activateIs, runIs}
+use Rattle.guarantees.specs.Questions.{Example, example, Hold}
 
 -- Six routers, reflectors 0, 1, 2 and clients 3, 4, 5, with the given body of kind 1.
 unfoldable pub sixRouters : (routers : List ℕ) → List ℕ

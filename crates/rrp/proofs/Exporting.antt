@@ -25,14 +25,12 @@ use Rattle.checker.specs.Verdict.{isStable, verdictOf, verdictAnswer, verdictNu
 use Rattle.checker.specs.Run.{Runs}
 use Rattle.checker.specs.Size.{sizeRouters, sizeLists, Sizes}
 use Rattle.checker.proofs.Refused.{when-refused, when-given}
+use Rattle.checker.proofs.Judging.{kept}
 use Rattle.plan.specs.EgressLists.{SpanOf}
 use Rattle.rrp.specs.Exports.{SizeExport, ListExport, CompareExport, ReliesExport, VerdictExport, RunExport}
 use Rattle.rrp.proofs.Written.{written, refused-by}
 
--- a variable that a call leaves, and one that it writes
-abbrev kept : ℕ → Lent ℕ
-kept x = record { before = x; after = x }
-
+-- a variable that a call writes
 abbrev wrote : ℕ → ℕ → Lent ℕ
 wrote x y = record { before = x; after = y }
 
