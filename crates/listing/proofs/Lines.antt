@@ -1,18 +1,15 @@
--- Which line is written, by what a call answered.
-use Prim.Native.Nat.{ℕ, _*_, _≤_, _<_}
+-- The line of a list, by what was found; and the text of a plan, by its refusal.
+use Prim.Native.Nat.{ℕ, _≤_, _<_}
 use native.Mathlib.Omega.{arith}
 use mathlib.Core.Path.{_≡_, refl, _∙_, sym, ap, ap₂}
 use mathlib.Core.Bool.{Bool, true, false, cond}
 use mathlib.Core.List.{List, _++_}
-use mathlib.Core.Logic.{⊎-elim}
-use borrow.Author.Tests.{le-leb}
 use lib.ListN.{length, take, drop, length-append}
 use lib.Seq.{take-append-seam}
-use Rattle.base.proofs.Numbers.{eq-or-ne}
 use Rattle.base.specs.Seek.{flag, highest}
 use Rattle.base.proofs.Seek.{highest-under}
 use Rattle.contents.specs.Header.{routerCount}
-use Rattle.plan.specs.Refusal.{refuse, planRefusal}
+use Rattle.plan.specs.Refusal.{planRefusal}
 use Rattle.plan.specs.EgressLists.{listCount}
 use Rattle.plan.proofs.Passed.{passed}
 use Rattle.ranking.specs.Rank.{rank}
@@ -20,95 +17,36 @@ use Rattle.ranking.proofs.RankRule.{rank-below}
 use Rattle.graph.proofs.Sharing.{stable-acyclic}
 use Rattle.routing.proofs.Reliance.{relies-other}
 use Rattle.network.specs.FromPlan.{instanceOf}
-use Rattle.refusals.specs.Refusals.{hasList, egressListRefusal, buffersOk, verdictRefusal}
-use Rattle.refusals.proofs.Asked.{few-routers, asked-refused, asked-passed, list-asked}
-use Rattle.checker.specs.declared.verdict.VerdictAnswer.{VerdictAnswer}
-use Rattle.checker.specs.declared.verdict.VerdictAnswer.the-variants.{Refused, Stable, Suspect}
-use Rattle.checker.specs.Verdict.{reliance, isStable, highestOf, cycleOf, sizeOf, verdictOf, verdictAnswer, cycleAfter, VerdictCall}
-use Rattle.checker.specs.Refused.{field}
+use Rattle.assessment.specs.declared.Assessment.{Assessment}
+use Rattle.assessment.specs.declared.Assessment.the-variants.{Stable, Suspect}
+use Rattle.refusals.proofs.Asked.{few-routers}
+use Rattle.checker.specs.declared.size.SizeAnswer.{SizeAnswer}
+use Rattle.checker.specs.Size.{sizeRouters, sizeLists, Sizes}
+use Rattle.checker.specs.Verdict.{reliance, isStable, highestOf, cycleOf}
 use Rattle.checker.proofs.Refused.{when-refused, when-given}
-use Rattle.report.specs.Buffer.{LineAtFront}
 use Rattle.report.specs.Text.{headLine, refusedLine, stableLine, suspectLine}
-use Rattle.listing.specs.Listing.{firstLine, verdictLine, listLine}
-use Rattle.listing.specs.Answer.{answerLine, Printable}
+use Rattle.listing.specs.Listing.{listLine, listLines, planText}
+use Rattle.listing.specs.Found.{foundLine, Printable}
 
--- a line lies within the buffer that it was written to
-pub line-within : (buffer line after : List ℕ) (size : ℕ) → LineAtFront buffer line after size → size ≤ length after
-line-within buffer line after size h = omega (arith, h .long, ap length (h .is) ∙ length-append line (drop size buffer))
+-- a plan that is not refused has n routers and m lists
+pub record Sized (plan : List ℕ) (n m : ℕ) : Type 0 where
+  pub ok : planRefusal plan ≡ 0
+  pub routers : n ≡ routerCount plan
+  pub lists : m ≡ listCount plan
+  pub fewRouters : n ≤ 64
+  pub fewLists : m ≤ 64
 
 module _ (plan : List ℕ) where
-  pub first-refused : (number : ℕ) → number ≡ planRefusal plan → (number ≡ 0 → ⊥) → firstLine plan ≡ refusedLine number
-  unfolding firstLine
-  first-refused number e ne = when-refused _ _ _ (λ z. ne (e ∙ z)) ∙ ap refusedLine (sym e)
+  pub text-refused : (number : ℕ) → number ≡ planRefusal plan → (number ≡ 0 → ⊥) → refusedLine number ≡ planText plan
+  unfolding planText
+  text-refused number e ne = ap refusedLine e ∙ sym (when-refused _ _ _ (λ z. ne (e ∙ z)))
 
-  pub first-given : planRefusal plan ≡ 0 → firstLine plan ≡ headLine (routerCount plan) (listCount plan)
-  unfolding firstLine
-  first-given h = when-given _ _ _ h
+  -- where the plan passes
+  module _ (ok : planRefusal plan ≡ 0) where
+    few-lists : listCount plan ≤ 64
+    few-lists = passed plan ok .lists .most
 
-  pub few-lists : planRefusal plan ≡ 0 → listCount plan ≤ 64
-  few-lists h = passed plan h .lists .most
-
--- 1 for a refusal
-abbrev kind : VerdictAnswer → ℕ
-kind (Refused number) = 1
-kind (Stable highest) = 0
-kind (Suspect count) = 0
-
--- what the verdict call of buffers that are long enough for any plan answered
-module _ (plan : List ℕ) (k : ℕ) (labels ranks table cycle : List ℕ)
-    (long : (64 ≤ length labels) × (64 ≤ length ranks) × (128 ≤ length table) × (64 ≤ length cycle)) where
-  abbrev N : ℕ
-  N = verdictRefusal plan k labels ranks table cycle
-
-  -- only the plan and the list can be refused
-  roomy : N ≡ egressListRefusal plan k
-  unfolding verdictRefusal egressListRefusal buffersOk refuse
-  roomy = ⊎-elim passes (λ ne. sym (asked-refused plan (hasList plan k) _ _ refl ne)) (eq-or-ne (egressListRefusal plan k) 0)
-    where
-      passes : egressListRefusal plan k ≡ 0 → N ≡ egressListRefusal plan k
-      passes z =
-          let few = few-routers plan (list-asked plan k z .planOk) in
-          let n = routerCount plan in
-          sym (asked-passed plan (hasList plan k) _ z)
-          ∙ rw (
-            le-leb n (length labels) (omega (arith, long .0)),
-            le-leb n (length ranks) (omega (arith, long .1)),
-            le-leb (2 * n) (length table) (omega (arith, long .2)),
-            le-leb n (length cycle) (omega (arith, long .3)),
-          ) (sym z)
-
-  module _ (labels′ ranks′ table′ cycle′ : List ℕ) where
-    abbrev Answered : VerdictAnswer → Type 0
-    Answered r =
-        VerdictCall plan k r (record { before = labels; after = labels′ }) (record { before = ranks; after = ranks′ })
-        (record { before = table; after = table′ }) (record { before = cycle; after = cycle′ })
-
-    said-refused : (number : ℕ) → Answered (Refused number) → listLine plan k ≡ refusedLine number
-    unfolding listLine verdictAnswer verdictOf
-    said-refused number a = when-refused _ _ _ (λ z. some (roomy ∙ z)) ∙ ap refusedLine (sym (a .numbered ∙ roomy))
-      where
-        verdict-kind : (b : Bool) → kind (cond b (Stable (highestOf plan k)) (Suspect (length (cycleOf plan k)))) ≡ 0
-        verdict-kind true = refl
-        verdict-kind false = refl
-
-        some : N ≡ 0 → ⊥
-        some z =
-            let e : _≡_ {A = ℕ} 1 0 = ap kind (a .answer ∙ when-given _ _ _ z) ∙ verdict-kind (isStable plan k) in
-            omega arith
-
-    -- where nothing is refused
-    module _ (z : N ≡ 0) where
-      list-few : k < 64
-      list-few = let q = list-asked plan k (sym roomy ∙ z) in omega (arith, q .list, few-lists plan (q .planOk))
-
-      line-is : {b : Bool} → isStable plan k ≡ b → listLine plan k ≡ cond b (stableLine k (highestOf plan k)) (suspectLine k (cycleOf plan k))
-      unfolding listLine verdictLine
-      line-is s = when-given _ _ _ (sym roomy ∙ z) ∙ ap (λ b. cond b (stableLine k (highestOf plan k)) (suspectLine k (cycleOf plan k))) s
-
-      size-is : {b : Bool} → isStable plan k ≡ b → field N (sizeOf plan k) ≡ cond b (highestOf plan k) (length (cycleOf plan k))
-      unfolding sizeOf
-      size-is s = when-given _ _ _ z ∙ ap (λ b. cond b (highestOf plan k) (length (cycleOf plan k))) s
-
+    module _ (k : ℕ) (asked : k < listCount plan) where
       highest-few : isStable plan k ≡ true → highestOf plan k ≤ 64
       unfolding isStable highestOf
       highest-few s =
@@ -116,26 +54,56 @@ module _ (plan : List ℕ) (k : ℕ) (labels ranks table cycle : List ℕ)
           let n = routerCount plan in
           let none = stable-acyclic R n (λ i m. ap flag (relies-other (instanceOf plan k) i)) s in
           let low : highest (rank R n) n ≤ n = highest-under (rank R n) n n (λ w l. omega (arith, rank-below R n none w l)) in
-          omega (arith, few-routers plan (list-asked plan k (sym roomy ∙ z) .planOk))
+          omega (arith, few-routers plan ok)
 
-    cycle-after : N ≡ 0 → isStable plan k ≡ false → cycleAfter N plan k cycle ≡ cycleOf plan k ++ drop (length (cycleOf plan k)) cycle
-    unfolding cycleAfter
-    cycle-after z s = when-given _ _ _ z ∙ ap (λ b. cond b cycle (cycleOf plan k ++ drop (length (cycleOf plan k)) cycle)) s
+      -- what was found says the list's line
+      pub found-says :
+          {r : Assessment} (shown shown′ : List ℕ) →
+          r ≡ cond (isStable plan k) (Stable (highestOf plan k)) (Suspect (length (cycleOf plan k))) →
+          shown′ ≡ cond (isStable plan k) shown (cycleOf plan k ++ drop (length (cycleOf plan k)) shown) →
+          length shown′ ≤ 64 →
+          Printable r k shown′ × (foundLine r k shown′ ≡ listLine plan k)
+      unfolding listLine
+      found-says {r} shown shown′ verdict cycled short = go (isStable plan k) refl
+        where
+          cycle : List ℕ
+          cycle = cycleOf plan k
 
-    -- the answer's line is the list's
-    pub said : (r : VerdictAnswer) → length cycle′ ≤ 64 → Answered r → Printable r k cycle′ × (listLine plan k ≡ answerLine r k cycle′)
-    said (Refused number) short a = (tt, said-refused number a)
-    said (Stable highest) short a =
-        let z : N ≡ 0 = sym (a .numbered) in
-        let s : isStable plan k ≡ true = sym (a .stable ∙ when-given _ _ _ z) in
-        let h : highest ≡ highestOf plan k = a .size ∙ size-is z s in
-        ((omega (arith, list-few z), omega (arith, highest-few z s)), line-is z s ∙ ap (stableLine k) (sym h))
-    said (Suspect count) short a =
-        let z : N ≡ 0 = sym (a .numbered) in
-        let s : isStable plan k ≡ false = sym (a .stable ∙ when-given _ _ _ z) in
-        let c : count ≡ length (cycleOf plan k) = a .size ∙ size-is z s in
-        let shown : cycle′ ≡ cycleOf plan k ++ drop (length (cycleOf plan k)) cycle = a .cycled ∙ cycle-after z s in
-        let fits : count ≤ length cycle′ = omega (arith, ap length shown ∙ length-append (cycleOf plan k) (drop (length (cycleOf plan k)) cycle)) in (
-          (omega (arith, list-few z), fits, omega arith),
-          line-is z s ∙ ap (suspectLine k) (sym (ap₂ take c shown ∙ take-append-seam (cycleOf plan k) _)),
-        )
+          -- what the verdict decides
+          by : {A : Type 0} {b : Bool} (x y : A) → isStable plan k ≡ b → cond (isStable plan k) x y ≡ cond b x y
+          by x y = ap (λ b. cond b x y)
+
+          line : {b : Bool} → isStable plan k ≡ b → cond b (stableLine k (highestOf plan k)) (suspectLine k cycle) ≡ listLine plan k
+          line s = sym (by (stableLine k (highestOf plan k)) (suspectLine k cycle) s)
+
+          go : (b : Bool) → isStable plan k ≡ b → Printable r k shown′ × (foundLine r k shown′ ≡ listLine plan k)
+          go true s =
+              let found : r ≡ Stable (highestOf plan k) = verdict ∙ by (Stable (highestOf plan k)) (Suspect (length cycle)) s in
+              rw found ((omega (arith, few-lists), omega (arith, highest-few s)), line s)
+          go false s =
+              let found : r ≡ Suspect (length cycle) = verdict ∙ by (Stable (highestOf plan k)) (Suspect (length cycle)) s in
+              let left : shown′ ≡ cycle ++ drop (length cycle) shown = cycled ∙ by shown (cycle ++ drop (length cycle) shown) s in
+              let long : length cycle ≤ length shown′ = omega (arith, ap length left ∙ length-append cycle (drop (length cycle) shown)) in
+              rw found (
+                (omega (arith, few-lists), long, omega arith),
+                ap (suspectLine k) (ap (take (length cycle)) left ∙ take-append-seam cycle _) ∙ line s,
+              )
+
+-- what the size call answers of a plan that passes
+pub sized : {plan : List ℕ} {r : SizeAnswer} → Sizes plan r → r .refused ≡ 0 → Sized plan (r .routers) (r .lists)
+unfolding sizeRouters sizeLists
+sized {plan} {r} s passes =
+    let ok : planRefusal plan ≡ 0 = sym (s .number) ∙ passes in
+    let n : r .routers ≡ routerCount plan = s .routers ∙ when-given _ _ _ ok in
+    let m : r .lists ≡ listCount plan = s .lists ∙ when-given _ _ _ ok in
+    record {
+      ok = ok;
+      routers = n;
+      lists = m;
+      fewRouters = omega (arith, few-routers plan ok);
+      fewLists = omega (arith, few-lists plan ok);
+    }
+
+pub text-given : {plan : List ℕ} {n m : ℕ} → Sized plan n m → headLine n m ++ listLines plan m ≡ planText plan
+unfolding planText
+text-given {plan} s = ap₂ (λ n m. headLine n m ++ listLines plan m) (s .routers) (s .lists) ∙ sym (when-given _ _ _ (s .ok))

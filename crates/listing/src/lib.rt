@@ -1,53 +1,79 @@
-// The lines of a plan's report, each written to the front of a caller's buffer. The line's length is returned.
+// The text that the verdict program prints of a plan.
 
-use checker::verdict::VerdictAnswer;
-ghost use Prim.Native.Nat.{_≤_};
+use assessment::Assessment;
+use contents::entries::DISTANCES;
+ghost use mathlib.Core.Path.{_≡_};
+ghost use Prim.Native.Nat.{_+_, _*_, _≤_, _<_};
 ghost use lib.ListN.{length};
-ghost use Rattle.report.specs.Buffer.{LineAtFront, lineRoom};
-ghost use Rattle.listing.specs.Listing.{firstLine, listLine};
-ghost use Rattle.listing.specs.Answer.{answerLine, Printable};
+ghost use Rattle.plan.specs.Refusal.{planRefusal};
+ghost use Rattle.plan.specs.EgressLists.{listCount};
+ghost use Rattle.report.specs.Buffer.{Put, AtFront, lineRoom};
+ghost use Rattle.listing.specs.Listing.{listLine, listLines, planText, textRoom};
+ghost use Rattle.listing.specs.Found.{foundLine, Printable};
 
-// The first line: how many routers and lists the plan has, or its refusal.
-pub fn first_line(plan: &[u8], out: &mut [u8]) -> usize
-    requires { ⌜ lineRoom ≤ length (now out) ⌝ }
-    ensures { λ r. ⌜ LineAtFront (now (out .entry)) (firstLine (now (plan .entry))) (now (out .exit)) r ⌝ }
-{
-    let refused = checker::check(plan);
-    if refused != 0 {
-        return report::refused_line(out, refused);
-    }
-    let n = plan[4] as usize;
-    report::head_line(out, n, plan::lists::list_count(plan))
-}
+// Room for any text, `textRoom`: the first line and the lines of 64 lists, of at most 272 bytes each.
+pub const TEXT_ROOM: usize = 65 * 272;
 
-// The line of an answer of the verdict call; `cycle` is the buffer that was lent for the cycle.
-fn answer_line(answer: VerdictAnswer, list: usize, cycle: &[u8], out: &mut [u8]) -> usize
-    requires { ⌜ (lineRoom ≤ length (now out)) × Printable answer list (now cycle) ⌝ }
-    ensures { λ r. ⌜ LineAtFront (now (out .entry)) (answerLine answer list (now (cycle .entry))) (now (out .exit)) r ⌝ }
+// Writes the line of a list for which `found` was found; `cycle` is the buffer that was lent for the cycle.
+fn found_line(out: &mut [u8], at: usize, list: usize, found: Assessment, cycle: &[u8]) -> usize
+    requires { ⌜ (at + lineRoom ≤ length (now out)) × Printable found list (now cycle) ⌝ }
+    ensures { λ r. ⌜ Put lineRoom (now (out .entry)) at (foundLine found list (now (cycle .entry))) (now (out .exit)) r ⌝ }
 {
-    match answer {
-        VerdictAnswer::Refused(number) => report::refused_line(out, number),
-        VerdictAnswer::Stable(highest) => report::stable_line(out, list, highest),
-        VerdictAnswer::Suspect(count) => report::suspect_line(out, list, &cycle[0..count]),
+    match found {
+        Assessment::Stable(highest) => report::stable_line(out, at, list, highest),
+        Assessment::Suspect(count) => report::suspect_line(out, at, list, &cycle[0..count]),
     }
 }
 
-// The line of a list: its verdict, or its refusal.
-pub fn list_line(plan: &[u8], list: usize, out: &mut [u8]) -> usize
-    requires { ⌜ lineRoom ≤ length (now out) ⌝ }
-    ensures { λ r. ⌜ LineAtFront (now (out .entry)) (listLine (now (plan .entry)) list) (now (out .exit)) r ⌝ }
+// Writes the line of a list.
+fn list_line(out: &mut [u8], at: usize, plan: &[u8], list: usize) -> usize
+    requires { ⌜ (at + lineRoom ≤ length (now out)) × (planRefusal (now plan) ≡ 0) × (list < listCount (now plan)) ⌝ }
+    ensures { λ r. ⌜ Put lineRoom (now (out .entry)) at (listLine (now (plan .entry)) list) (now (out .exit)) r ⌝ }
 {
+    let mut rows = [0u64; 64];
+    let net = network::decode::decode(plan, list, &mut rows);
+    let distances = plan::parts::part(plan, DISTANCES);
     let mut labels = [0u8; 64];
     let mut ranks = [0u8; 64];
     let mut table = [0u8; 128];
     let mut cycle = [0u8; 64];
-    let answer = checker::verdict::verdict(
-        plan,
-        list,
+    let found = assessment::assess(
+        net,
+        &rows,
+        distances,
         &mut labels,
         &mut ranks,
         &mut table,
         &mut cycle,
     );
-    answer_line(answer, list, &cycle, out)
+    found_line(out, at, list, found, &cycle)
+}
+
+// Writes the lines of the first m lists, in order.
+fn list_lines(out: &mut [u8], at: usize, plan: &[u8], m: usize) -> usize
+    requires { ⌜ (at + lineRoom * m ≤ length (now out)) × (planRefusal (now plan) ≡ 0) × (m ≤ listCount (now plan)) ⌝ }
+    ensures { λ r. ⌜ Put (lineRoom * m) (now (out .entry)) at (listLines (now (plan .entry)) m) (now (out .exit)) r ⌝ }
+{
+    let mut next = at;
+    let mut list = 0;
+    while list < m {
+        next = list_line(out, next, plan, list);
+        list += 1;
+    }
+    next
+}
+
+// Writes the whole text of a plan to the front of a buffer, and returns the text's length.
+pub fn plan_text(plan: &[u8], out: &mut [u8]) -> usize
+    requires { ⌜ textRoom ≤ length (now out) ⌝ }
+    ensures { λ r. ⌜ AtFront (now (out .entry)) (planText (now (plan .entry))) (now (out .exit)) r ⌝ }
+{
+    let size = checker::size::size(plan);
+    let refused = size.refused;
+    if refused != 0 {
+        return report::refused_line(out, 0, refused);
+    }
+    let m = size.lists;
+    let next = report::head_line(out, 0, size.routers, m);
+    list_lines(out, next, plan, m)
 }

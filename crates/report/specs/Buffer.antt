@@ -8,16 +8,18 @@ use lib.ListN.{length, take, drop}
 unfoldable pub written : List ℕ → ℕ → List ℕ → List ℕ
 written buffer at bytes = take at buffer ++ bytes ++ drop (at + length bytes) buffer
 
--- bytes were written from `at` on, within the buffer, and `next` is the place after them
-pub record Put (buffer : List ℕ) (at : ℕ) (bytes after : List ℕ) (next : ℕ) : Type 0 where
-  pub within : at + length bytes ≤ length buffer
+-- bytes were written from `at` on, within the buffer, at most `room` of them, and `next` is the place after them
+pub record Put (room : ℕ) (buffer : List ℕ) (at : ℕ) (bytes after : List ℕ) (next : ℕ) : Type 0 where
+  pub within : next ≤ length buffer
+  pub short : next ≤ at + room
   pub place : next ≡ at + length bytes
   pub is : after ≡ written buffer at bytes
 
--- a line stands at the buffer's front, the rest is as before, and `size` is the line's length
-pub record LineAtFront (buffer line after : List ℕ) (size : ℕ) : Type 0 where
-  pub long : size ≡ length line
-  pub is : after ≡ line ++ drop size buffer
+-- a text stands at the buffer's front, the rest is as before, and `size` is the text's length
+pub record AtFront (buffer text after : List ℕ) (size : ℕ) : Type 0 where
+  pub within : size ≤ length buffer
+  pub long : size ≡ length text
+  pub is : after ≡ text ++ drop size buffer
 
 -- room for any line: of a suspect list with a number of three digits, and 64 members of three digits
 abbrev pub lineRoom : ℕ

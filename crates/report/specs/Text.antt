@@ -20,6 +20,10 @@ unfoldable pub spaced : List (List ℕ) → List ℕ
 spaced [] = []
 spaced (field ∷ fields) = (32 ∷ field) ++ spaced fields
 
+-- numbers as fields after another
+abbrev pub numberFields : List ℕ → List ℕ
+numberFields numbers = spaced (map decimal numbers)
+
 -- a line of a first field and others, "each line ended by byte 10"
 abbrev pub line : List ℕ → List (List ℕ) → List ℕ
 line first others = first ++ spaced others ++ (10 ∷ [])

@@ -1,4 +1,4 @@
-// The lines of the verdict program's report, each written to the front of a caller's buffer. The line's length is returned.
+// The lines of the verdict program's report: each is written into a caller's buffer from a place on, and the place after it is returned.
 
 pub mod parts;
 
@@ -14,53 +14,53 @@ use base::wide;
 ghost use mathlib.Core.List.{_∷_, _++_};
 ghost use Prim.Native.Nat.{_+_, _≤_, _<_};
 ghost use lib.ListN.{length};
-ghost use Rattle.report.specs.Buffer.{Put, LineAtFront, lineRoom};
+ghost use Rattle.report.specs.Buffer.{Put, lineRoom};
 ghost use Rattle.report.specs.Text.{decimal, headLine, refusedLine, stableLine, suspectLine};
 
 // The first line: the plan has n routers and m lists.
-pub fn head_line(out: &mut [u8], n: usize, m: usize) -> usize
-    requires { ⌜ (lineRoom ≤ length (now out)) × (n < 1000) × (m < 1000) ⌝ }
-    ensures { λ r. ⌜ LineAtFront (now (out .entry)) (headLine n m) (now (out .exit)) r ⌝ }
+pub fn head_line(out: &mut [u8], at: usize, n: usize, m: usize) -> usize
+    requires { ⌜ (at + lineRoom ≤ length (now out)) × (n < 1000) × (m < 1000) ⌝ }
+    ensures { λ r. ⌜ Put lineRoom (now (out .entry)) at (headLine n m) (now (out .exit)) r ⌝ }
 {
-    let first = put_bytes(out, 0, b"routers");
+    let first = put_bytes(out, at, b"routers");
     let second = put_next_number(out, first, n);
     let third = put_next_bytes(out, second, b"lists");
     put_last_number(out, third, m)
 }
 
 // The single line of a refused plan.
-pub fn refused_line(out: &mut [u8], number: u8) -> usize
-    requires { ⌜ lineRoom ≤ length (now out) ⌝ }
-    ensures { λ r. ⌜ LineAtFront (now (out .entry)) (refusedLine number) (now (out .exit)) r ⌝ }
+pub fn refused_line(out: &mut [u8], at: usize, number: u8) -> usize
+    requires { ⌜ at + lineRoom ≤ length (now out) ⌝ }
+    ensures { λ r. ⌜ Put lineRoom (now (out .entry)) at (refusedLine number) (now (out .exit)) r ⌝ }
 {
-    let next = put_bytes(out, 0, b"refused");
+    let next = put_bytes(out, at, b"refused");
     put_last_number(out, next, wide(number))
 }
 
 // The first two fields of a list's line: its number and its verdict.
-fn put_verdict(out: &mut [u8], list: usize, verdict: &[u8]) -> usize
-    requires { ⌜ (4 + length (now verdict) ≤ length (now out)) × (list < 1000) ⌝ }
-    ensures { λ r. ⌜ Put (now (out .entry)) 0 (decimal list ++ (32 ∷ now (verdict .entry))) (now (out .exit)) r ⌝ }
+fn put_verdict(out: &mut [u8], at: usize, list: usize, verdict: &[u8]) -> usize
+    requires { ⌜ (at + 11 ≤ length (now out)) × (list < 1000) × (length (now verdict) ≤ 7) ⌝ }
+    ensures { λ r. ⌜ Put 11 (now (out .entry)) at (decimal list ++ (32 ∷ now (verdict .entry))) (now (out .exit)) r ⌝ }
 {
-    let next = put_number(out, 0, list);
+    let next = put_number(out, at, list);
     put_next_bytes(out, next, verdict)
 }
 
 // The line of a stable list.
-pub fn stable_line(out: &mut [u8], list: usize, highest: usize) -> usize
-    requires { ⌜ (lineRoom ≤ length (now out)) × (list < 1000) × (highest < 1000) ⌝ }
-    ensures { λ r. ⌜ LineAtFront (now (out .entry)) (stableLine list highest) (now (out .exit)) r ⌝ }
+pub fn stable_line(out: &mut [u8], at: usize, list: usize, highest: usize) -> usize
+    requires { ⌜ (at + lineRoom ≤ length (now out)) × (list < 1000) × (highest < 1000) ⌝ }
+    ensures { λ r. ⌜ Put lineRoom (now (out .entry)) at (stableLine list highest) (now (out .exit)) r ⌝ }
 {
-    let next = put_verdict(out, list, b"stable");
+    let next = put_verdict(out, at, list, b"stable");
     put_last_number(out, next, highest)
 }
 
 // The line of a suspect list.
-pub fn suspect_line(out: &mut [u8], list: usize, cycle: &[u8]) -> usize
-    requires { ⌜ (lineRoom ≤ length (now out)) × (list < 1000) × (length (now cycle) ≤ 64) ⌝ }
-    ensures { λ r. ⌜ LineAtFront (now (out .entry)) (suspectLine list (now (cycle .entry))) (now (out .exit)) r ⌝ }
+pub fn suspect_line(out: &mut [u8], at: usize, list: usize, cycle: &[u8]) -> usize
+    requires { ⌜ (at + lineRoom ≤ length (now out)) × (list < 1000) × (length (now cycle) ≤ 64) ⌝ }
+    ensures { λ r. ⌜ Put lineRoom (now (out .entry)) at (suspectLine list (now (cycle .entry))) (now (out .exit)) r ⌝ }
 {
-    let size = put_verdict(out, list, b"suspect");
+    let size = put_verdict(out, at, list, b"suspect");
     let members = put_next_number(out, size, cycle.len());
     let last = put_next_numbers(out, members, cycle);
     put_byte(out, last, LINE_END)

@@ -1,18 +1,18 @@
 // The parts of a line: each is written from a place on, and the place after it is returned.
 
 use base::wide;
-ghost use mathlib.Core.List.{[], _∷_, _++_, map};
+ghost use mathlib.Core.List.{[], _∷_, _++_};
 ghost use Prim.Native.Nat.{_+_, _*_, _≤_, _<_};
 ghost use lib.ListN.{length};
 ghost use Rattle.report.specs.Buffer.{Put};
-ghost use Rattle.report.specs.Text.{digit, decimal, spaced};
+ghost use Rattle.report.specs.Text.{digit, decimal, numberFields};
 
 pub const LINE_END: u8 = 10;
 
 // Writes one byte.
 pub fn put_byte(out: &mut [u8], at: usize, byte: u8) -> usize
     requires { ⌜ at < length (now out) ⌝ }
-    ensures { λ r. ⌜ Put (now (out .entry)) at (byte ∷ []) (now (out .exit)) r ⌝ }
+    ensures { λ r. ⌜ Put 1 (now (out .entry)) at (byte ∷ []) (now (out .exit)) r ⌝ }
 {
     out[at] = byte;
     at + 1
@@ -21,7 +21,7 @@ pub fn put_byte(out: &mut [u8], at: usize, byte: u8) -> usize
 // Writes bytes, such as a word.
 pub fn put_bytes(out: &mut [u8], at: usize, bytes: &[u8]) -> usize
     requires { ⌜ at + length (now bytes) ≤ length (now out) ⌝ }
-    ensures { λ r. ⌜ Put (now (out .entry)) at (now (bytes .entry)) (now (out .exit)) r ⌝ }
+    ensures { λ r. ⌜ Put (length (now (bytes .entry))) (now (out .entry)) at (now (bytes .entry)) (now (out .exit)) r ⌝ }
 {
     let mut next = at;
     let mut i = 0;
@@ -35,7 +35,7 @@ pub fn put_bytes(out: &mut [u8], at: usize, bytes: &[u8]) -> usize
 // Writes a decimal digit.
 fn put_digit(out: &mut [u8], at: usize, d: usize) -> usize
     requires { ⌜ (at < length (now out)) × (d < 10) ⌝ }
-    ensures { λ r. ⌜ Put (now (out .entry)) at (digit d ∷ []) (now (out .exit)) r ⌝ }
+    ensures { λ r. ⌜ Put 1 (now (out .entry)) at (digit d ∷ []) (now (out .exit)) r ⌝ }
 {
     put_byte(out, at, 48 + d as u8)
 }
@@ -43,7 +43,7 @@ fn put_digit(out: &mut [u8], at: usize, d: usize) -> usize
 // Writes a number in decimal.
 pub fn put_number(out: &mut [u8], at: usize, x: usize) -> usize
     requires { ⌜ (at + 3 ≤ length (now out)) × (x < 1000) ⌝ }
-    ensures { λ r. ⌜ Put (now (out .entry)) at (decimal x) (now (out .exit)) r ⌝ }
+    ensures { λ r. ⌜ Put 3 (now (out .entry)) at (decimal x) (now (out .exit)) r ⌝ }
 {
     if x < 10 {
         return put_digit(out, at, x);
@@ -60,7 +60,7 @@ pub fn put_number(out: &mut [u8], at: usize, x: usize) -> usize
 // Writes bytes as a field after another.
 pub fn put_next_bytes(out: &mut [u8], at: usize, bytes: &[u8]) -> usize
     requires { ⌜ at + 1 + length (now bytes) ≤ length (now out) ⌝ }
-    ensures { λ r. ⌜ Put (now (out .entry)) at (32 ∷ now (bytes .entry)) (now (out .exit)) r ⌝ }
+    ensures { λ r. ⌜ Put (1 + length (now (bytes .entry))) (now (out .entry)) at (32 ∷ now (bytes .entry)) (now (out .exit)) r ⌝ }
 {
     let next = put_byte(out, at, b' ');
     put_bytes(out, next, bytes)
@@ -69,7 +69,7 @@ pub fn put_next_bytes(out: &mut [u8], at: usize, bytes: &[u8]) -> usize
 // Writes a number as a field after another.
 pub fn put_next_number(out: &mut [u8], at: usize, x: usize) -> usize
     requires { ⌜ (at + 4 ≤ length (now out)) × (x < 1000) ⌝ }
-    ensures { λ r. ⌜ Put (now (out .entry)) at (32 ∷ decimal x) (now (out .exit)) r ⌝ }
+    ensures { λ r. ⌜ Put 4 (now (out .entry)) at (32 ∷ decimal x) (now (out .exit)) r ⌝ }
 {
     let next = put_byte(out, at, b' ');
     put_number(out, next, x)
@@ -78,7 +78,8 @@ pub fn put_next_number(out: &mut [u8], at: usize, x: usize) -> usize
 // Writes numbers as fields after another.
 pub fn put_next_numbers(out: &mut [u8], at: usize, numbers: &[u8]) -> usize
     requires { ⌜ at + 4 * length (now numbers) ≤ length (now out) ⌝ }
-    ensures { λ r. ⌜ Put (now (out .entry)) at (spaced (map decimal (now (numbers .entry)))) (now (out .exit)) r ⌝ }
+    ensures { λ r. ⌜ Put (4 * length (now (numbers .entry))) (now (out .entry)) at
+        (numberFields (now (numbers .entry))) (now (out .exit)) r ⌝ }
 {
     let mut next = at;
     let mut i = 0;
@@ -92,7 +93,7 @@ pub fn put_next_numbers(out: &mut [u8], at: usize, numbers: &[u8]) -> usize
 // Writes a number as the last field of a line.
 pub fn put_last_number(out: &mut [u8], at: usize, x: usize) -> usize
     requires { ⌜ (at + 5 ≤ length (now out)) × (x < 1000) ⌝ }
-    ensures { λ r. ⌜ Put (now (out .entry)) at ((32 ∷ decimal x) ++ (10 ∷ [])) (now (out .exit)) r ⌝ }
+    ensures { λ r. ⌜ Put 5 (now (out .entry)) at ((32 ∷ decimal x) ++ (10 ∷ [])) (now (out .exit)) r ⌝ }
 {
     let next = put_next_number(out, at, x);
     put_byte(out, next, LINE_END)

@@ -1,38 +1,72 @@
--- What the verdict call answered is what the line says.
-use mathlib.Core.Path.{_≡_}
+-- What is assessed is the network of the plan's list, and what was found says the list's line.
 use native.Mathlib.Omega.{arith}
+use mathlib.Core.Path.{_≡_, _∙_, ap}
 use borrow.Author.Needs.{needs}
 use lib.ListN.{length}
+use Rattle.network.specs.Decoded.{decoded}
+use Rattle.network.specs.FromPlan.{instanceOf}
+use Rattle.network.proofs.FromPlan.{well-formed}
+use Rattle.refusals.proofs.Asked.{few-routers}
+use Rattle.checker.specs.Verdict.{isStable, highestOf, cycleOf}
+use Rattle.report.proofs.Writing.{put-as}
 use Rattle.listing.specs.Listing.{listLine}
-use Rattle.listing.specs.Answer.{Printable, answerLine}
-use Rattle.listing.proofs.Lines.{said}
+use Rattle.listing.specs.Found.{foundLine, Printable}
+use Rattle.listing.proofs.Lines.{found-says}
 use Rattle.listing.proofs.list_line.Statement.{statement}
 use Rattle.listing.proofs.list_line.Tie as tie
 
--- where the call starts, and the verdict, from before the line is written
-abbrev start : tie.After-answer-line-arg → tie.Start
-start c = c .before .before .before .before .before .before .before .before .before .before .before .before .before
+-- where the call starts, and where the plan was read, from before the assessment
+abbrev start : tie.After-cycle → tie.Start
+start c = c .before .before .before .before .before .before .before .before .before .before
 
-abbrev judged : tie.After-answer-line-arg → tie.After-verdict
-judged c = c .before .before .before .before .before .before
+abbrev read : tie.After-cycle → tie.After-part
+read c = c .before .before .before .before .before
 
-short : (c : tie.After-answer-line-arg) → length (judged c .verdict .last .1 .1 .1 .1 .1 .0) ≡ 64
-short c = search needs
+-- the network read is the plan's
+same-network : (c : tie.After-cycle) → let a = start c .args in let d = read c .before .decode in
+    decoded (d .result) (d .last .1 .1 .0) (read c .part .result .now) ≡ instanceOf (a .plan .now) (a .list)
+same-network c =
+    let d = read c .before .decode in
+    ap (decoded (d .result) (d .last .1 .1 .0)) (read c .part .ensures) ∙ d .ensures .same
 
-says : (c : tie.After-answer-line-arg) → let v = judged c .verdict in let a = start c .args in
-    Printable (v .result) (a .list) (v .last .1 .1 .1 .1 .1 .0) × (listLine (a .plan .now) (a .list) ≡ answerLine (v .result) (a .list) (v .last .1 .1 .1 .1 .1 .0))
-says c = said _ _ _ _ _ _ (omega arith, omega arith, omega arith, omega arith) _ _ _ _ (judged c .verdict .result) (omega (arith, short c)) (judged c .verdict .ensures)
+assess-requires : tie.Need-assess-requires
+assess-requires c κs =
+    let d = read c .before .decode .ensures in
+    let asked = start c .pre in
+    let few = few-routers _ (asked .1) in (
+      rw (read c .part .ensures) (well-formed _ _ _ _ (asked .1) (asked .2) d),
+      omega (arith, d .count),
+      omega (arith, d .count),
+      omega (arith, d .count),
+      omega (arith, d .count),
+    )
+
+says : (c : tie.After-cycle3) →
+    let f = c .before .before .before .before .before .before in
+    let a = start (f .before) .args in
+    let cycle = f .assess .last .1 .1 .1 .1 .1 .1 .0 in
+    Printable (f .assess .result) (a .list) cycle × (foundLine (f .assess .result) (a .list) cycle ≡ listLine (a .plan .now) (a .list))
+unfolding isStable highestOf cycleOf
+says c =
+    let found = c .before .before .before .before .before .before in
+    let asked = start (found .before) .pre in
+    let cycle = found .assess .last .1 .1 .1 .1 .1 .1 .0 in
+    let long : length cycle ≡ 64 = search needs in
+    let assessed = rw (same-network (found .before)) at (found .assess .ensures) in
+    found-says _ (asked .1) _ (asked .2) _ cycle (assessed .verdict) (assessed .cycled) (omega arith)
 
 pub list-line-spec : {M : Type 1} → statement M
 list-line-spec =
     tie.close
     (tie.spec
-    (λ c. search needs)
-    (λ c. search needs)
-    (λ c. search needs)
-    (λ c. search needs)
+    (λ c κs. search needs)
     (λ c κs. search needs)
     (λ c. search needs)
-    (λ c κs. (start c .pre, says c .0))
     (λ c. search needs)
-    (λ c. rw (says (c .before .before .before) .1) (c .before .before .answer-line .ensures)))
+    (λ c. search needs)
+    (λ c. search needs)
+    assess-requires
+    (λ c. search needs)
+    (λ c κs. (start (c .before .before .before .before .before .before .before) .pre .0, says c .0))
+    (λ c. search needs)
+    (λ c. put-as (c .before .before .found-line .ensures) (says (c .before .before .before) .1) (omega arith)))

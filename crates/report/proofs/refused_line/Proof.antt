@@ -1,16 +1,18 @@
+use native.Mathlib.Omega.{arith}
 use mathlib.Core.Path.{_∙_, ap}
 use borrow.Author.Needs.{needs}
 use Rattle.report.specs.Text.{refusedLine}
 use Rattle.report.proofs.Text.{refused-parts}
-use Rattle.report.proofs.Writing.{put-then, line-at-front}
+use Rattle.report.proofs.Writing.{put-then, put-as}
 use Rattle.report.proofs.refused_line.Statement.{statement}
 use Rattle.report.proofs.refused_line.Tie as tie
 
 returns : tie.Need-returns
 returns c =
     let word = c .before .before .before .before .before .before .before in
-    line-at-front (put-then (word .put-bytes .ensures) (c .before .before .put-last-number .ensures))
+    put-as (put-then (word .put-bytes .ensures) (c .before .before .put-last-number .ensures))
     (refused-parts _ ∙ ap refusedLine (c .before .before .before .wide .ensures .0))
+    (omega arith)
 
 pub refused-line-spec : {M : Type 1} → statement M
 refused-line-spec =

@@ -5,22 +5,16 @@ use native.Mathlib.Omega.{arith}
 use mathlib.Core.Path.{refl}
 use borrow.Author.Needs.{needs}
 use lib.ListN.{length, take}
-use lib.Seq.{take-suc, take-length, length-take-le}
-use Rattle.report.proofs.Writing.{put-length, Putting, putting-start, putting-more, putting-done}
+use lib.Seq.{take-suc, take-length}
+use Rattle.report.proofs.Writing.{put-as, Putting, putting-start, putting-more, putting-done}
 use Rattle.report.proofs.parts.put_bytes.Statement.{statement}
 use Rattle.report.proofs.parts.put_bytes.Tie as tie
 
 abbrev Inv-loop : tie.InvT-loop
-Inv-loop out₀ at bytes next₀ i₀ out next i = Putting (λ k. take k bytes) (length bytes) out₀ at out next i
+Inv-loop out₀ at bytes next₀ i₀ out next i = Putting (λ k. take k bytes) 1 (length bytes) out₀ at out next i
 
 abbrev μ-loop : tie.MeasureT-loop
 μ-loop out₀ at bytes next₀ i₀ out next i = length bytes - i
-
-put-byte-requires : tie.Need-put-byte-requires Inv-loop μ-loop
-put-byte-requires c κs =
-    let u = c .before .before .before in
-    let w = u .loop .inv in
-    omega (arith, w .put .place, put-length (w .put), length-take-le (u .loop .i) (u .before .before .before .args .bytes .now) (w .upto))
 
 loop-again : tie.Need-loop-again Inv-loop μ-loop
 loop-again c =
@@ -31,7 +25,7 @@ loop-again c =
     putting-more (u .loop .inv) h (rw add-one (take-suc s i 0 h)) (c .before .before .put-byte .ensures)
 
 returns : tie.Need-returns Inv-loop μ-loop
-returns c = rw take-length at (putting-done (c .before .loop .inv) (c .loop-test .left))
+returns c = put-as (putting-done (c .before .loop .inv) (c .loop-test .left)) (take-length _) (omega arith)
 
 pub put-bytes-spec : {M : Type 1} → statement M
 put-bytes-spec =
@@ -41,9 +35,9 @@ put-bytes-spec =
     μ-loop
     (λ c. putting-start refl (search needs))
     (λ c. search needs)
-    put-byte-requires
+    (λ c κs. search needs)
     (λ c. search needs)
     (λ c. search needs)
     loop-again
-    (λ c. put-length (c .before .loop .inv .put))
+    (λ c. search needs)
     returns)

@@ -1,9 +1,10 @@
 -- `report::parts::put_number`: each return writes the digits of its case.
 use native.Mathlib.Omega.{arith}
+use mathlib.Core.Path.{refl}
 use borrow.Author.Needs.{needs}
 use borrow.Author.Tests.{lt-ltb, le-ltb}
 use Rattle.report.specs.Text.{decimal}
-use Rattle.report.proofs.Writing.{put-then}
+use Rattle.report.proofs.Writing.{put-then, put-as}
 use Rattle.report.proofs.parts.put_number.Statement.{statement}
 use Rattle.report.proofs.parts.put_number.Tie as tie
 
@@ -11,7 +12,7 @@ returns : tie.Need-returns
 unfolding decimal
 returns c =
     let x = c .before .before .before .before .before .before .args .x in
-    rw (lt-ltb x 10 (omega arith)) (c .before .before .put-digit .ensures)
+    rw (lt-ltb x 10 (omega arith)) (put-as (c .before .before .put-digit .ensures) refl (omega arith))
 
 returns-2 : tie.Need-returns-2
 unfolding decimal
@@ -20,7 +21,7 @@ returns-2 c =
     let tests = first .before .before in
     let x = tests .before .before .before .args .x in
     rw (le-ltb x 10 (omega arith), lt-ltb x 100 (omega arith))
-    (put-then (first .put-digit2 .ensures) (c .before .before .put-digit3 .ensures))
+    (put-as (put-then (first .put-digit2 .ensures) (c .before .before .put-digit3 .ensures)) refl (omega arith))
 
 returns-3 : tie.Need-returns-3
 unfolding decimal
