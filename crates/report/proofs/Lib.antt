@@ -1,3 +1,3 @@
+pub mod Examples
 pub mod Writing
 pub mod Text
-pub mod Examples
