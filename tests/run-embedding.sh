@@ -38,14 +38,15 @@ refuses_cut_plan() {
     [ "$("$out/verdicts" "$out/cut.plan")" = "refused 1" ]
 }
 
-# The verdict program refuses a plan cut short, no input at all, and an input longer than any plan.
-verdict_refuses() {
-    [ "$(target/bin/verdict <"$out/cut.plan")" = "refused 1" ] &&
-        [ "$(target/bin/verdict </dev/null)" = "refused 1" ] &&
-        [ "$(cat examples/m3.plan <(head -c 17000 /dev/zero) | target/bin/verdict)" = "refused 1" ]
+# The texts that the verdict program is held to on stored inputs are those of the second checker.
+stored_texts() {
+    local plan
+    for plan in tests/verdict/*.plan; do
+        writes "${plan%.plan}.expected" second verdict <"$plan" || return 1
+    done
 }
 
-# It prints for each random plan what the second checker expects.
+# The verdict program prints for each random plan what the second checker expects.
 verdict_agrees() {
     rm -rf "$out/plans"
     mkdir -p "$out/plans"
@@ -94,8 +95,8 @@ try "the bench program" linked build --bin bench
 try "the stack program" gcc -std=gnu11 -Wall -Wextra -Werror -O2 -Iinclude tests/stack.c -L"$archive" -lrrp -o "$out/stack"
 try "the stack of each call on the deepest plan" measures_deepest
 
+try "the stored texts of the verdict program from the second checker" stored_texts
 try "the verdict program" rt check verdict
-try "the verdict program's refusals" verdict_refuses
 try "the verdict program against the second checker" verdict_agrees
 
 echo "embedding: $passed passed, $failed failed"

@@ -4,7 +4,7 @@ use second_checker::{self_test, small_plans, verdict_lines, Checker, Plain, Rand
 use std::env;
 use std::error::Error;
 use std::fs;
-use std::io::{self, Write};
+use std::io::{self, Read, Write};
 use std::path::Path;
 use std::process::ExitCode;
 use std::time::Instant;
@@ -13,6 +13,7 @@ const USAGE: &str = "\
 second --against library|plain|tight [--seed S] [--first K] [--plans N]   compare a checker with the second one
 second self [--seed S] [--plans N]           test the second checker alone, and the comparison on known faults
 second cases                                 print the lines that the program `cases` is due to print
+second verdict                               print the lines the verdict program is due to print for standard input
 second write FOLDER [--seed S] [--plans N]   write plans and the lines the verdict program is due to print
 second plan largest|deepest                  write the plan with the most bytes or the highest rank";
 
@@ -91,6 +92,12 @@ fn write_plans(folder: &str, options: &Options) -> Result<bool, Box<dyn Error>> 
     Ok(true)
 }
 
+fn print_verdicts() -> Result<bool, Box<dyn Error>> {
+    let mut bytes = Vec::new();
+    io::stdin().read_to_end(&mut bytes)?;
+    write(verdict_lines(&bytes).as_bytes())
+}
+
 fn write(bytes: &[u8]) -> Result<bool, Box<dyn Error>> {
     io::stdout().write_all(bytes)?;
     Ok(true)
@@ -103,6 +110,7 @@ fn program() -> Result<bool, Box<dyn Error>> {
         [] => compare(&options),
         ["self"] => test_self(&options),
         ["cases"] => write(second_checker::case_lines().as_bytes()),
+        ["verdict"] => print_verdicts(),
         ["write", folder] => write_plans(folder, &options),
         ["plan", "largest"] => write(&second_checker::largest(&mut Random::new(options.seed)).bytes()),
         ["plan", "deepest"] => write(&second_checker::deepest().bytes()),
