@@ -34,7 +34,7 @@ less-digit (suc (suc x)) z h l = absurd (omega arith)
 odd-less : (a b : ℕ) → bitXor a (bitAnd a b) % 2 ≡ min (a % 2) (1 - b % 2)
 odd-less a b =
     let e : differ (a % 2) (bitAnd a b % 2) ≡ min (a % 2) (1 - b % 2) =
-        ap (differ (a % 2)) (odd-and a b) ∙ less-digit (a % 2) (b % 2) (omega arith) (omega arith) in
+    ap (differ (a % 2)) (odd-and a b) ∙ less-digit (a % 2) (b % 2) (omega arith) (omega arith) in
     omega (arith, xor-step a (bitAnd a b))
 
 pub bit-less : (a b j : ℕ) → bitN (bitXor a (bitAnd a b)) j ≡ min (bitN a j) (1 - bitN b j)

@@ -12,8 +12,8 @@ pub record LowestBit (x v : ℕ) : Type 0 where
   pub set : bitN x v ≡ 1
   pub low : fromBit x v ≡ x
 
--- A loop over the set bits of x, all below n: m holds those not visited yet, and P, the loop's claim after all numbers below a bound, has come
--- as far as `at`.
+-- A loop over the set bits of x, all below n: m holds those not visited yet, and P, the loop's claim after all numbers below a
+-- bound, has come as far as `at`.
 pub record BitWalk (P : ℕ → Type 0) (x n m : ℕ) : Type 0 where
   pub at : ℕ
   pub upto : at ≤ n

@@ -1,6 +1,5 @@
 -- Examples that tell each rule of the four bodies from a misreading of it, in literal bytes. Beside each stands what a misreading
 -- gives.
-use Prim.Native.Nat.{ℕ}
 use mathlib.Core.Path.{_≡_}
 use mathlib.Core.Bool.{true, false}
 use mathlib.Core.List.{[], _∷_}

@@ -210,7 +210,11 @@ fn reflector_row(net: Network, rows: &[u64; 64], distances: &[u8], best: &[u8; 6
     let mut left = candidates(net, rows, w, own);
     while left != 0 {
         let v = base::bits::lowest_bit(left);
-        row = noted(row, v, reflector_relies(net, rows, distances, w, v, own, best[v]));
+        row = noted(
+            row,
+            v,
+            reflector_relies(net, rows, distances, w, v, own, best[v]),
+        );
         left = base::bits::without_lowest(left);
     }
     row
