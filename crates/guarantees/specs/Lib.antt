@@ -3,3 +3,4 @@ pub mod Series
 pub mod Questions
 pub mod SmallPlans
 pub mod TellingExamples
+pub mod SeriesExamples

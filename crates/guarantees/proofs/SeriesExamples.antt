@@ -1,0 +1,22 @@
+-- The example of a series, worked out from the definitions that the contracts cite.
+use native.Mathlib.Omega.{arith}
+use mathlib.Core.Path.{refl}
+use lib.Dec.{lit<}
+use Rattle.guarantees.specs.SmallPlans.{smallPlan}
+use Rattle.guarantees.specs.Series.{seriesBuffer, seriesActs, ForThis}
+use Rattle.guarantees.specs.SeriesExamples.{plan, start, calls, SeriesExamples}
+use Rattle.guarantees.proofs.Questions.{allRules}
+
+pub series-examples : SeriesExamples
+unfolding allRules smallPlan seriesBuffer seriesActs ForThis plan start calls
+series-examples =
+    record {
+      starts = record { planOk = refl; listOk = omega arith; stableList = refl; long = omega arith; table = refl };
+      forThis = (λ _. (refl, refl), (λ _. (refl, refl), (λ _. (refl, refl), (λ z. absurd (omega arith), (λ _. (refl, refl), tt)))));
+      refusedAtN = refl;
+      refusedPlan = refl;
+      acts = refl;
+      roundsOfAll = refl;
+      roundsOfARun = refl;
+      buffer = refl;
+    }
