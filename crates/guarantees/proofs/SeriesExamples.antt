@@ -1,7 +1,6 @@
 -- The example of a series, worked out from the definitions that the contracts cite.
 use native.Mathlib.Omega.{arith}
 use mathlib.Core.Path.{refl}
-use lib.Dec.{lit<}
 use Rattle.guarantees.specs.SmallPlans.{smallPlan}
 use Rattle.guarantees.specs.Series.{seriesBuffer, seriesActs, ForThis}
 use Rattle.guarantees.specs.SeriesExamples.{plan, start, calls, SeriesExamples}
