@@ -27,7 +27,7 @@
 extern "C" {
 #endif
 
-/* Refuses to compile where a size_t has not 64 bits. */
+/* A size_t must have 64 bits: elsewhere this line does not compile. */
 typedef char rrp_size_t_has_64_bits[sizeof(size_t) == 8 ? 1 : -1];
 
 /* What a call returns, in the order of the checks. */
