@@ -21,10 +21,12 @@ use Rattle.ranking.specs.Rank.{rankOver, rankRounds, rank}
 use Rattle.cycles.specs.Cycle.{start, next, walk, second, first, lap, cycleIn, cycle}
 use Rattle.settling.specs.Settled.{chooseAll, chosenAfter, settledTable}
 use Rattle.activation.specs.TableBytes.{readRoute, tableOf, tableBytes, activateBytes, runBytes}
-use Rattle.refusals.specs.Refusals.{egressListRefusal, compareRefusal, reliesRefusal, buffersOk, verdictRefusal, tableChecks, sequenceOk, activateRefusal, runRefusal}
+use Rattle.refusals.specs.Refusals.{egressListRefusal, compareRefusal, reliesRefusal, buffersOk, verdictRefusal}
+use Rattle.refusals.specs.Refusals.{tableChecks, sequenceOk, activateRefusal, runRefusal}
 use Rattle.checker.specs.Compare.{better}
 use Rattle.checker.specs.Activate.{activateTable}
-use Rattle.checker.specs.Verdict.{isStable, labelsOf, ranksOf, highestOf, settledBytes, cycleOf, sizeOf, labelsAfter, ranksAfter, tableAfter, cycleAfter}
+use Rattle.checker.specs.Verdict.{isStable, labelsOf, ranksOf, highestOf, settledBytes, cycleOf, sizeOf}
+use Rattle.checker.specs.Verdict.{labelsAfter, ranksAfter, tableAfter, cycleAfter}
 use Rattle.checker.specs.Run.{runApplied, runRounds, runExhausted, runTable}
 use Rattle.rrp.specs.Examples.{plan, ExportExamples}
 
