@@ -1,8 +1,8 @@
 pub mod Refused
 pub mod ListStretch
-pub mod Comparing
+pub mod Preferring
 pub mod Relying
-pub mod Acting
+pub mod OneActivation
 pub mod Sequences
 pub mod Sizing
 pub mod Judging

@@ -8,7 +8,7 @@ use Rattle.plan.proofs.Passed.{passed}
 use Rattle.plan.proofs.ListWithin.{numbers-of}
 use Rattle.checker.proofs.Refused.{when-refused, when-given}
 use Rattle.refusals.specs.Refusals.{egressListRefusal}
-use Rattle.refusals.proofs.Asked.{list-asked}
+use Rattle.refusals.proofs.Granted.{list-asked}
 use Rattle.checker.specs.EgressList.{egressListStart, egressListSize, StretchOf, HandedBack}
 
 module _ (plan : List ℕ) (k : ℕ) where

@@ -19,7 +19,7 @@ use Rattle.routing.proofs.Reliance.{relies-other}
 use Rattle.network.specs.FromPlan.{instanceOf}
 use Rattle.assessment.specs.declared.Assessment.{Assessment}
 use Rattle.assessment.specs.declared.Assessment.the-variants.{Stable, Suspect}
-use Rattle.refusals.proofs.Asked.{few-routers}
+use Rattle.refusals.proofs.Granted.{few-routers}
 use Rattle.checker.specs.declared.size.SizeAnswer.{SizeAnswer}
 use Rattle.checker.specs.Size.{sizeRouters, sizeLists, Sizes}
 use Rattle.checker.specs.Verdict.{reliance, isStable, highestOf, cycleOf}

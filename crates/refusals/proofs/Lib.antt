@@ -1,3 +1,3 @@
 pub mod Examples
-pub mod Asked
+pub mod Granted
 pub mod InOrder

@@ -6,7 +6,7 @@ use lib.ListN.{length}
 use Rattle.network.specs.Decoded.{decoded}
 use Rattle.network.specs.FromPlan.{instanceOf}
 use Rattle.network.proofs.FromPlan.{well-formed}
-use Rattle.refusals.proofs.Asked.{few-routers}
+use Rattle.refusals.proofs.Granted.{few-routers}
 use Rattle.checker.specs.Verdict.{isStable, highestOf, cycleOf}
 use Rattle.report.proofs.Writing.{put-as}
 use Rattle.listing.specs.Listing.{listLine}

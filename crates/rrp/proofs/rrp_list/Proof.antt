@@ -1,7 +1,7 @@
 use mathlib.Core.Path.{_≡_, _∙_, sym}
 use borrow.Author.Needs.{needs}
 use Rattle.refusals.specs.Refusals.{egressListRefusal}
-use Rattle.refusals.proofs.Asked.{list-asked}
+use Rattle.refusals.proofs.Granted.{list-asked}
 use Rattle.rrp.proofs.Exporting.{list-refused, list-given}
 use Rattle.rrp.proofs.rrp_list.Statement.{statement}
 use Rattle.rrp.proofs.rrp_list.Tie as tie

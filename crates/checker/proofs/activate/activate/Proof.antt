@@ -8,8 +8,8 @@ use Rattle.network.specs.FromPlan.{instanceOf}
 use Rattle.network.proofs.FromPlan.{well-formed}
 use Rattle.activation.specs.TableBytes.{activateBytes}
 use Rattle.refusals.specs.Refusals.{routerRefusal, tableChecks, activateRefusal}
-use Rattle.refusals.proofs.Asked.{asked-refused, asked-passed, RouterAsked, router-asked, table-asked}
-use Rattle.checker.proofs.Acting.{activates-not, activates-so}
+use Rattle.refusals.proofs.Granted.{asked-refused, asked-passed, RouterAsked, router-asked, table-asked}
+use Rattle.checker.proofs.OneActivation.{activates-not, activates-so}
 use Rattle.checker.proofs.activate.activate.Statement.{statement}
 use Rattle.checker.proofs.activate.activate.Tie as tie
 

@@ -9,8 +9,8 @@ use Rattle.network.proofs.FromPlan.{distances-length}
 use Rattle.network.specs.FromPlan.{instanceOf}
 use Rattle.routing.specs.Preference.{prefers}
 use Rattle.refusals.specs.Refusals.{compareRefusal}
-use Rattle.refusals.proofs.Asked.{header-long, few-routers, CompareAsked, compare-asked}
-use Rattle.checker.proofs.Comparing.{compares-refused, compares-same, compares-first, compares-second}
+use Rattle.refusals.proofs.Granted.{header-long, few-routers, CompareAsked, compare-asked}
+use Rattle.checker.proofs.Preferring.{compares-refused, compares-same, compares-first, compares-second}
 use Rattle.checker.proofs.compare.compare.Statement.{statement}
 use Rattle.checker.proofs.compare.compare.Tie as tie
 

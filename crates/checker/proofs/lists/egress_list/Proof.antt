@@ -2,7 +2,7 @@ use native.Mathlib.Nat.{add-sub-cancel-left}
 use native.Mathlib.Omega.{arith}
 use mathlib.Core.Path.{_∙_, sym}
 use borrow.Author.Needs.{needs}
-use Rattle.refusals.proofs.Asked.{list-asked}
+use Rattle.refusals.proofs.Granted.{list-asked}
 use Rattle.checker.proofs.ListStretch.{stretch-refused, stretch-given}
 use Rattle.checker.proofs.lists.egress_list.Statement.{statement}
 use Rattle.checker.proofs.lists.egress_list.Tie as tie

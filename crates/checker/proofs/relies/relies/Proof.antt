@@ -7,7 +7,7 @@ use Rattle.network.specs.Decoded.{decoded}
 use Rattle.network.specs.FromPlan.{instanceOf}
 use Rattle.network.proofs.FromPlan.{well-formed}
 use Rattle.refusals.specs.Refusals.{reliesRefusal}
-use Rattle.refusals.proofs.Asked.{ReliesAsked, relies-asked}
+use Rattle.refusals.proofs.Granted.{ReliesAsked, relies-asked}
 use Rattle.checker.proofs.Relying.{relied-refused, relied-yes, relied-no}
 use Rattle.checker.proofs.relies.relies.Statement.{statement}
 use Rattle.checker.proofs.relies.relies.Tie as tie

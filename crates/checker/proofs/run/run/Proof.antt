@@ -7,7 +7,7 @@ use Rattle.network.specs.Decoded.{decoded}
 use Rattle.network.specs.FromPlan.{instanceOf}
 use Rattle.network.proofs.FromPlan.{well-formed}
 use Rattle.refusals.specs.Refusals.{sequenceRefusal, tableChecks, runRefusal}
-use Rattle.refusals.proofs.Asked.{asked-refused, asked-passed, SequenceAsked, sequence-asked, table-asked}
+use Rattle.refusals.proofs.Granted.{asked-refused, asked-passed, SequenceAsked, sequence-asked, table-asked}
 use Rattle.checker.proofs.Sequences.{runs-not, runs-so}
 use Rattle.checker.proofs.run.run.Statement.{statement}
 use Rattle.checker.proofs.run.run.Tie as tie

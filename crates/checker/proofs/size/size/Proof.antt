@@ -2,7 +2,7 @@ use native.Mathlib.Omega.{arith}
 use mathlib.Core.Path.{_≡_, refl, _∙_, sym}
 use borrow.Author.Needs.{needs}
 use Rattle.plan.specs.Refusal.{planRefusal}
-use Rattle.refusals.proofs.Asked.{header-long, few-routers}
+use Rattle.refusals.proofs.Granted.{header-long, few-routers}
 use Rattle.checker.proofs.Sizing.{sizes-refused, sizes-given}
 use Rattle.checker.proofs.size.size.Statement.{statement}
 use Rattle.checker.proofs.size.size.Tie as tie

@@ -6,7 +6,7 @@ use Rattle.network.specs.Decoded.{decoded}
 use Rattle.network.specs.FromPlan.{instanceOf}
 use Rattle.network.proofs.FromPlan.{well-formed}
 use Rattle.refusals.specs.Refusals.{verdictRefusal}
-use Rattle.refusals.proofs.Asked.{VerdictAsked, verdict-asked}
+use Rattle.refusals.proofs.Granted.{VerdictAsked, verdict-asked}
 use Rattle.checker.proofs.Judging.{verdict-refused, verdict-given}
 use Rattle.checker.proofs.verdict.verdict.Statement.{statement}
 use Rattle.checker.proofs.verdict.verdict.Tie as tie

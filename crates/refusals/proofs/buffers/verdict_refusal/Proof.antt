@@ -5,7 +5,7 @@ use borrow.Author.Needs.{needs}
 use Rattle.base.proofs.Numbers.{yes, no}
 use Rattle.plan.specs.Refusal.{refuse}
 use Rattle.refusals.specs.Refusals.{hasList, egressListRefusal, verdictRefusal}
-use Rattle.refusals.proofs.Asked.{header-long, few-routers, asked-refused, asked-passed, list-asked}
+use Rattle.refusals.proofs.Granted.{header-long, few-routers, asked-refused, asked-passed, list-asked}
 use Rattle.refusals.proofs.buffers.verdict_refusal.Statement.{statement}
 use Rattle.refusals.proofs.buffers.verdict_refusal.Tie as tie
 

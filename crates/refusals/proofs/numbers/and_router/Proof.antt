@@ -2,7 +2,7 @@ use native.Mathlib.Omega.{arith}
 use mathlib.Core.Path.{refl}
 use borrow.Author.Tests.{lt-ltb, le-ltb}
 use Rattle.plan.specs.Refusal.{refuse}
-use Rattle.refusals.proofs.Asked.{header-long, few-routers}
+use Rattle.refusals.proofs.Granted.{header-long, few-routers}
 use Rattle.refusals.proofs.numbers.and_router.Statement.{statement}
 use Rattle.refusals.proofs.numbers.and_router.Tie as tie
 

@@ -5,7 +5,7 @@ use borrow.Author.Needs.{needs}
 use Rattle.plan.specs.Refusal.{refuse, planRefusal}
 use Rattle.plan.proofs.Cascade.{plan-of-passed}
 use Rattle.refusals.specs.Refusals.{hasRouter, askedChecks, compareRefusal}
-use Rattle.refusals.proofs.Asked.{more-asked}
+use Rattle.refusals.proofs.Granted.{more-asked}
 use Rattle.refusals.proofs.numbers.compare_refusal.Statement.{statement}
 use Rattle.refusals.proofs.numbers.compare_refusal.Tie as tie
 

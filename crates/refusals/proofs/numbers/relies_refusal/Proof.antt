@@ -2,7 +2,7 @@ use mathlib.Core.Path.{_∙_, sym}
 use mathlib.Core.Bool.{_&&_}
 use borrow.Author.Needs.{needs}
 use Rattle.refusals.specs.Refusals.{hasList, hasRouter, reliesRefusal}
-use Rattle.refusals.proofs.Asked.{more-asked, router-asked}
+use Rattle.refusals.proofs.Granted.{more-asked, router-asked}
 use Rattle.refusals.proofs.numbers.relies_refusal.Statement.{statement}
 use Rattle.refusals.proofs.numbers.relies_refusal.Tie as tie
 

@@ -1,7 +1,7 @@
 use mathlib.Core.Path.{_∙_, sym}
 use borrow.Author.Needs.{needs}
 use Rattle.refusals.specs.Refusals.{hasList, egressListRefusal}
-use Rattle.refusals.proofs.Asked.{more-asked, list-asked}
+use Rattle.refusals.proofs.Granted.{more-asked, list-asked}
 use Rattle.refusals.proofs.numbers.router_refusal.Statement.{statement}
 use Rattle.refusals.proofs.numbers.router_refusal.Tie as tie
 
