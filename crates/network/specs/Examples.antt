@@ -14,7 +14,7 @@ threeRouters =
     ∷ 1 ∷ 26 ∷ 0 ∷ 15 ∷ 0  -- contents: kind, offset, length of the routers
     ∷ 2 ∷ 41 ∷ 0 ∷ 4 ∷ 0  -- .. of the sessions
     ∷ 3 ∷ 45 ∷ 0 ∷ 18 ∷ 0  -- .. of the distances
-    ∷ 4 ∷ 63 ∷ 0 ∷ 5 ∷ 0  -- .. of the lists
+    ∷ 4 ∷ 63 ∷ 0 ∷ 6 ∷ 0  -- .. of the lists
     ∷ 1 ∷ 10 ∷ 0 ∷ 0 ∷ 0  -- router 0: role, identifier
     ∷ 2 ∷ 20 ∷ 0 ∷ 0 ∷ 0
     ∷ 2 ∷ 30 ∷ 0 ∷ 0 ∷ 0
@@ -24,7 +24,7 @@ threeRouters =
     ∷ 3 ∷ 0 ∷ 4 ∷ 0 ∷ 0 ∷ 0
     ∷ 2  -- m
     ∷ 1 ∷ 1  -- list 0: count, number
-    ∷ 1 ∷ 2  -- list 1
+    ∷ 2 ∷ 1 ∷ 2  -- list 1
     ∷ []
 
 -- the plan with each of its lists
@@ -50,5 +50,5 @@ pub record NetworkExamples : Type 0 where
   -- "c router numbers", of the list asked for
   pub listed : withList0 .listed 1 ≡ true
   pub notByPosition : withList0 .listed 0 ≡ false  -- by its place in the list: true
-  pub ofTheListAsked : withList1 .listed 2 ≡ true  -- of the list after it: false
-  pub ofThatListAlone : withList1 .listed 1 ≡ false  -- of the first list: true
+  pub ofTheListAsked : withList1 .listed 2 ≡ true  -- of the first list: false
+  pub ofThatListAlone : withList0 .listed 2 ≡ false  -- of the list after it: true

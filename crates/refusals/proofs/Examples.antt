@@ -10,10 +10,11 @@ use Rattle.bodies.specs.Distances.{distanceOk, distanceRowOk, distancesOk}
 use Rattle.bodies.specs.Lists.{listPlace, memberOk, listAtOk, listOk, eachListOk, listsOk}
 use Rattle.plan.specs.Refusal.{refuse, bodyChecks, planChecks}
 use Rattle.network.specs.FromPlan.{pairs, inSession, named}
+use Rattle.network.specs.Examples.{threeRouters}
 use Rattle.routing.specs.Activation.{entryOk, tableOk}
 use Rattle.activation.specs.TableBytes.{readRoute, tableOf}
 use Rattle.refusals.specs.Refusals.{sequenceOk, egressListRefusal, compareRefusal, reliesRefusal, buffersOk, verdictRefusal, tableChecks, activateRefusal, runRefusal}
-use Rattle.refusals.specs.Examples.{threeRouters, lent, broken, short, three, two, RefusalsExamples}
+use Rattle.refusals.specs.Examples.{lent, broken, short, three, two, RefusalsExamples}
 
 pub refusals-examples : RefusalsExamples
 unfolding
@@ -44,5 +45,6 @@ refusals-examples =
       activatedInFive = refl;
       tableBroken = refl;
       eightBeforeNine = refl;
+      eightBeforeNineOfAVerdict = refl;
       eightBeforeTen = refl;
     }

@@ -1,36 +1,17 @@
--- Examples that tell rows 8 to 10 of the refusal table from a misreading of them, in literal bytes. Beside each stands what a
--- misreading gives.
+-- Examples that tell rows 8 to 10 of the refusal table from a misreading of them, on the plan of three routers and two lists that
+-- network's examples give in literal bytes. Beside each stands what a misreading gives.
 use Prim.Native.Nat.{ℕ}
 use mathlib.Core.Path.{_≡_}
 use mathlib.Core.List.{List, [], _∷_}
+use Rattle.network.specs.Examples.{threeRouters}
 use Rattle.refusals.specs.Refusals.{egressListRefusal, compareRefusal, reliesRefusal, verdictRefusal, activateRefusal, runRefusal}
 
--- reflector 0, a neighbour of clients 1 and 2
-unfoldable pub threeRouters : List ℕ
-threeRouters =
-    82 ∷ 82 ∷ 80 ∷ 49 ∷ 3 ∷ 4  -- the letters RRP1, n, the number of contents entries
-    ∷ 1 ∷ 26 ∷ 0 ∷ 15 ∷ 0  -- contents: kind, offset, length of the routers
-    ∷ 2 ∷ 41 ∷ 0 ∷ 4 ∷ 0  -- .. of the sessions
-    ∷ 3 ∷ 45 ∷ 0 ∷ 18 ∷ 0  -- .. of the distances
-    ∷ 4 ∷ 63 ∷ 0 ∷ 5 ∷ 0  -- .. of the lists
-    ∷ 1 ∷ 10 ∷ 0 ∷ 0 ∷ 0  -- router 0: role, identifier
-    ∷ 2 ∷ 20 ∷ 0 ∷ 0 ∷ 0
-    ∷ 2 ∷ 30 ∷ 0 ∷ 0 ∷ 0
-    ∷ 0 ∷ 1 ∷ 0 ∷ 2  -- sessions
-    ∷ 0 ∷ 0 ∷ 5 ∷ 0 ∷ 5 ∷ 0  -- distances from 0
-    ∷ 5 ∷ 0 ∷ 0 ∷ 0 ∷ 5 ∷ 0
-    ∷ 5 ∷ 0 ∷ 5 ∷ 0 ∷ 0 ∷ 0
-    ∷ 2  -- m
-    ∷ 1 ∷ 1  -- list 0: count, number
-    ∷ 1 ∷ 2  -- list 1
-    ∷ []
-
--- tables for list 0: one that obeys its rule, one in which 2 holds a route from 1, which is not its neighbour, and one of 5 bytes
+-- tables for list 0: one that obeys its rule, one in which 2 holds a route from 0, which is not its neighbour, and one of 5 bytes
 unfoldable pub lent : List ℕ
 lent = 255 ∷ 255 ∷ 1 ∷ 1 ∷ 255 ∷ 255 ∷ []
 
 unfoldable pub broken : List ℕ
-broken = 255 ∷ 255 ∷ 1 ∷ 1 ∷ 1 ∷ 1 ∷ []
+broken = 255 ∷ 255 ∷ 1 ∷ 1 ∷ 1 ∷ 0 ∷ []
 
 unfoldable pub short : List ℕ
 short = 255 ∷ 255 ∷ 1 ∷ 1 ∷ 255 ∷ []
@@ -70,4 +51,5 @@ pub record RefusalsExamples : Type 0 where
   pub tableBroken : activateRefusal threeRouters 0 0 broken ≡ 10  -- with any router as sender: 0
   -- "The lowest number that applies is returned"
   pub eightBeforeNine : activateRefusal threeRouters 0 3 short ≡ 8  -- the last: 9
+  pub eightBeforeNineOfAVerdict : verdictRefusal threeRouters 2 two three lent three ≡ 8  -- the last: 9
   pub eightBeforeTen : runRefusal threeRouters 2 (0 ∷ []) broken ≡ 8  -- the last: 10
