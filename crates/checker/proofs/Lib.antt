@@ -1,3 +1,4 @@
+pub mod Examples
 pub mod Refused
 pub mod ListStretch
 pub mod Preferring

@@ -6,3 +6,4 @@ pub mod Verdict
 pub mod Activate
 pub mod Run
 pub mod Size
+pub mod Examples
