@@ -24,6 +24,7 @@ use Rattle.cycles.specs.Cycle.{start, next, walk, second, first, lap, cycleIn, 
 use Rattle.settling.specs.Settled.{chooseAll, chosenAfter, settledTable}
 use Rattle.activation.specs.TableBytes.{readRoute, tableOf, tableBytes, activateBytes, runBytes}
 use Rattle.refusals.specs.Refusals.{sequenceOk, egressListRefusal, compareRefusal, reliesRefusal, buffersOk, verdictRefusal, tableChecks, activateRefusal, runRefusal}
+use Rattle.checker.specs.Size.{sizeRouters, sizeLists}
 use Rattle.checker.specs.EgressList.{egressListStart, egressListSize}
 use Rattle.checker.specs.Compare.{better, compared}
 use Rattle.checker.specs.Relies.{relied}
@@ -37,7 +38,7 @@ unfoldable pub allRules : List ℕ → Question → Answer
 unfolding
     answerTo
     planRefusal egressListRefusal compareRefusal reliesRefusal verdictRefusal activateRefusal runRefusal
-    egressListStart egressListSize better compared relied
+    sizeRouters sizeLists egressListStart egressListSize better compared relied
     isStable labelsOf ranksOf highestOf settledBytes cycleOf verdictOf verdictAnswer labelsAfter ranksAfter tableAfter cycleAfter
     activateTable runApplied runRounds runExhausted runTable
     buffersOk tableChecks sequenceOk readRoute tableOf tableBytes activateBytes runBytes chooseAll chosenAfter settledTable

@@ -12,6 +12,7 @@ use Rattle.checker.specs.declared.relies.ReliesAnswer.{ReliesAnswer}
 use Rattle.checker.specs.declared.relies.ReliesAnswer.the-variants as relying
 use Rattle.checker.specs.declared.verdict.VerdictAnswer.{VerdictAnswer}
 use Rattle.checker.specs.Refused.{unlessRefused, field}
+use Rattle.checker.specs.Size.{sizeRouters, sizeLists}
 use Rattle.checker.specs.EgressList.{egressListStart, egressListSize}
 use Rattle.checker.specs.Compare.{better, compared}
 use Rattle.checker.specs.Relies.{relied}
@@ -22,6 +23,7 @@ use Rattle.checker.specs.Run.{runApplied, runRounds, runExhausted, runTable}
 -- what a caller asks of a plan, with every byte of the buffers that the call is lent
 pub data Question : Type 0 where
   checkAsked : Question
+  sizeAsked : Question
   listAsked : (list : ℕ) → Question
   compareAsked : (router first second : ℕ) → Question
   reliesAsked : (list router other : ℕ) → Question
@@ -32,6 +34,7 @@ pub data Question : Type 0 where
 -- what is answered: all that the call returns, and every byte of those buffers after it
 pub data Answer : Type 0 where
   checkIs : (refusal : ℕ) → Answer
+  sizeIs : (refusal routers lists : ℕ) → Answer
   listIs : (refusal start : ℕ) (numbers : List ℕ) → Answer
   compareIs : (answer : CompareAnswer) (better : ℕ) → Answer
   reliesIs : (answer : ReliesAnswer) → Answer
@@ -42,6 +45,7 @@ pub data Answer : Type 0 where
 -- the answer, by the definitions that the contracts of the public calls cite
 unfoldable pub answerTo : List ℕ → Question → Answer
 answerTo plan checkAsked = checkIs (planRefusal plan)
+answerTo plan sizeAsked = sizeIs (planRefusal plan) (sizeRouters plan) (sizeLists plan)
 answerTo plan (listAsked k) =
     listIs (egressListRefusal plan k) (egressListStart plan k) (take (egressListSize plan k) (drop (egressListStart plan k) plan))
 answerTo plan (compareAsked w e f) =

@@ -7,8 +7,8 @@ use lib.ListN.{replicate}
 use Rattle.checker.specs.declared.compare.CompareAnswer.the-variants.{First, Second, Same}
 use Rattle.checker.specs.declared.relies.ReliesAnswer.the-variants.{Yes, No}
 use Rattle.checker.specs.declared.verdict.VerdictAnswer.the-variants.{Suspect}
-use Rattle.guarantees.specs.Questions.{checkAsked, listAsked, compareAsked, reliesAsked, verdictAsked, activateAsked, runAsked}
-use Rattle.guarantees.specs.Questions.{checkIs, listIs, compareIs, reliesIs, verdictIs, activateIs, runIs}
+use Rattle.guarantees.specs.Questions.{checkAsked, sizeAsked, listAsked, compareAsked, reliesAsked, verdictAsked, activateAsked, runAsked}
+use Rattle.guarantees.specs.Questions.{checkIs, sizeIs, listIs, compareIs, reliesIs, verdictIs, activateIs, runIs}
 use Rattle.guarantees.specs.Questions.{Example, example, Hold}
 
 -- Six routers, reflectors 0, 1, 2 and clients 3, 4, 5, with the given body of kind 1.
@@ -80,6 +80,10 @@ identifiersRise = example six checkAsked (checkIs 0)
 
 abbrev pub identifiersFall : Example
 identifiersFall = example sixFalling checkAsked (checkIs 4)
+
+-- "n, the number of routers", "one byte m .. then m lists". Misread with the two exchanged: 4 6.
+abbrev pub sizeOfSix : Example
+sizeOfSix = example six sizeAsked (sizeIs 0 6 4)
 
 -- "kind (1 byte), offset (2), length (2)", "the low byte first". Misread by the low byte of an offset or a length: 3, empty.
 abbrev pub contentsAbove255 : Example
@@ -209,7 +213,7 @@ cycleByTheLowest =
 
 unfoldable pub tellingExamples : List Example
 tellingExamples =
-    identifiersRise ∷ identifiersFall ∷ contentsAbove255 ∷ lastList ∷ listAtM ∷ lastRouter ∷ distanceOfTwoBytes
+    identifiersRise ∷ identifiersFall ∷ sizeOfSix ∷ contentsAbove255 ∷ lastList ∷ listAtM ∷ lastRouter ∷ distanceOfTwoBytes
     ∷ firstIsBetter ∷ sameRouterTwice ∷ distancesAsTheyAre ∷ tieIsReliance ∷ offerByItsOwnDistances ∷ notFromAThird
     ∷ sharedClientIsNotBetter ∷ listedReflectorOffersItself ∷ reliesOnAListedClient ∷ notBackToItsClient ∷ toAReflectorToo
     ∷ egressThenSender ∷ strangerAsSender ∷ routerAtN ∷ limitBelowTheLength ∷ limitAboveTheLength ∷ cycleByTheLowest ∷ []
