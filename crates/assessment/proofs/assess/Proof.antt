@@ -66,7 +66,7 @@ cycle-requires c κs =
     let t = c .before .before .before .before in
     let p = entry t .pre in
     cycle-asked (network t) _ _ (rows t .reliance-rows .ensures) (closing t .close .last .0) (closing t .close .ensures)
-    (sym (tested t) ∙ c .before .before .before .if1 .left) _ (p .0 .count) (p .4)
+    (sym (tested t) ∙ c .before .before .before .if1 .left) _ (p .0 .count) (omega (arith, p .2, p .4))
 
 returns-2 : tie.Need-returns-2
 returns-2 c =
