@@ -27,7 +27,7 @@ use Rattle.checker.specs.Size.{sizeRouters, sizeLists, Sizes}
 use Rattle.checker.proofs.Refused.{when-refused, when-given}
 use Rattle.checker.proofs.Judging.{kept}
 use Rattle.plan.specs.EgressLists.{SpanOf}
-use Rattle.rrp.specs.Exports.{SizeExport, ListExport, CompareExport, ReliesExport, VerdictExport, RunExport}
+use Rattle.exports.specs.Exports.{SizeExport, ListExport, CompareExport, ReliesExport, VerdictExport, RunExport}
 use Rattle.rrp.proofs.Written.{written, refused-by}
 
 -- a variable that a call writes

@@ -8,7 +8,7 @@ ghost use mathlib.Core.Path.{_≡_};
 ghost use Rattle.base.specs.Lent.{lent};
 ghost use Rattle.plan.specs.Refusal.{planRefusal};
 ghost use Rattle.checker.specs.Activate.{Activates};
-ghost use Rattle.rrp.specs.Exports.{SizeExport, ListExport, CompareExport, ReliesExport, VerdictExport, RunExport};
+ghost use Rattle.exports.specs.Exports.{SizeExport, ListExport, CompareExport, ReliesExport, VerdictExport, RunExport};
 
 #[no_mangle]
 pub extern "C" fn rrp_check(plan: &[u8]) -> u8

@@ -4,7 +4,7 @@ use mathlib.Core.Path.{_≡_}
 use mathlib.Core.List.{List, [], _∷_}
 use Rattle.base.specs.Lent.{Lent}
 use Rattle.checker.specs.Activate.{Activates}
-use Rattle.rrp.specs.Exports.{SizeExport, ListExport, CompareExport, ReliesExport, VerdictExport, RunExport}
+use Rattle.exports.specs.Exports.{SizeExport, ListExport, CompareExport, ReliesExport, VerdictExport, RunExport}
 
 -- Document 01, "Small plans", M3's distances: "Routers 0, 1 reflectors; 2, 3 clients; sessions 0-1, 0-2, 1-3; identifiers 10, 20, 30, 40.
 -- Distances 0 to 2 and 1 to 3 are 10, p is 0 to 3, q is 1 to 2, other off-diagonal ones 30."; "p = q = 6". The lists are 2,3 and 3 and 0.

@@ -28,7 +28,7 @@ use Rattle.checker.specs.Activate.{activateTable}
 use Rattle.checker.specs.Verdict.{isStable, labelsOf, ranksOf, highestOf, settledBytes, cycleOf, sizeOf}
 use Rattle.checker.specs.Verdict.{labelsAfter, ranksAfter, tableAfter, cycleAfter}
 use Rattle.checker.specs.Run.{runApplied, runRounds, runExhausted, runTable}
-use Rattle.rrp.specs.Examples.{plan, ExportExamples}
+use Rattle.exports.specs.Examples.{plan, ExportExamples}
 
 pub export-examples : ExportExamples
 unfolding
