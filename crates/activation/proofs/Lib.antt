@@ -1,5 +1,5 @@
 pub mod Examples
 pub mod TableBytes
 pub mod OnePass
-pub mod Advertisers
+pub mod MayAdvertise
 pub mod Running

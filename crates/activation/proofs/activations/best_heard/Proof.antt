@@ -8,7 +8,7 @@ use Rattle.activation.specs.TableBytes.{routeAt, routeOf}
 use Rattle.activation.specs.OnePass.{keepHeard, keptHeard}
 use Rattle.activation.proofs.TableBytes.{read-nothing}
 use Rattle.activation.proofs.OnePass.{heard-below}
-use Rattle.activation.proofs.Advertisers.{Hearing, hearing-start, hearing-below, hearing-near, hearing-kept, hearing-more, hearing-done}
+use Rattle.activation.proofs.MayAdvertise.{Hearing, hearing-start, hearing-below, hearing-near, hearing-kept, hearing-more, hearing-done}
 use Rattle.activation.proofs.activations.best_heard.Statement.{statement}
 use Rattle.activation.proofs.activations.best_heard.Tie as tie
 
