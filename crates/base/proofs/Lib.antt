@@ -6,3 +6,4 @@ pub mod Tab
 pub mod BitLaws
 pub mod SetBits
 pub mod BitWalk
+pub mod BitSeek
