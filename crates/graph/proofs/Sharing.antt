@@ -11,9 +11,9 @@ use Rattle.base.specs.Seek.{flag, seek}
 use Rattle.base.specs.Tab.{tab}
 use Rattle.base.proofs.Tab.{tab-cong}
 use Rattle.base.proofs.Below.{all-at, all-intro, all-cong}
-use Rattle.base.proofs.Seek.{flag-same, flag-one, seek-found, seek-cong, Top, highest-top, highest-over, highest-cong}
+use Rattle.base.proofs.Seek.{flag-same, flag-one, seek-found, seek-cong, scan-miss, Top, highest-top, highest-over, highest-cong}
 use Rattle.base.proofs.Numbers.{lt-or-le}
-use Rattle.graph.specs.Closure.{Relation, closure, Chain, step, more, Agree, Irreflexive, Acyclic}
+use Rattle.graph.specs.Closure.{Relation, closure, Chain, step, more, Agree, Returns, AllReturn, Irreflexive, Acyclic}
 use Rattle.graph.specs.Groups.{together, label, stable, grouped}
 use Rattle.graph.proofs.Reaching.{closure-is, closure-related, closure-trans}
 
@@ -62,6 +62,19 @@ module _ (C : Relation) where
       ⊎-elim (λ (l : j < seek (together C i) i). absurd (omega (arith, seek-found (together C i) i .before j l)))
       (λ (l : seek (together C i) i ≤ j). l)
       (lt-or-le j (seek (together C i) i))
+
+  -- a router that does not reach itself shares its group with no other
+  pub alone : (n i j : ℕ) → Returns C n i → C i i ≡ 0 → j < n → (i ≡ j → ⊥) → together C i j ≡ 0
+  alone n i j h e l d =
+      ⊎-elim (λ (o : 0 < together C i j).
+      ⊎-elim (λ (q : i ≡ j). absurd (d q)) (λ (b : (1 ≤ C i j) × (1 ≤ C j i)). absurd (omega (arith, h j l (b .0) (b .1)))) (together-cases i j o))
+      (λ (o : together C i j ≤ 0). omega arith)
+      (lt-or-le 0 (together C i j))
+
+  pub label-alone : (i : ℕ) → Returns C i i → C i i ≡ 0 → i ≡ label C i
+  unfolding label
+  label-alone i h e =
+      scan-miss (together C i) i i (record { upto = omega arith; none = λ d l. alone i i d h e l (λ q. omega arith) }) (omega arith)
 
   -- "Stable: every group has one router."
   pub stable-groups : (n : ℕ) → (stable C n ≡ true) ↔ ((i j : ℕ) → i < n → j < n → 1 ≤ together C i j → i ≡ j)
@@ -136,6 +149,11 @@ module _ (R : Relation) (n : ℕ) where
       ⊎-elim (λ (h : 0 < closure R n i i). absurd (stable-chains q .0 s i l (closure-is R n i i l l .0 h)))
       (λ (h : closure R n i i ≤ 0). omega arith)
       (lt-or-le 0 (closure R n i i))
+
+  -- the closure's rows as the loops over them ask
+  pub closure-returns : (D : Relation) → Agree D (closure R n) n → AllReturn D n
+  closure-returns D h i l j m a b =
+      omega (arith, h i i l l, closure-trans R n i j i l m l (omega (arith, h i j l m)) (omega (arith, h j i m l)))
 
 -- what depends on a closed relation's values below n alone
 module _ (C D : Relation) (n : ℕ) (h : Agree C D n) where

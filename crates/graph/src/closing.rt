@@ -1,9 +1,21 @@
 // The closure of a relation: who reaches whom.
 
 use base::bits::bit;
-ghost use Prim.Native.Nat.{_≤_, _<_};
-ghost use Rattle.base.specs.Bits.{bits};
+ghost use mathlib.Core.Path.{_≡_};
+ghost use Prim.Native.Nat.{ℕ, _≤_, _<_, min, max};
+ghost use Rattle.base.specs.Bits.{bitN, bits};
 ghost use Rattle.graph.specs.Closure.{Agree, through, closure};
+
+// A row with what lies beyond router k, if it has k.
+fn joined(own: u64, beyond: u64, k: usize) -> u64
+    requires { ⌜ k < 64 ⌝ }
+    ensures { λ r. ⌜ ((j : ℕ) → bitN r j ≡ max (bitN own j) (min (bitN own k) (bitN beyond j))) ⌝ }
+{
+    if bit(own, k) == 1 {
+        return own | beyond;
+    }
+    own
+}
 
 // Adds who reaches whom through router k.
 fn pass_through(rows: &mut [u64; 64], n: usize, k: usize)
@@ -13,13 +25,8 @@ fn pass_through(rows: &mut [u64; 64], n: usize, k: usize)
     let beyond = rows[k];
     let mut i = 0;
     while i < n {
-        let own = rows[i];
-        if bit(own, k) == 1 {
-            rows[i] = own | beyond;
-            i += 1;
-        } else {
-            i += 1;
-        }
+        rows[i] = joined(rows[i], beyond, k);
+        i += 1;
     }
 }
 

@@ -4,11 +4,16 @@ use mathlib.Core.Path.{_≡_, refl, _∙_, sym}
 use mathlib.Core.Bool.{true}
 use borrow.Author.Needs.{needs}
 use Rattle.routing.specs.Instance.{Instance}
+use Rattle.graph.proofs.Sharing.{closure-returns}
 use Rattle.network.specs.Decoded.{decoded}
 use Rattle.assessment.specs.Assessed.{isStable}
 use Rattle.assessment.proofs.Relations.{rows-acyclic, highest-is, highest-same, ranks-fall, stable-is, cycle-asked, stable-assessed, suspect-assessed}
 use Rattle.assessment.proofs.assess.Statement.{statement}
 use Rattle.assessment.proofs.assess.Tie as tie
+
+-- where the call starts
+abbrev begun : tie.After-close → tie.Start
+begun c = c .before .before .before .before .before .before .before .before .before
 
 -- from the test: where the relation was closed, where its rows were filled, and where the call starts
 abbrev closing : tie.After-is-stable → tie.After-close
@@ -18,7 +23,7 @@ abbrev rows : tie.After-is-stable → tie.After-reliance-rows
 rows c = closing c .before .before
 
 abbrev entry : tie.After-is-stable → tie.Start
-entry c = rows c .before .before .before .before .before .before .before
+entry c = begun (closing c)
 
 abbrev network : tie.After-is-stable → Instance
 network c = let a = entry c .args in decoded (a .net) (a .rows .now) (a .distances .now)
@@ -28,6 +33,17 @@ tested : (c : tie.After-is-stable) → c .is-stable .result ≡ isStable (networ
 tested c =
     c .is-stable .ensures
     ∙ stable-is (network c) _ _ (rows c .reliance-rows .ensures) (closing c .close .last .0) (closing c .close .ensures)
+
+labels-requires : tie.Need-labels-requires
+labels-requires c κs =
+    let k = c .before .before in
+    let p = begun k .pre in
+    (p .0 .count, p .1, closure-returns _ _ _ (k .close .ensures))
+
+is-stable-requires : tie.Need-is-stable-requires
+is-stable-requires c κs =
+    let k = c .before .before .before .before .before .before in
+    (begun k .pre .0 .count, closure-returns _ _ _ (k .close .ensures))
 
 ranks-requires : tie.Need-ranks-requires
 ranks-requires c κs =
@@ -82,8 +98,8 @@ assess-spec =
     (tie.spec
     (λ c κs. search needs)
     (λ c κs. search needs)
-    (λ c κs. search needs)
-    (λ c κs. search needs)
+    labels-requires
+    is-stable-requires
     ranks-requires
     settle-requires
     (λ c. search needs)

@@ -1,5 +1,6 @@
 -- `graph::groups::is_stable`: every router below i is the label of its group.
 use Prim.Native.Nat.{_≤_, _-_}
+use native.Mathlib.Omega.{arith}
 use mathlib.Core.Path.{_≡_, _∙_, sym}
 use mathlib.Core.Bool.{true}
 use borrow.Author.Tests.{eq-eqb, ne-eqb}
@@ -22,7 +23,10 @@ loop-holds : tie.Need-loop-holds Inv-loop μ-loop
 loop-holds c = (search needs, all-none _)
 
 label-of-requires : tie.Need-label-of-requires Inv-loop μ-loop
-label-of-requires c κs = search needs
+label-of-requires c κs =
+    let u = c .before in
+    let p = u .before .pre in
+    (omega (arith, p .0), λ j l. p .1 _ (c .loop-test .taken) j (omega (arith, c .loop-test .taken)))
 
 returns : tie.Need-returns Inv-loop μ-loop
 unfolding stable

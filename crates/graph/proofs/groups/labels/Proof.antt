@@ -19,7 +19,10 @@ loop-holds : tie.Need-loop-holds Inv-loop μ-loop
 loop-holds c = write-start _ _ _ (c .before .pre .1)
 
 label-of-requires : tie.Need-label-of-requires Inv-loop μ-loop
-label-of-requires c κs = search needs
+label-of-requires c κs =
+    let u = c .before in
+    let p = u .before .before .pre in
+    (omega (arith, p .0), λ j l. p .2 _ (c .loop-test .taken) j (omega (arith, c .loop-test .taken)))
 
 cast-out : tie.Need-cast-out Inv-loop μ-loop
 cast-out c =
