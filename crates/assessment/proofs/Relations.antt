@@ -4,14 +4,16 @@ use native.Mathlib.Omega.{arith}
 use mathlib.Core.Path.{_≡_, _∙_, sym, ap, ap₂}
 use mathlib.Core.Bool.{true, false}
 use mathlib.Core.List.{List, _++_}
+use mathlib.Core.Logic.{⊎-elim}
 use lib.ListN.{length, drop}
 use Rattle.base.specs.Bits.{bits}
 use Rattle.base.specs.Lent.{Lent}
 use Rattle.base.specs.Seek.{flag, highest}
 use Rattle.base.specs.Tab.{tab}
+use Rattle.base.proofs.Numbers.{lt-or-le}
 use Rattle.base.proofs.Seek.{highest-cong, highest-over}
 use Rattle.base.proofs.Tab.{getD-written}
-use Rattle.graph.specs.Closure.{closure, Agree, Irreflexive, Acyclic}
+use Rattle.graph.specs.Closure.{closure, Within, Agree, Irreflexive, Acyclic}
 use Rattle.graph.specs.Groups.{label, stable}
 use Rattle.ranking.specs.Rank.{entry, rank, highestRank}
 use Rattle.cycles.specs.Cycle.{cycle, CycleAsked}
@@ -32,6 +34,10 @@ use Rattle.assessment.specs.ByRank.{highestIn}
 module _ (I : Instance) (before relied : List ℕ) (h : RelianceRows I before relied) where
   related : Agree (bits relied) (reliance I) (I .n)
   related w v l m = h .routers w l .within v m
+
+  pub rows-within : Within (bits relied) (I .n)
+  rows-within w v l e =
+      ⊎-elim (λ (m : v < I .n). m) (λ (m : I .n ≤ v). absurd (omega (arith, h .routers w l .past v m))) (lt-or-le v (I .n))
 
   irreflexive : Irreflexive (reliance I) (I .n)
   irreflexive w l = ap flag (relies-other I w)

@@ -37,6 +37,10 @@ pub data Chain (R : Relation) (n : ℕ) : ℕ → ℕ → Type 0 where
 abbrev pub Agree : Relation → Relation → ℕ → Type 0
 Agree R S n = (i j : ℕ) → i < n → j < n → R i j ≡ S i j
 
+-- no router below n is related to one from n on
+abbrev pub Within : Relation → ℕ → Type 0
+Within R n = (i j : ℕ) → i < n → 1 ≤ R i j → j < n
+
 -- i is related to itself if it is related to a router below n that is related to it, as in every closure
 abbrev pub Returns : Relation → ℕ → ℕ → Type 0
 Returns C n i = (j : ℕ) → j < n → 1 ≤ C i j → 1 ≤ C j i → 1 ≤ C i i

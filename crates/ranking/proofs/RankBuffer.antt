@@ -1,18 +1,21 @@
 -- The buffer in which ranks are kept once they are found.
-use Prim.Native.Nat.{ℕ, _+_, _-_, _≤_, _<_, max}
+use Prim.Native.Nat.{ℕ, suc, _+_, _-_, _≤_, _<_, max}
 use native.Mathlib.Omega.{arith}
 use mathlib.Core.Path.{_≡_, refl, _∙_, sym, ap}
 use mathlib.Core.List.{List, _++_}
 use mathlib.Core.Logic.{inl, inr, ⊎-elim}
 use borrow.Author.Count.{below-more}
-use lib.ListN.{length, drop, set}
+use lib.ListN.{length, getD, drop, set}
 use lib.Seq.{getD-set-same, getD-set-other, drop-set-lt}
+use Rattle.base.specs.Bits.{bits}
+use Rattle.base.specs.BitWalk.{fromBit, LowestBit, BitWalk}
 use Rattle.base.specs.Tab.{tab}
 use Rattle.base.specs.Seek.{highest}
+use Rattle.base.proofs.BitWalk.{walk-start, walk-set, walk-within, walk-visit, walk-more, walk-done}
 use Rattle.base.proofs.Tab.{tab-front, drop-written, getD-written}
-use Rattle.base.proofs.Seek.{highest-none, highest-more}
+use Rattle.base.proofs.Seek.{highest-none, highest-suc, highest-more}
 use Rattle.base.proofs.Numbers.{eq-or-ne}
-use Rattle.graph.specs.Closure.{Relation, Acyclic}
+use Rattle.graph.specs.Closure.{Relation, Within, Acyclic}
 use Rattle.ranking.specs.Rank.{onTop, rankOver, entry, rank, highestRank}
 use Rattle.ranking.specs.Search.{Known, RankAsked, Filled, RankFound}
 use Rattle.ranking.proofs.RankRule.{on-top, reached-falls, reached-few, rank-rule, rank-below}
@@ -64,78 +67,96 @@ module _ (R : Relation) (n : ℕ) where
       = ⊎-elim (λ (d : entry l w ≡ 255). absurd (h d)) (λ (d : entry l w ≡ rank R n w). d) (a .known w (a .below)) in
       record { is = q ∙ e; low = omega (arith, rank-below R n (a .acyclic) w (a .below)); stored = e; filled = filled-same l }
 
--- the routers below v have been gone through, and `high` is the rank that they give w
-pub record Gathered (R : Relation) (n w left : ℕ) (l₀ l : List ℕ) (high v : ℕ) : Type 0 where
-  pub asked : RankAsked R n w left l₀
-  pub upto : v ≤ n
+-- What the routers below k give w.
+abbrev given : List ℕ → ℕ → ℕ → ℕ → ℕ
+given rows n w = highest (λ u. onTop (bits rows w u) (rank (bits rows) n u))
+
+-- One pass over the routers that w is related to, lowest first: `high` is the rank that those visited give w, and m holds the others.
+pub record Gathered (rows : List ℕ) (n w left : ℕ) (l₀ l : List ℕ) (high m : ℕ) : Type 0 where
+  pub asked : RankAsked (bits rows) n w left l₀
   pub len : length l ≡ length l₀
-  pub filled : Filled R n l₀ l
-  pub highIs : high ≡ highest (λ u. onTop (R w u) (rank R n u)) v
+  pub filled : Filled (bits rows) n l₀ l
+  pub walk : BitWalk (λ k. high ≡ given rows n w k) (getD rows w 0) n m
 
-module _ (R : Relation) (n w left : ℕ) where
-  pub gathered-start : (l : List ℕ) → RankAsked R n w left l → Gathered R n w left l l 0 0
+module _ (rows : List ℕ) (n w left : ℕ) where
+  pub gathered-start : (l : List ℕ) → RankAsked (bits rows) n w left l → Gathered rows n w left l l 0 (getD rows w 0)
   gathered-start l a =
-      record { asked = a; upto = omega arith; len = refl; filled = filled-same R n l; highIs = sym (highest-none _) }
+      record { asked = a; len = refl; filled = filled-same (bits rows) n l; walk = walk-start _ _ _ (sym (highest-none _)) }
 
-  -- the call along the relation
-  pub gathered-asks : (l₀ l : List ℕ) (high v : ℕ) → Gathered R n w left l₀ l high v → v < n → R w v ≡ 1 → RankAsked R n v (left - 1) l
-  gathered-asks l₀ l high v g h r = record {
-    small = g .asked .small;
-    long = omega (arith, g .len, g .asked .long);
-    below = h;
-    acyclic = g .asked .acyclic;
-    few = omega (arith, reached-falls R n (g .asked .acyclic) w v (g .asked .below) h (omega arith), g .asked .few);
-    known = filled-known R n l₀ l (g .asked .known) (g .filled);
-  }
+  module _ (l₀ l : List ℕ) (high m : ℕ) (g : Gathered rows n w left l₀ l high m) where
+    abbrev Given : ℕ → Type 0
+    Given k = high ≡ given rows n w k
 
-  pub gathered-more : (l₀ l m : List ℕ) (high v r next : ℕ) → Gathered R n w left l₀ l high v → v < n → R w v ≡ 1
-      → length m ≡ length l → RankFound R n v l m r → next ≡ max high (r + 1) → Gathered R n w left l₀ m next (v + 1)
-  gathered-more l₀ l m high v r next g h o e f q = record {
-    asked = g .asked;
-    upto = omega arith;
-    len = e ∙ g .len;
-    filled = filled-trans R n l₀ l m (g .filled) (f .filled);
-    highIs =
-        omega (arith, highest-more (λ u. onTop (R w u) (rank R n u)) v, on-top (R w v) (rank R n v) (omega arith), g .highIs, f .is);
-  }
+    pass : (u : ℕ) → u < n → bits rows w u ≡ 0 → Given u → Given (suc u)
+    pass u b unset e =
+        let z : onTop (bits rows w u) (rank (bits rows) n u) ≡ 0 = rw unset in
+        omega (arith, highest-suc (λ u. onTop (bits rows w u) (rank (bits rows) n u)) u)
 
-  pub gathered-skip : (l₀ l : List ℕ) (high v : ℕ) → Gathered R n w left l₀ l high v → v < n → R w v ≡ 0 → Gathered R n w left l₀ l high (v + 1)
-  gathered-skip l₀ l high v g h o = record {
-    asked = g .asked;
-    upto = omega arith;
-    len = g .len;
-    filled = g .filled;
-    highIs =
-        let z : onTop (R w v) (rank R n v) ≡ 0 = rw o in
-        omega (arith, highest-more (λ u. onTop (R w u) (rank R n u)) v, g .highIs);
-  }
+    within : (u : ℕ) → bits rows w u ≡ 1 → u < n
+    within u set = g .asked .within w u (g .asked .below) (omega arith)
 
-  pub gathered-done : (l₀ l : List ℕ) (high v : ℕ) → Gathered R n w left l₀ l high v → n ≤ v → high ≡ rank R n w
-  unfolding rankOver
-  gathered-done l₀ l high v g h =
-      let e : v ≡ n = omega (arith, g .upto) in
-      g .highIs ∙ ap (highest _) e ∙ sym (rank-rule R n (g .asked .acyclic) w (g .asked .below))
+    -- router v is the next
+    module _ (v : ℕ) (low : LowestBit m v) where
+      below : v < n
+      below = walk-within Given _ _ m v within (g .walk) low
 
-  pub gathered-low : (l₀ l : List ℕ) (high v : ℕ) → Gathered R n w left l₀ l high v → n ≤ v → high < 64
-  gathered-low l₀ l high v g h =
-      omega (arith, gathered-done l₀ l high v g h, rank-below R n (g .asked .acyclic) w (g .asked .below), g .asked .small)
+      near : bits rows w v ≡ 1
+      near = walk-set Given _ _ m v within (g .walk) low
 
-  pub gathered-found : (l₀ l : List ℕ) (high v x : ℕ) → Gathered R n w left l₀ l high v → n ≤ v → x ≡ high
-      → RankFound R n w l₀ (set l w x) high
-  gathered-found l₀ l high v x g h q =
-      let e : high ≡ rank R n w = gathered-done l₀ l high v g h in
-      record {
-        is = e;
-        low = omega (arith, rank-below R n (g .asked .acyclic) w (g .asked .below));
-        stored = getD-set-same l w x 0 (omega (arith, g .len, g .asked .long, g .asked .below)) ∙ q ∙ e;
-        filled = filled-set R n l₀ l w x (g .asked .below) (omega (arith, g .len, g .asked .long)) (q ∙ e) (g .filled);
+      -- the call along the relation
+      pub gathered-asks : RankAsked (bits rows) n v (left - 1) l
+      gathered-asks = record {
+        small = g .asked .small;
+        long = omega (arith, g .len, g .asked .long);
+        below = below;
+        acyclic = g .asked .acyclic;
+        within = g .asked .within;
+        few = omega (arith, reached-falls (bits rows) n (g .asked .acyclic) w v (g .asked .below) below (omega (arith, near)), g .asked .few);
+        known = filled-known (bits rows) n l₀ l (g .asked .known) (g .filled);
       }
+
+      pub gathered-more : (k : List ℕ) (r next m′ : ℕ) → length k ≡ length l → RankFound (bits rows) n v l k r → next ≡ max high (r + 1)
+          → m′ ≡ fromBit m (suc v) → Gathered rows n w left l₀ k next m′
+      gathered-more k r next m′ e f q step = record {
+        asked = g .asked;
+        len = e ∙ g .len;
+        filled = filled-trans (bits rows) n l₀ l k (g .filled) (f .filled);
+        walk =
+            walk-more Given _ _ m v within (g .walk) low _ m′ step
+            (omega (
+              arith,
+              highest-suc (λ u. onTop (bits rows w u) (rank (bits rows) n u)) v,
+              on-top (bits rows w v) (rank (bits rows) n v) (omega (arith, near)),
+              walk-visit Given _ _ pass m v within (g .walk) low,
+              f .is,
+            ));
+      }
+
+    -- none is left
+    module _ (done : m ≡ 0) where
+      is-rank : high ≡ rank (bits rows) n w
+      unfolding rankOver
+      is-rank = walk-done Given _ _ pass m (g .walk) done ∙ sym (rank-rule (bits rows) n (g .asked .acyclic) w (g .asked .below))
+
+      pub gathered-low : high < 64
+      gathered-low = omega (arith, is-rank, rank-below (bits rows) n (g .asked .acyclic) w (g .asked .below), g .asked .small)
+
+      pub gathered-found : (x : ℕ) → x ≡ high → RankFound (bits rows) n w l₀ (set l w x) high
+      gathered-found x q =
+          record {
+            is = is-rank;
+            low = omega (arith, is-rank, rank-below (bits rows) n (g .asked .acyclic) w (g .asked .below));
+            stored = getD-set-same l w x 0 (omega (arith, g .len, g .asked .long, g .asked .below)) ∙ q ∙ is-rank;
+            filled =
+                filled-set (bits rows) n l₀ l w x (g .asked .below) (omega (arith, g .len, g .asked .long)) (q ∙ is-rank) (g .filled);
+          }
 
 -- the ranks of the routers below w are found, and `high` is the highest of them; d is the buffer with none of them
 pub record Ranks (R : Relation) (n : ℕ) (d l : List ℕ) (high w : ℕ) : Type 0 where
   pub small : n ≤ 64
   pub long : n ≤ length d
   pub acyclic : Acyclic R n
+  pub within : Within R n
   pub upto : w ≤ n
   pub len : length l ≡ length d
   pub rest : drop n l ≡ drop n d
@@ -144,11 +165,12 @@ pub record Ranks (R : Relation) (n : ℕ) (d l : List ℕ) (high w : ℕ) : Type
   pub highIs : high ≡ highest (rank R n) w
 
 module _ (R : Relation) (n : ℕ) (d : List ℕ) where
-  pub ranks-start : (l : List ℕ) → (n ≤ 64) × (n ≤ length d) × Acyclic R n → length l ≡ length d → l ≡ tab (λ v. 255) n ++ drop n d → Ranks R n l l 0 0
+  pub ranks-start : (l : List ℕ) → (n ≤ 64) × (n ≤ length d) × Acyclic R n × Within R n → length l ≡ length d → l ≡ tab (λ v. 255) n ++ drop n d → Ranks R n l l 0 0
   ranks-start l a e h = record {
     small = a .0;
     long = omega (arith, a .1);
     acyclic = a .2;
+    within = a .3;
     upto = omega arith;
     len = refl;
     rest = refl;
@@ -163,6 +185,7 @@ module _ (R : Relation) (n : ℕ) (d : List ℕ) where
     long = omega (arith, g .long, g .len);
     below = h;
     acyclic = g .acyclic;
+    within = g .within;
     few = reached-few R n (g .acyclic) w h;
     known = g .known;
   }
@@ -173,6 +196,7 @@ module _ (R : Relation) (n : ℕ) (d : List ℕ) where
     small = g .small;
     long = g .long;
     acyclic = g .acyclic;
+    within = g .within;
     upto = omega arith;
     len = e ∙ g .len;
     rest = f .filled .rest ∙ g .rest;

@@ -5,7 +5,7 @@ use mathlib.Core.List.{List}
 use mathlib.Core.Logic.{_⊎_}
 use lib.ListN.{length, drop}
 use Rattle.base.specs.Seek.{count}
-use Rattle.graph.specs.Closure.{Relation, closure, Acyclic}
+use Rattle.graph.specs.Closure.{Relation, closure, Within, Acyclic}
 use Rattle.ranking.specs.Rank.{entry, rank}
 
 -- how many routers below n lie on the chains from w: it falls along a chain
@@ -22,6 +22,7 @@ pub record RankAsked (R : Relation) (n w left : ℕ) (l : List ℕ) : Type 0 whe
   pub long : n ≤ length l
   pub below : w < n
   pub acyclic : Acyclic R n
+  pub within : Within R n
   pub few : reached R n w < left
   pub known : Known R n l
 

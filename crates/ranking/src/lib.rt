@@ -1,6 +1,7 @@
 // Ranks of a relation in which no router reaches itself, given as rows of bits.
 
-use base::bits::bit;
+use base::bits::lowest_bit;
+use base::bits::without_lowest;
 use base::wide;
 ghost use mathlib.Core.Path.{_≡_};
 ghost use mathlib.Core.List.{_++_};
@@ -8,7 +9,7 @@ ghost use Prim.Native.Nat.{_≤_, max};
 ghost use lib.ListN.{length, drop};
 ghost use Rattle.base.specs.Tab.{tab};
 ghost use Rattle.base.specs.Bits.{bits};
-ghost use Rattle.graph.specs.Closure.{Acyclic};
+ghost use Rattle.graph.specs.Closure.{Within, Acyclic};
 ghost use Rattle.ranking.specs.Rank.{rank, highestRank};
 ghost use Rattle.ranking.specs.Search.{RankAsked, RankFound};
 
@@ -31,17 +32,13 @@ fn rank_of(rows: &[u64; 64], n: usize, w: usize, left: usize, known: &mut [u8]) 
     if found != UNKNOWN {
         return wide(found);
     }
-    let row = rows[w];
     let mut high = 0;
-    let mut v = 0;
-    while v < n {
-        if bit(row, v) == 1 {
-            let r = rank_of(rows, n, v, left - 1, known);
-            high = higher(high, r + 1);
-            v += 1;
-        } else {
-            v += 1;
-        }
+    let mut ahead = rows[w];
+    while ahead != 0 {
+        let v = lowest_bit(ahead);
+        let r = rank_of(rows, n, v, left - 1, known);
+        high = higher(high, r + 1);
+        ahead = without_lowest(ahead);
     }
     known[w] = high as u8;
     high
@@ -61,7 +58,7 @@ fn forget(out: &mut [u8], n: usize)
 
 // Writes the rank of each router to the first n bytes of `out`, and returns the highest.
 pub fn ranks(rows: &[u64; 64], n: usize, out: &mut [u8]) -> usize
-    requires { ⌜ (n ≤ 64) × (n ≤ length (now out)) × Acyclic (bits (now rows)) n ⌝ }
+    requires { ⌜ (n ≤ 64) × (n ≤ length (now out)) × Acyclic (bits (now rows)) n × Within (bits (now rows)) n ⌝ }
     ensures highest { λ r. ⌜ r ≡ highestRank (bits (now (rows .entry))) n ⌝ }
     ensures written { λ _. ⌜ now (out .exit) ≡ tab (rank (bits (now (rows .entry))) n) n ++ drop n (now (out .entry)) ⌝ }
 {

@@ -7,7 +7,7 @@ use Rattle.routing.specs.Instance.{Instance}
 use Rattle.graph.proofs.Sharing.{closure-returns}
 use Rattle.network.specs.Decoded.{decoded}
 use Rattle.assessment.specs.Assessed.{isStable}
-use Rattle.assessment.proofs.Relations.{rows-acyclic, highest-is, highest-same, ranks-fall, stable-is, cycle-asked, stable-assessed, suspect-assessed}
+use Rattle.assessment.proofs.Relations.{rows-within, rows-acyclic, highest-is, highest-same, ranks-fall, stable-is, cycle-asked, stable-assessed, suspect-assessed}
 use Rattle.assessment.proofs.assess.Statement.{statement}
 use Rattle.assessment.proofs.assess.Tie as tie
 
@@ -49,7 +49,8 @@ ranks-requires : tie.Need-ranks-requires
 ranks-requires c κs =
     let t = c .before .before .before in
     let p = entry t .pre in
-    (p .0 .count, p .2, rows-acyclic (network t) _ _ (rows t .reliance-rows .ensures) (sym (tested t) ∙ c .before .before .if1 .taken))
+    let h = rows t .reliance-rows .ensures in
+    (p .0 .count, p .2, rows-acyclic (network t) _ _ h (sym (tested t) ∙ c .before .before .if1 .taken), rows-within (network t) _ _ h)
 
 settle-requires : tie.Need-settle-requires
 settle-requires c κs =
