@@ -13,8 +13,9 @@ use Rattle.base.proofs.Seek.{Found, seek-found, found-is, seek-cong, highest-ov
 use Rattle.base.specs.Tab.{tab}
 use Rattle.base.proofs.Tab.{length-tab, tab-cong}
 use Rattle.graph.specs.Closure.{Relation, closure, Agree}
+use Rattle.graph.proofs.Sharing.{closure-returns}
 use Rattle.cycles.specs.Cycle.{next, walk, trail, same, second, first, lap, cycleIn, cycle, CycleAsked}
-use Rattle.cycles.specs.Follow.{Stays, Followed}
+use Rattle.cycles.specs.Follow.{Stays, FollowAsked, Followed}
 use Rattle.cycles.proofs.Walking.{Fresh, fresh-few, tour, Lap, lap-found, trail-cong, cycle-in-cong}
 
 pub trail-next : (R C : Relation) (n k : ℕ) → trail R C n (k + 1) ≡ next R C n (trail R C n k)
@@ -99,8 +100,12 @@ module _ (R D : Relation) (n : ℕ) (out : List ℕ) (a : CycleAsked R D n out) 
   agreed : Agree (closure R n) D n
   agreed i j l m = sym (a .closed i j l m)
 
-  pub stays : Stays R D n
+  stays : Stays R D n
   stays k = rw (trail-cong R R (closure R n) D n (λ i j l m. refl) agreed bounded k) at (bounded k)
+
+  pub follow-asked : (path : List ℕ) → length path ≡ 64 → FollowAsked R D n path
+  follow-asked path e =
+      record { small = a .small; long = e; stays = stays; within = a .within; returns = closure-returns R n D (a .closed) }
 
   pub followed-lap : (path : List ℕ) (from upto : ℕ) → Followed (trail R D n) n path from upto → (from < upto) × (upto ≤ n)
   followed-lap path from upto w =

@@ -7,7 +7,7 @@ use lib.Dec.{eqb}
 use lib.ListN.{length, getD}
 use Rattle.base.specs.Tab.{tab}
 use Rattle.base.specs.Seek.{flag, seek, highest}
-use Rattle.graph.specs.Closure.{Relation, closing, cell, closure, Agree}
+use Rattle.graph.specs.Closure.{Relation, closing, cell, closure, Within, Agree}
 use Rattle.graph.specs.Groups.{together, grouped, stable}
 
 -- "the ring is found from the lowest router in a group of two or more"
@@ -64,5 +64,6 @@ pub record IsCycle (R C : Relation) (n : ℕ) (l : List ℕ) : Type 0 where
 pub record CycleAsked (R D : Relation) (n : ℕ) (out : List ℕ) : Type 0 where
   pub small : n ≤ 64
   pub long : n ≤ length out
+  pub within : Within R n
   pub closed : Agree D (closure R n) n
   pub suspect : stable (closure R n) n ≡ false

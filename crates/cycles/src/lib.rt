@@ -1,6 +1,8 @@
 // The cycle of a relation that is not stable, given as rows of bits.
 
 use base::bits::bit;
+use base::bits::lowest_bit;
+use base::bits::without_lowest;
 use base::wide;
 use graph::groups::share;
 ghost use mathlib.Core.Path.{_≡_};
@@ -12,9 +14,10 @@ ghost use lib.ListN.{length, getD, drop};
 ghost use Rattle.base.specs.Tab.{tab};
 ghost use Rattle.base.specs.Seek.{flag, seek};
 ghost use Rattle.base.specs.Bits.{bits};
+ghost use Rattle.graph.specs.Closure.{Within, Returns, AllReturn};
 ghost use Rattle.graph.specs.Groups.{together, grouped};
 ghost use Rattle.cycles.specs.Cycle.{start, next, trail, cycle, CycleAsked};
-ghost use Rattle.cycles.specs.Follow.{Stays, Followed};
+ghost use Rattle.cycles.specs.Follow.{FollowAsked, Followed};
 
 // Whether i and j are two routers of one group: 1 or 0.
 fn share_apart(closed: &[u64; 64], i: usize, j: usize) -> u64
@@ -27,11 +30,14 @@ fn share_apart(closed: &[u64; 64], i: usize, j: usize) -> u64
     share(closed, i, j)
 }
 
-// Whether i is in a group of two or more.
+// Whether i is in a group of two or more. A router that does not reach itself is in none.
 fn is_grouped(closed: &[u64; 64], n: usize, i: usize) -> bool
-    requires { ⌜ (n ≤ 64) × (i < 64) ⌝ }
+    requires { ⌜ (n ≤ 64) × (i < 64) × Returns (bits (now closed)) n i ⌝ }
     ensures { λ r. ⌜ r ≡ ltb 0 (grouped (bits (now (closed .entry))) n i) ⌝ }
 {
+    if bit(closed[i], i) == 0 {
+        return false;
+    }
     let mut j = 0;
     while j < n {
         if 0 < share_apart(closed, i, j) {
@@ -44,7 +50,7 @@ fn is_grouped(closed: &[u64; 64], n: usize, i: usize) -> bool
 
 // The lowest router in a group of two or more, n if there is none.
 fn first_grouped(closed: &[u64; 64], n: usize) -> usize
-    requires { ⌜ n ≤ 64 ⌝ }
+    requires { ⌜ (n ≤ 64) × AllReturn (bits (now closed)) n ⌝ }
     ensures { λ r. ⌜ r ≡ start (bits (now (closed .entry))) n ⌝ }
 {
     let mut i = 0;
@@ -57,28 +63,18 @@ fn first_grouped(closed: &[u64; 64], n: usize) -> usize
     n
 }
 
-// Whether w is related to v in one group: 1 or 0.
-fn related_within(rows: &[u64; 64], closed: &[u64; 64], w: usize, v: usize) -> u64
-    requires { ⌜ (w < 64) × (v < 64) ⌝ }
-    ensures { λ r. ⌜ r ≡ min (bits (now (rows .entry)) w v) (together (bits (now (closed .entry))) w v) ⌝ }
-{
-    if bit(rows[w], v) == 0 {
-        return 0;
-    }
-    share(closed, w, v)
-}
-
 // The lowest router that w is related to in its group, n if there is none.
 fn next_router(rows: &[u64; 64], closed: &[u64; 64], n: usize, w: usize) -> usize
-    requires { ⌜ (n ≤ 64) × (w < 64) ⌝ }
+    requires { ⌜ (n ≤ 64) × (w < n) × Within (bits (now rows)) n ⌝ }
     ensures { λ r. ⌜ r ≡ next (bits (now (rows .entry))) (bits (now (closed .entry))) n w ⌝ }
 {
-    let mut v = 0;
-    while v < n {
-        if 0 < related_within(rows, closed, w, v) {
+    let mut left = rows[w];
+    while left != 0 {
+        let v = lowest_bit(left);
+        if 0 < share(closed, w, v) {
             return v;
         }
-        v += 1;
+        left = without_lowest(left);
     }
     n
 }
@@ -106,7 +102,7 @@ struct Stretch {
 
 // Follows the walk until it meets a router for the second time.
 fn follow(rows: &[u64; 64], closed: &[u64; 64], n: usize, path: &mut [u8; 64]) -> Stretch
-    requires { ⌜ (n ≤ 64) × (length (now path) ≡ 64) × Stays (bits (now rows)) (bits (now closed)) n ⌝ }
+    requires { ⌜ FollowAsked (bits (now rows)) (bits (now closed)) n (now path) ⌝ }
     ensures { λ r. ⌜ Followed (trail (bits (now (rows .entry))) (bits (now (closed .entry))) n) n (now (path .exit)) (r .from) (r .upto) ⌝ }
 {
     let mut w = first_grouped(closed, n);

@@ -2,12 +2,12 @@
 use native.Mathlib.Omega.{arith}
 use mathlib.Core.Path.{refl}
 use borrow.Author.Needs.{needs}
-use Rattle.cycles.proofs.Following.{stays, followed-lap, followed-written}
+use Rattle.cycles.proofs.Following.{follow-asked, followed-lap, followed-written}
 use Rattle.cycles.proofs.cycle.Statement.{statement}
 use Rattle.cycles.proofs.cycle.Tie as tie
 
 follow-requires : tie.Need-follow-requires
-follow-requires c κs = (c .before .before .pre .small, refl, stays _ _ _ _ (c .before .before .pre))
+follow-requires c κs = follow-asked _ _ _ _ (c .before .before .pre) _ refl
 
 sub-count : tie.Need-sub-count
 sub-count c =

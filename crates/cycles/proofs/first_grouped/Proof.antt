@@ -21,7 +21,9 @@ loop-holds : tie.Need-loop-holds Inv-loop μ-loop
 loop-holds c = scan-start _ _
 
 is-grouped-requires : tie.Need-is-grouped-requires Inv-loop μ-loop
-is-grouped-requires c κs = search needs
+is-grouped-requires c κs =
+    let p = c .before .before .pre in
+    (p .0, omega (arith, p .0), p .1 _ (c .loop-test .taken))
 
 returns : tie.Need-returns Inv-loop μ-loop
 unfolding start

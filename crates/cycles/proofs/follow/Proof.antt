@@ -16,13 +16,13 @@ abbrev μ-loop : tie.MeasureT-loop
 μ-loop rows closed n path₀ w₀ k₀ met₀ path w k met = n - k
 
 first-grouped-requires : tie.Need-first-grouped-requires Inv-loop μ-loop
-first-grouped-requires c κs = search needs
+first-grouped-requires c κs = (c .pre .small, c .pre .returns)
 
 loop-holds : tie.Need-loop-holds Inv-loop μ-loop
 unfolding walk
 loop-holds c =
     let a = c .before .pre in
-    follows-start _ _ _ _ (a .0) (a .2) (a .1) (c .first-grouped .ensures)
+    follows-start _ _ _ _ (a .small) (a .stays) (a .long) (c .first-grouped .ensures)
 
 cast-path : tie.Need-cast-path Inv-loop μ-loop
 cast-path c = omega (arith, follows-below _ _ _ _ _ _ (c .before .loop .inv), c .before .loop .inv .small)
@@ -31,7 +31,9 @@ element-write-path : tie.Need-element-write-path Inv-loop μ-loop
 element-write-path c = omega (arith, follows-room _ _ _ _ _ _ (c .before .loop .inv) (c .loop-test .taken), c .before .loop .inv .small)
 
 next-router-requires : tie.Need-next-router-requires Inv-loop μ-loop
-next-router-requires c κs = omega (arith, follows-below _ _ _ _ _ _ (c .before .loop .inv), c .before .loop .inv .small)
+next-router-requires c κs =
+    let u = c .before in
+    (u .loop .inv .small, follows-below _ _ _ _ _ _ (u .loop .inv), u .before .before .pre .within)
 
 add-k : tie.Need-add-k Inv-loop μ-loop
 add-k c = omega (arith, follows-room _ _ _ _ _ _ (c .before .before .loop .inv) (c .before .loop-test .taken), c .before .before .loop .inv .small)

@@ -1,6 +1,7 @@
--- `cycles::is_grouped`: no other router below j shares the group.
+-- `cycles::is_grouped`: i does not reach itself, or no other router below j shares the group.
 use Prim.Native.Nat.{_-_, min}
 use native.Mathlib.Omega.{arith}
+use mathlib.Core.Path.{_∙_, sym}
 use mathlib.Core.Bool.{not}
 use borrow.Author.Needs.{needs}
 use lib.Dec.{eqb}
@@ -8,6 +9,7 @@ use Rattle.base.specs.Seek.{flag}
 use Rattle.base.specs.Bits.{bits}
 use Rattle.base.proofs.Seek.{Scanned, scan-start, scan-more, any-hit, any-miss}
 use Rattle.graph.specs.Groups.{together, grouped}
+use Rattle.cycles.proofs.InGroup.{grouped-alone}
 use Rattle.cycles.proofs.is_grouped.Statement.{statement}
 use Rattle.cycles.proofs.is_grouped.Tie as tie
 
@@ -17,32 +19,25 @@ Inv-loop closed n i j₀ j = Scanned (λ d. min (flag (not (eqb i d))) (together
 abbrev μ-loop : tie.MeasureT-loop
 μ-loop closed n i j₀ j = n - j
 
-loop-holds : tie.Need-loop-holds Inv-loop μ-loop
-loop-holds c = scan-start _ _
-
-share-apart-requires : tie.Need-share-apart-requires Inv-loop μ-loop
-share-apart-requires c κs = search needs
-
 returns : tie.Need-returns Inv-loop μ-loop
-unfolding grouped
 returns c =
+    let d = c .before .before .before in
+    grouped-alone (bits (d .args .closed .now)) _ _ (d .pre .2) (sym (c .before .bit .ensures) ∙ c .if1 .taken)
+
+returns-2 : tie.Need-returns-2 Inv-loop μ-loop
+unfolding grouped
+returns-2 c =
     let u = c .before .before in
     any-hit _ _ (u .before .loop .j) (u .loop-test .taken) (omega (arith, c .before .share-apart .ensures))
-
-add-j : tie.Need-add-j Inv-loop μ-loop
-add-j c = search needs
-
-loop-less : tie.Need-loop-less Inv-loop μ-loop
-loop-less c = search needs
 
 loop-again : tie.Need-loop-again Inv-loop μ-loop
 loop-again c =
     let u = c .before .before in
     scan-more _ _ _ (u .before .loop .inv) (u .loop-test .taken) (omega (arith, c .before .share-apart .ensures))
 
-returns-2 : tie.Need-returns-2 Inv-loop μ-loop
+returns-3 : tie.Need-returns-3 Inv-loop μ-loop
 unfolding grouped
-returns-2 c = any-miss _ _ _ (c .before .loop .inv) (c .loop-test .left)
+returns-3 c = any-miss _ _ _ (c .before .loop .inv) (c .loop-test .left)
 
 pub is-grouped-spec : {M : Type 1} → statement M
 is-grouped-spec =
@@ -50,10 +45,14 @@ is-grouped-spec =
     (tie.spec
     Inv-loop
     μ-loop
-    loop-holds
-    share-apart-requires
+    (λ c. search needs)
+    (λ c. search needs)
+    (λ c κs. search needs)
     returns
-    add-j
-    loop-less
+    (λ c. scan-start _ _)
+    (λ c κs. search needs)
+    returns-2
+    (λ c. search needs)
+    (λ c. search needs)
     loop-again
-    returns-2)
+    returns-3)
