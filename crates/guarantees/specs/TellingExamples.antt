@@ -7,7 +7,8 @@ use lib.ListN.{replicate}
 use Rattle.checker.specs.declared.compare.CompareAnswer.the-variants.{First, Second, Same}
 use Rattle.checker.specs.declared.relies.ReliesAnswer.the-variants.{Yes, No}
 use Rattle.checker.specs.declared.verdict.VerdictAnswer.the-variants.{Suspect}
-use Rattle.guarantees.specs.Questions.{checkAsked, sizeAsked, listAsked, compareAsked, reliesAsked, verdictAsked, activateAsked, runAsked}
+use Rattle.guarantees.specs.Questions.{checkAsked, sizeAsked, listAsked, compareAsked, reliesAsked}
+use Rattle.guarantees.specs.Questions.{verdictAsked, activateAsked, runAsked}
 use Rattle.guarantees.specs.Questions.{checkIs, sizeIs, listIs, compareIs, reliesIs, verdictIs, activateIs, runIs}
 use Rattle.guarantees.specs.Questions.{Example, example, Hold}
 
