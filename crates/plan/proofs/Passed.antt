@@ -1,10 +1,9 @@
 -- A plan is not refused exactly if the plain facts of `Passed` hold.
-use Prim.Native.Nat.{ℕ, _+_, _-_, _≤_, _<_}
+use Prim.Native.Nat.{ℕ, suc, _+_, _-_, _≤_, _<_}
 use native.Mathlib.Omega.{arith}
 use mathlib.Core.Path.{_≡_, refl, _∙_, sym}
-use mathlib.Core.Bool.{Bool}
+use mathlib.Core.Bool.{Bool, true}
 use mathlib.Core.List.{List, [], _∷_}
-use mathlib.Core.Logic.{⊎-elim}
 use native.Mathlib.Nat.{add-sub-cancel}
 use lib.ListN.{length, getD}
 use Rattle.contents.specs.Header.{headerOk, routerCount, routerCountOk}
@@ -18,7 +17,9 @@ use Rattle.plan.specs.Passed.{Passed, tableFacts, RowExactly}
 use Rattle.contents.proofs.Facts.{header-facts, header-holds, count-facts, count-holds, contents-facts, contents-holds}
 use Rattle.contents.proofs.Places.{bodies-within, entry-within, body-length}
 use Rattle.bodies.proofs.Facts.{routers-facts, routers-holds, sessions-facts, sessions-holds, distances-facts, distances-holds, lists-facts, lists-holds}
-use Rattle.plan.proofs.Table.{numbered, Decide, AllOf, Numbered, numbers, first-failing, all-held, none-given}
+use Rattle.base.specs.Tab.{tab}
+use Rattle.base.proofs.Tab.{getD-tab, length-tab}
+use Rattle.plan.proofs.Table.{firstFailing, among, distinct, Decide, AllOf, atMost, first-fails, all-held, none-given, given-most}
 
 -- the table of the plan's checks, each deciding its row's facts
 abbrev tableChecks : List ℕ → List Bool
@@ -33,8 +34,16 @@ tableChecks plan =
     ∷ listsOk (listsBody plan) n
     ∷ []
 
-refusal-is : (plan : List ℕ) → planRefusal plan ≡ numbered 0 (tableChecks plan)
-unfolding planRefusal planChecks bodyChecks numbered
+-- its rows are numbered from 1
+abbrev rows : List ℕ
+rows = tab suc 7
+
+rows-distinct : distinct rows ≡ true
+unfolding tab distinct among
+rows-distinct = refl
+
+refusal-is : (plan : List ℕ) → planRefusal plan ≡ firstFailing rows (tableChecks plan)
+unfolding planRefusal planChecks bodyChecks tab firstFailing
 refusal-is plan = refl
 
 decide : (plan : List ℕ) → Decide (tableChecks plan) (tableFacts plan)
@@ -65,7 +74,7 @@ decide plan = (
 pub passed : (plan : List ℕ) → planRefusal plan ≡ 0 → Passed plan
 unfolding AllOf
 passed plan h =
-    let f = all-held _ _ (decide plan) 0 (sym (refusal-is plan) ∙ h) in
+    let f = all-held _ _ _ rows-distinct (length-tab suc 7) (decide plan) (sym (refusal-is plan) ∙ h) in
     record {
       header = f .0;
       count = f .1 .0;
@@ -80,14 +89,15 @@ pub accepted : (plan : List ℕ) → Passed plan → planRefusal plan ≡ 0
 unfolding AllOf
 accepted plan f =
     refusal-is plan
-    ∙ none-given _ _ (decide plan) 0
+    ∙ none-given _ _ _ (decide plan)
     (f .header, (f .count, (f .contents, (f .routers, (f .sessions, (f .distances, (f .lists, tt)))))))
 
 -- each number is given exactly if its row is the first that fails, and no other number is
 pub row-exactly : (plan : List ℕ) (row : ℕ) → 1 ≤ row → row ≤ 7 → RowExactly plan row
 row-exactly plan row some most =
     let e = refusal-is plan in
-    let f = first-failing _ _ (decide plan) 0 (row - 1) row (omega arith) (omega arith) in
+    let number : getD rows (row - 1) 0 ≡ row = getD-tab suc 7 0 (row - 1) (omega arith) ∙ omega arith in
+    let f = rw number at (first-fails _ _ _ rows-distinct (decide plan) (row - 1) (omega (arith, length-tab suc 7)) (omega arith)) in
     record {
       before = λ h r l b. f .before (sym e ∙ h) (r - 1) (omega arith);
       fails = λ h. f .fails (sym e ∙ h);
@@ -95,11 +105,8 @@ row-exactly plan row some most =
     }
 
 pub refusal-most : (plan : List ℕ) → planRefusal plan ≤ 7
-refusal-most plan =
-    let e = refusal-is plan in
-    ⊎-elim (λ (z : numbered 0 (tableChecks plan) ≡ 0). omega arith)
-    (λ (r : Numbered 0 7 (numbered 0 (tableChecks plan))). omega arith)
-    (numbers (tableChecks plan) 0)
+unfolding tab atMost
+refusal-most plan = rw (refusal-is plan) (given-most 7 rows (tableChecks plan) refl)
 
 -- the bodies lie within the plan, by their place in the table of contents
 pub part-within : (plan : List ℕ) → Passed plan → (which : ℕ) → which < 4 → end (getD (contentsOf plan) which noEntry) ≤ length plan

@@ -1,18 +1,30 @@
--- A table of checks, numbered in order, each passing exactly if its facts hold: the number given is that of the first that fails.
-use Prim.Native.Nat.{ℕ, zero, suc, _+_, _≤_, _<_}
+-- A table of checks in order, each with its number and passing exactly if its facts hold: the number given is that of the first that fails.
+use Prim.Native.Nat.{ℕ, zero, suc, _≤_, _<_}
 use native.Mathlib.Omega.{arith}
-use mathlib.Core.Path.{_≡_, refl, sym}
-use mathlib.Core.Bool.{Bool, true, false}
+use mathlib.Core.Path.{_≡_, refl, _∙_, sym, ap}
+use mathlib.Core.Bool.{Bool, true, false, not, _&&_, _||_, or-true}
 use mathlib.Core.List.{List, [], _∷_}
 use mathlib.Core.Logic.{_⊎_, inl, inr, ⊎-elim, _↔_}
+use borrow.Author.Tests.{eq-eqb, leb-true, ltb-true}
+use lib.Dec.{leb, ltb, eqb}
 use lib.ListN.{length, getD}
-use Rattle.base.proofs.Numbers.{not-both}
+use Rattle.base.proofs.Numbers.{both-left, both-right, not-both}
 use Rattle.plan.specs.Refusal.{refuse}
 
--- the number given, the rows before the first being numbered up to `before`; 0 for none
-unfoldable pub numbered : ℕ → List Bool → ℕ
-numbered before [] = 0
-numbered before (ok ∷ checks) = refuse ok (suc before) (numbered (suc before) checks)
+-- the number of the first check that fails; 0 for none
+unfoldable pub firstFailing : List ℕ → List Bool → ℕ
+firstFailing [] checks = 0
+firstFailing (number ∷ numbers) [] = 0
+firstFailing (number ∷ numbers) (ok ∷ checks) = refuse ok number (firstFailing numbers checks)
+
+unfoldable pub among : ℕ → List ℕ → Bool
+among x [] = false
+among x (number ∷ numbers) = eqb x number || among x numbers
+
+-- no number is 0, and none stands there twice
+unfoldable pub distinct : List ℕ → Bool
+distinct [] = true
+distinct (number ∷ numbers) = ltb 0 number && (not (among number numbers) && distinct numbers)
 
 -- row by row, the check passes exactly if the facts hold
 unfoldable pub Decide : List Bool → List (Type 0) → Type 0
@@ -25,62 +37,85 @@ abbrev Held : List (Type 0) → ℕ → Type 0
 Held facts row = getD facts row (Unit {0})
 
 -- `number` is given exactly if the facts of row `at` fail and those of every row before it hold
-pub record FirstFailing (facts : List (Type 0)) (at result number : ℕ) : Type 0 where
+pub record FirstFails (facts : List (Type 0)) (at result number : ℕ) : Type 0 where
   pub before : result ≡ number → (j : ℕ) → j < at → Held facts j
   pub fails : result ≡ number → Held facts at → ⊥
   pub given : ((j : ℕ) → j < at → Held facts j) → (Held facts at → ⊥) → result ≡ number
 
--- the numbers given are those of the table
-pub record Numbered (before rows number : ℕ) : Type 0 where
-  pub least : before < number
-  pub most : number ≤ before + rows
+among-at : (numbers : List ℕ) (at : ℕ) → at < length numbers → among (getD numbers at 0) numbers ≡ true
+unfolding among
+among-at [] at l = absurd (omega arith)
+among-at (number ∷ numbers) zero l = ap (λ b. b || among number numbers) (eq-eqb number number refl)
+among-at (number ∷ numbers) (suc at) l =
+    ap (_||_ (eqb (getD numbers at 0) number)) (among-at numbers at (omega arith)) ∙ or-true (eqb (getD numbers at 0) number)
 
-pub numbers : (checks : List Bool) (before : ℕ) → (numbered before checks ≡ 0) ⊎ Numbered before (length checks) (numbered before checks)
-unfolding numbered refuse
-numbers [] before = inl refl
-numbers (true ∷ checks) before =
-    ⊎-elim inl (λ (r : Numbered (suc before) (length checks) (numbered (suc before) checks)). inr (omega arith)) (numbers checks (suc before))
-numbers (false ∷ checks) before = inr (omega arith)
+-- what is given stands in the table
+given-among : (numbers : List ℕ) (checks : List Bool) → (firstFailing numbers checks ≡ 0) ⊎ (among (firstFailing numbers checks) numbers ≡ true)
+unfolding firstFailing refuse among
+given-among [] checks = inl refl
+given-among (number ∷ numbers) [] = inl refl
+given-among (number ∷ numbers) (true ∷ checks) =
+    ⊎-elim inl
+    (λ (h : among (firstFailing numbers checks) numbers ≡ true).
+    inr (ap (_||_ (eqb (firstFailing numbers checks) number)) h ∙ or-true (eqb (firstFailing numbers checks) number)))
+    (given-among numbers checks)
+given-among (number ∷ numbers) (false ∷ checks) = inr (ap (λ b. b || among number numbers) (eq-eqb number number refl))
 
--- a later row's number is no earlier one's
-later : (checks : List Bool) (before number : ℕ) → 1 ≤ number → number ≤ before → numbered before checks ≡ number → ⊥
-later checks before number some l e =
-    ⊎-elim (λ (z : numbered before checks ≡ 0). omega arith)
-    (λ (r : Numbered before (length checks) (numbered before checks)). omega arith)
-    (numbers checks before)
+-- the first of distinct numbers is neither 0 nor among the others, and those are distinct
+module _ (number : ℕ) (numbers : List ℕ) (d : distinct (number ∷ numbers) ≡ true) where
+  some : 0 < number
+  unfolding distinct
+  some = ltb-true 0 number (both-left _ _ d)
+
+  rest-distinct : distinct numbers ≡ true
+  unfolding distinct
+  rest-distinct = both-right (not (among number numbers)) _ (both-right (ltb 0 number) _ d)
+
+  alone : among number numbers ≡ true → ⊥
+  unfolding distinct
+  alone h = not-both (not (among number numbers)) (both-left _ _ (both-right (ltb 0 number) _ d)) (ap not h)
+
+  not-later : (checks : List Bool) → firstFailing numbers checks ≡ number → ⊥
+  not-later checks e =
+      ⊎-elim (λ (z : firstFailing numbers checks ≡ 0). absurd (omega (arith, some)))
+      (λ (h : among (firstFailing numbers checks) numbers ≡ true). alone (ap (λ x. among x numbers) (sym e) ∙ h))
+      (given-among numbers checks)
 
 held-too : {fact : Type 0} (facts : List (Type 0)) {at : ℕ} → fact → ((j : ℕ) → j < at → Held facts j) → (j : ℕ) → j < suc at → Held (fact ∷ facts) j
 held-too facts held rest zero l = held
 held-too facts held rest (suc j) l = rest j (omega arith)
 
-pub first-failing : (checks : List Bool) (facts : List (Type 0)) → Decide checks facts → (before at number : ℕ) → number ≡ before + at + 1 → at < length checks → FirstFailing facts at (numbered before checks) number
-unfolding numbered Decide refuse
-first-failing [] facts d before at number n l = absurd (omega arith)
-first-failing (ok ∷ checks) [] d before at number n l = absurd d
-first-failing (true ∷ checks) (fact ∷ facts) d before zero number n l =
-    let other = later checks (suc before) number (omega arith) (omega arith) in
+pub first-fails : (numbers : List ℕ) (checks : List Bool) (facts : List (Type 0)) → distinct numbers ≡ true → Decide checks facts
+    → (at : ℕ) → at < length numbers → at < length checks → FirstFails facts at (firstFailing numbers checks) (getD numbers at 0)
+unfolding firstFailing Decide refuse
+first-fails [] checks facts n d at l m = absurd (omega arith)
+first-fails (number ∷ numbers) [] facts n d at l m = absurd (omega arith)
+first-fails (number ∷ numbers) (ok ∷ checks) [] n d at l m = absurd d
+first-fails (number ∷ numbers) (true ∷ checks) (fact ∷ facts) n d zero l m =
     record {
-      before = λ e. absurd (other e);
-      fails = λ e. absurd (other e);
+      before = λ e. absurd (not-later number numbers n checks e);
+      fails = λ e. absurd (not-later number numbers n checks e);
       given = λ held fails. absurd (fails (d .0 .0 refl));
     }
-first-failing (true ∷ checks) (fact ∷ facts) d before (suc at) number n l =
-    let rest = first-failing checks facts (d .1) (suc before) at number (omega arith) (omega arith) in
+first-fails (number ∷ numbers) (true ∷ checks) (fact ∷ facts) n d (suc at) l m =
+    let rest = first-fails numbers checks facts (rest-distinct number numbers n) (d .1) at (omega arith) (omega arith) in
     record {
       before = λ e. held-too facts (d .0 .0 refl) (rest .before e);
       fails = rest .fails;
       given = λ held fails. rest .given (λ j h. held (suc j) (omega arith)) fails;
     }
-first-failing (false ∷ checks) (fact ∷ facts) d before zero number n l =
+first-fails (number ∷ numbers) (false ∷ checks) (fact ∷ facts) n d zero l m =
     record {
       before = λ e j h. absurd (omega arith);
       fails = λ e held. not-both true refl (sym (d .0 .1 held));
-      given = λ held fails. omega arith;
+      given = λ held fails. refl;
     }
-first-failing (false ∷ checks) (fact ∷ facts) d before (suc at) number n l =
+first-fails (number ∷ numbers) (false ∷ checks) (fact ∷ facts) n d (suc at) l m =
+    let other : number ≡ getD numbers at 0 → ⊥ =
+    λ e. alone number numbers n (ap (λ x. among x numbers) e ∙ among-at numbers at (omega arith)) in
     record {
-      before = λ e. absurd (omega arith);
-      fails = λ e. absurd (omega arith);
+      before = λ e. absurd (other e);
+      fails = λ e. absurd (other e);
       given = λ held fails. not-both true refl (sym (d .0 .1 (held 0 (omega arith))));
     }
 
@@ -89,17 +124,33 @@ unfoldable pub AllOf : List (Type 0) → Type 0
 AllOf [] = Unit {0}
 AllOf (fact ∷ facts) = fact × AllOf facts
 
-pub all-held : (checks : List Bool) (facts : List (Type 0)) → Decide checks facts → (before : ℕ) → numbered before checks ≡ 0 → AllOf facts
-unfolding numbered Decide refuse AllOf
-all-held [] [] d before e = tt
-all-held [] (fact ∷ facts) d before e = absurd d
-all-held (ok ∷ checks) [] d before e = absurd d
-all-held (true ∷ checks) (fact ∷ facts) d before e = (d .0 .0 refl, all-held checks facts (d .1) (suc before) e)
-all-held (false ∷ checks) (fact ∷ facts) d before e = absurd (omega arith)
+pub all-held : (numbers : List ℕ) (checks : List Bool) (facts : List (Type 0)) → distinct numbers ≡ true → length numbers ≡ length checks
+    → Decide checks facts → firstFailing numbers checks ≡ 0 → AllOf facts
+unfolding firstFailing Decide refuse AllOf
+all-held numbers [] [] n l d e = tt
+all-held numbers [] (fact ∷ facts) n l d e = absurd d
+all-held numbers (ok ∷ checks) [] n l d e = absurd d
+all-held [] (ok ∷ checks) (fact ∷ facts) n l d e = absurd (omega arith)
+all-held (number ∷ numbers) (true ∷ checks) (fact ∷ facts) n l d e =
+    (d .0 .0 refl, all-held numbers checks facts (rest-distinct number numbers n) (omega arith) (d .1) e)
+all-held (number ∷ numbers) (false ∷ checks) (fact ∷ facts) n l d e = absurd (omega (arith, some number numbers n))
 
-pub none-given : (checks : List Bool) (facts : List (Type 0)) → Decide checks facts → (before : ℕ) → AllOf facts → numbered before checks ≡ 0
-unfolding numbered Decide refuse AllOf
-none-given [] facts d before h = refl
-none-given (ok ∷ checks) [] d before h = absurd d
-none-given (true ∷ checks) (fact ∷ facts) d before h = none-given checks facts (d .1) (suc before) (h .1)
-none-given (false ∷ checks) (fact ∷ facts) d before h = not-both true refl (sym (d .0 .1 (h .0)))
+pub none-given : (numbers : List ℕ) (checks : List Bool) (facts : List (Type 0)) → Decide checks facts → AllOf facts → firstFailing numbers checks ≡ 0
+unfolding firstFailing Decide refuse AllOf
+none-given [] checks facts d h = refl
+none-given (number ∷ numbers) [] facts d h = refl
+none-given (number ∷ numbers) (ok ∷ checks) [] d h = absurd d
+none-given (number ∷ numbers) (true ∷ checks) (fact ∷ facts) d h = none-given numbers checks facts (d .1) (h .1)
+none-given (number ∷ numbers) (false ∷ checks) (fact ∷ facts) d h = not-both true refl (sym (d .0 .1 (h .0)))
+
+-- every number is at most a bound
+unfoldable pub atMost : ℕ → List ℕ → Bool
+atMost bound [] = true
+atMost bound (number ∷ numbers) = leb number bound && atMost bound numbers
+
+pub given-most : (bound : ℕ) (numbers : List ℕ) (checks : List Bool) → atMost bound numbers ≡ true → firstFailing numbers checks ≤ bound
+unfolding firstFailing refuse atMost
+given-most bound [] checks h = omega arith
+given-most bound (number ∷ numbers) [] h = omega arith
+given-most bound (number ∷ numbers) (true ∷ checks) h = given-most bound numbers checks (both-right (leb number bound) _ h)
+given-most bound (number ∷ numbers) (false ∷ checks) h = leb-true number bound (both-left _ _ h)
