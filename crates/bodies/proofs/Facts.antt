@@ -1,12 +1,11 @@
 -- Each check of rows 4 to 7 passes exactly if its plain facts hold: `..-facts` one way, `..-holds` the other.
 use Prim.Native.Nat.{ℕ, _+_, _≤_, _<_}
-use native.Mathlib.Omega.{arith}
 use mathlib.Core.Path.{_≡_, refl}
-use mathlib.Core.Bool.{Bool, true, false, _&&_, _||_, not, or-true}
+use mathlib.Core.Bool.{true, _||_, not, or-true}
 use mathlib.Core.List.{List}
-use mathlib.Core.Logic.{_⊎_, inl, inr, ⊎-elim, _↔_}
-use borrow.Author.Tests.{lt-ltb, eq-eqb, ne-eqb, ltb-true, eqb-true}
-use lib.Dec.{ltb, eqb}
+use mathlib.Core.Logic.{⊎-elim, _↔_}
+use borrow.Author.Tests.{eq-eqb, ne-eqb, eqb-true}
+use lib.Dec.{eqb}
 use lib.ListN.{length}
 use Rattle.base.specs.Below.{allBelow}
 use Rattle.base.proofs.Below.{all-at, all-intro}
@@ -17,20 +16,7 @@ use Rattle.bodies.specs.Sessions.{sessionCount, sessionFirst, sessionSec
 use Rattle.bodies.specs.Distances.{distanceIn, distanceOk, distanceRowOk, distancesOk}
 use Rattle.bodies.specs.Lists.{listCountIn, listPlace, memberCount, member, memberBefore, memberOk, listAtOk, listOk, eachListOk, listsOk}
 use Rattle.bodies.specs.Passed.{Routers, Sessions, Distances, ListAt, Lists}
-use Rattle.bodies.proofs.Rising.{rising-pairs, rising-steps}
-
--- items in order by a number each
-module _ (f : ℕ → ℕ) where
-  numbers-rise :
-      (n : ℕ) → ((i : ℕ) → i < n → risesAt (λ i j. ltb (f i) (f j)) i ≡ true) → (i j : ℕ) → i < j → j < n → f i < f j
-  numbers-rise n steps i j l h =
-      ltb-true _ _
-      (rising-pairs (λ i j. ltb (f i) (f j))
-      (λ i j k p q. let p′ = ltb-true (f i) (f j) p in let q′ = ltb-true (f j) (f k) q in lt-ltb (f i) (f k) (omega arith)) n steps i j l h)
-
-  numbers-step :
-      (n : ℕ) → ((i j : ℕ) → i < j → j < n → f i < f j) → (i : ℕ) → i < n → risesAt (λ i j. ltb (f i) (f j)) i ≡ true
-  numbers-step n pairs = rising-steps (λ i j. ltb (f i) (f j)) n (λ i j l h. lt-ltb _ _ (pairs i j l h))
+use Rattle.bodies.proofs.Rising.{numbers-rise, numbers-step, pairs-rise, pairs-step}
 
 -- row 4
 module _ (s : List ℕ) where
@@ -59,33 +45,6 @@ module _ (s : List ℕ) where
 
 -- row 5
 module _ (s : List ℕ) where
-  Before : ℕ → ℕ → Type 0
-  Before i j =
-      (sessionFirst s i < sessionFirst s j)
-      ⊎ ((sessionFirst s i ≡ sessionFirst s j) × (sessionSecond s i < sessionSecond s j))
-
-  before-fact : (i j : ℕ) → sessionBefore s i j ≡ true → Before i j
-  unfolding Before
-  before-fact i j h = go (ltb (sessionFirst s i) (sessionFirst s j)) refl
-    where
-      go : (b : Bool) → ltb (sessionFirst s i) (sessionFirst s j) ≡ b → Before i j
-      go true e = inl (ltb-true _ _ e)
-      go false e =
-          let rest : (eqb (sessionFirst s i) (sessionFirst s j) && ltb (sessionSecond s i) (sessionSecond s j)) ≡ true = cc in
-          inr (simp facts at rest)
-
-  before-test : (i j : ℕ) → Before i j → sessionBefore s i j ≡ true
-  unfolding Before
-  before-test i j (inl l) = rw (lt-ltb _ _ l)
-  before-test i j (inr (e, l)) = rw (eq-eqb _ _ e, lt-ltb _ _ l) (or-true (ltb (sessionFirst s i) (sessionFirst s j)))
-
-  before-trans : (i j k : ℕ) → Before i j → Before j k → Before i k
-  unfolding Before
-  before-trans i j k (inl p) (inl q) = inl (omega arith)
-  before-trans i j k (inl p) (inr q) = inl (omega arith)
-  before-trans i j k (inr p) (inl q) = inl (omega arith)
-  before-trans i j k (inr p) (inr q) = inr (omega arith)
-
   abbrev SessionAt : ℕ → ℕ → Type 0
   SessionAt n j = ((sessionSecond s j < n) × (sessionFirst s j < sessionSecond s j)) × (risesAt (sessionBefore s) j ≡ true)
 
@@ -94,27 +53,23 @@ module _ (s : List ℕ) where
   session-iff n j = (λ h. simp facts at h, λ h. simp facts h)
 
   pub sessions-facts : (n : ℕ) → sessionsOk s n ≡ true → Sessions s n
-  unfolding sessionsOk Before
+  unfolding sessionsOk
   sessions-facts n h =
       let each : (j : ℕ) → j < sessionCount s → SessionAt n j = λ j l. session-iff n j .0 (all-at _ _ h j l) in
       record {
         below = λ j l. each j l .0 .0;
         ordered = λ j l. each j l .0 .1;
-        rising = λ i j l m.
-            before-fact i j
-            (rising-pairs (sessionBefore s)
-            (λ i j k p q. before-test i k (before-trans i j k (before-fact i j p) (before-fact j k q)))
-            (sessionCount s) (λ j l. each j l .1) i j l m);
+        rising = pairs-rise (sessionFirst s) (sessionSecond s) (sessionCount s) (λ j l. each j l .1);
       }
 
   pub sessions-holds : (n : ℕ) → Sessions s n → sessionsOk s n ≡ true
-  unfolding sessionsOk Before
+  unfolding sessionsOk
   sessions-holds n f =
       all-intro _ _
       (λ j l.
       session-iff n j .1 (
         (f .below j l, f .ordered j l),
-        rising-steps (sessionBefore s) (sessionCount s) (λ i j l m. before-test i j (f .rising i j l m)) j l,
+        pairs-step (sessionFirst s) (sessionSecond s) (sessionCount s) (f .rising) j l,
       ))
 
 -- row 6

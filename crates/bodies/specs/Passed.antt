@@ -3,8 +3,8 @@
 use Prim.Native.Nat.{ℕ, _+_, _≤_, _<_}
 use mathlib.Core.List.{List}
 use mathlib.Core.Path.{_≡_}
-use mathlib.Core.Logic.{_⊎_}
 use lib.ListN.{length}
+use Rattle.bodies.specs.Rising.{PairBefore}
 use Rattle.bodies.specs.Routers.{role, identifier}
 use Rattle.bodies.specs.Sessions.{sessionCount, sessionFirst, sessionSecond}
 use Rattle.bodies.specs.Distances.{distanceIn}
@@ -20,10 +20,7 @@ pub record Routers (s : List ℕ) (n : ℕ) : Type 0 where
 pub record Sessions (s : List ℕ) (n : ℕ) : Type 0 where
   pub below : (j : ℕ) → j < sessionCount s → sessionSecond s j < n
   pub ordered : (j : ℕ) → j < sessionCount s → sessionFirst s j < sessionSecond s j
-  pub rising :
-      (i j : ℕ) → i < j → j < sessionCount s →
-      (sessionFirst s i < sessionFirst s j)
-      ⊎ ((sessionFirst s i ≡ sessionFirst s j) × (sessionSecond s i < sessionSecond s j))
+  pub rising : (i j : ℕ) → i < j → j < sessionCount s → PairBefore (sessionFirst s) (sessionSecond s) i j
 
 -- row 6: every distance at most 65,534, and 0 on the diagonal
 pub record Distances (s : List ℕ) (n : ℕ) : Type 0 where

@@ -1,11 +1,11 @@
 -- Document 01, "Kind 2, sessions": pairs of router numbers, one byte each. `s` is the body of kind 2, `j` a pair's place, from 0.
 use Prim.Native.Nat.{ℕ, _+_, _*_, _/_}
 use mathlib.Core.List.{List}
-use mathlib.Core.Bool.{Bool, _&&_, _||_}
-use lib.Dec.{ltb, eqb}
+use mathlib.Core.Bool.{Bool, _&&_}
+use lib.Dec.{ltb}
 use lib.ListN.{length, getD}
 use Rattle.base.specs.Below.{allBelow}
-use Rattle.bodies.specs.Rising.{risesAt}
+use Rattle.bodies.specs.Rising.{risesAt, pairBefore}
 
 abbrev pub sessionCount : List ℕ → ℕ
 sessionCount s = length s / 2
@@ -18,9 +18,7 @@ sessionSecond s j = getD s (2 * j + 1) 0
 
 -- "pairs rising strictly": by the first number, and then by the second
 abbrev pub sessionBefore : List ℕ → ℕ → ℕ → Bool
-sessionBefore s i j =
-    ltb (sessionFirst s i) (sessionFirst s j)
-    || (eqb (sessionFirst s i) (sessionFirst s j) && ltb (sessionSecond s i) (sessionSecond s j))
+sessionBefore s = pairBefore (sessionFirst s) (sessionSecond s)
 
 -- "below n, the first below the second, pairs rising strictly"
 unfoldable pub sessionOk : List ℕ → ℕ → ℕ → Bool
