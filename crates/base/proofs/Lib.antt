@@ -3,6 +3,7 @@ pub mod Below
 pub mod Best
 pub mod Seek
 pub mod Tab
+pub mod Joined
 pub mod BitLaws
 pub mod SetBits
 pub mod BitWalk

@@ -1,7 +1,7 @@
 -- What stands beside a refusal number, and beside none.
 use Prim.Native.Nat.{ℕ, zero, suc}
 use mathlib.Core.Path.{_≡_, refl}
-use Rattle.checker.specs.Refused.{unlessRefused}
+use Rattle.plan.specs.Refused.{unlessRefused}
 
 pub when-refused : {A : Type 0} (number : ℕ) (refused value : A) → (number ≡ 0 → ⊥) → unlessRefused number refused value ≡ refused
 when-refused zero refused value h = absurd (h refl)

@@ -5,7 +5,7 @@ use mathlib.Core.Path.{_≡_}
 use Rattle.network.specs.FromPlan.{instanceOf}
 use Rattle.activation.specs.TableBytes.{activateBytes}
 use Rattle.refusals.specs.Refusals.{activateRefusal}
-use Rattle.checker.specs.Refused.{unlessRefused}
+use Rattle.plan.specs.Refused.{unlessRefused}
 
 -- every byte of the table after the call
 unfoldable pub activateTable : List ℕ → ℕ → ℕ → List ℕ → List ℕ

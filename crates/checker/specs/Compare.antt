@@ -9,7 +9,7 @@ use Rattle.network.specs.FromPlan.{instanceOf}
 use Rattle.refusals.specs.Refusals.{compareRefusal}
 use Rattle.checker.specs.declared.compare.CompareAnswer.{CompareAnswer}
 use Rattle.checker.specs.declared.compare.CompareAnswer.the-variants.{Refused, First, Second, Same}
-use Rattle.checker.specs.Refused.{unlessRefused, field}
+use Rattle.plan.specs.Refused.{unlessRefused, field}
 
 -- "the first is better, the second, or neither if they are the same": 1, 2, 0. A comparison reads only distances, which every list shares.
 unfoldable pub better : List ℕ → ℕ → ℕ → ℕ → ℕ

@@ -7,7 +7,7 @@ use denote.Ref.{RefT, now}
 use Rattle.base.specs.Bytes.{PartOf}
 use Rattle.plan.specs.EgressLists.{listStart, listSize, listNumbers, NumbersOf}
 use Rattle.refusals.specs.Refusals.{egressListRefusal}
-use Rattle.checker.specs.Refused.{field}
+use Rattle.plan.specs.Refused.{field}
 
 -- where in the plan the stretch starts and how many bytes it has: none, at the plan's start, if refused
 unfoldable pub egressListStart : List ℕ → ℕ → ℕ

@@ -1,4 +1,3 @@
-pub mod Refused
 pub mod EgressList
 pub mod Compare
 pub mod Relies

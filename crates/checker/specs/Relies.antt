@@ -8,7 +8,7 @@ use Rattle.network.specs.FromPlan.{instanceOf}
 use Rattle.refusals.specs.Refusals.{reliesRefusal}
 use Rattle.checker.specs.declared.relies.ReliesAnswer.{ReliesAnswer}
 use Rattle.checker.specs.declared.relies.ReliesAnswer.the-variants.{Refused, Yes, No}
-use Rattle.checker.specs.Refused.{unlessRefused, flagField}
+use Rattle.plan.specs.Refused.{unlessRefused, flagField}
 
 unfoldable pub relied : List ℕ → ℕ → ℕ → ℕ → ReliesAnswer
 relied plan k w v = cond (relies (instanceOf plan k) w v) Yes No

@@ -11,7 +11,7 @@ use Rattle.network.specs.FromPlan.{instanceOf}
 use Rattle.activation.specs.TableBytes.{runBytes}
 use Rattle.refusals.specs.Refusals.{runRefusal}
 use Rattle.checker.specs.declared.run.RunAnswer.{RunAnswer}
-use Rattle.checker.specs.Refused.{unlessRefused, field, flagField}
+use Rattle.plan.specs.Refused.{unlessRefused, field, flagField}
 
 -- "It returns the acts applied (the smaller of limit and sequence length), the whole rounds in them, and 'spent' exactly if the sequence is
 -- longer than the limit." Spent is called exhausted here.

@@ -7,7 +7,7 @@ use Rattle.contents.specs.Header.{routerCount}
 use Rattle.plan.specs.EgressLists.{listCount}
 use Rattle.plan.specs.Refusal.{planRefusal}
 use Rattle.checker.specs.declared.size.SizeAnswer.{SizeAnswer}
-use Rattle.checker.specs.Refused.{field}
+use Rattle.plan.specs.Refused.{field}
 
 unfoldable pub sizeRouters : List ℕ → ℕ
 sizeRouters plan = field (planRefusal plan) (routerCount plan)

@@ -14,7 +14,7 @@ use Rattle.checker.specs.declared.verdict.VerdictAnswer.the-variants.{Re
 use Rattle.assessment.specs.declared.Assessment.{Assessment}
 use Rattle.assessment.specs.declared.Assessment.the-variants as assessments
 use Rattle.assessment.specs.Assessed as assessed
-use Rattle.checker.specs.Refused.{unlessRefused, field, flagField}
+use Rattle.plan.specs.Refused.{unlessRefused, field, flagField}
 
 -- what the plan's network for list k is found to be
 abbrev pub reliance : List ℕ → ℕ → Relation

@@ -10,7 +10,7 @@ use Rattle.plan.specs.EgressLists.{listCount, listStart, listSize}
 use Rattle.plan.specs.Refusal.{planRefusal}
 use Rattle.routing.specs.Reliance.{relies}
 use Rattle.network.specs.FromPlan.{instanceOf}
-use Rattle.checker.specs.Refused.{unlessRefused}
+use Rattle.plan.specs.Refused.{unlessRefused}
 use Rattle.refusals.specs.Refusals.{egressListRefusal, compareRefusal, reliesRefusal, verdictRefusal, runRefusal}
 use Rattle.checker.specs.Compare.{better}
 use Rattle.checker.specs.Verdict.{isStable, sizeOf, labelsAfter, ranksAfter, tableAfter, cycleAfter}

@@ -27,7 +27,7 @@ use Rattle.settling.proofs.Settling.{settles}
 use Rattle.network.specs.FromPlan.{instanceOf}
 use Rattle.activation.specs.TableBytes.{tableOf, tableBytes, activateBytes, runBytes}
 use Rattle.activation.proofs.TableBytes.{table-length, table-front, table-bytes, run-bytes-length, run-bytes-rest, run-table}
-use Rattle.checker.specs.Refused.{unlessRefused}
+use Rattle.plan.specs.Refused.{unlessRefused}
 use Rattle.checker.specs.Verdict.{highestOf, settledBytes}
 use Rattle.guarantees.specs.VerdictMeaning.{rankIn}
 use Rattle.refusals.specs.Refusals.{tableChecks, activateRefusal, sequenceOk, runRefusal}

@@ -11,7 +11,7 @@ use Rattle.checker.specs.declared.compare.CompareAnswer.the-variants as compare
 use Rattle.checker.specs.declared.relies.ReliesAnswer.{ReliesAnswer}
 use Rattle.checker.specs.declared.relies.ReliesAnswer.the-variants as relying
 use Rattle.checker.specs.declared.verdict.VerdictAnswer.{VerdictAnswer}
-use Rattle.checker.specs.Refused.{unlessRefused, field}
+use Rattle.plan.specs.Refused.{unlessRefused, field}
 use Rattle.checker.specs.Size.{sizeRouters, sizeLists}
 use Rattle.checker.specs.EgressList.{egressListStart, egressListSize}
 use Rattle.checker.specs.Compare.{better, compared}

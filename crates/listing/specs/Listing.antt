@@ -5,7 +5,7 @@ use mathlib.Core.List.{List, [], _++_}
 use Rattle.contents.specs.Header.{routerCount}
 use Rattle.plan.specs.Refusal.{planRefusal}
 use Rattle.plan.specs.EgressLists.{listCount}
-use Rattle.checker.specs.Refused.{unlessRefused}
+use Rattle.plan.specs.Refused.{unlessRefused}
 use Rattle.checker.specs.Verdict.{isStable, highestOf, cycleOf}
 use Rattle.report.specs.Buffer.{lineRoom}
 use Rattle.report.specs.Text.{headLine, refusedLine, stableLine, suspectLine}

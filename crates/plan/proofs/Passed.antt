@@ -50,19 +50,19 @@ decide : (plan : List ℕ) → Decide (tableChecks plan) (tableFacts plan)
 unfolding Decide
 decide plan = (
   (header-facts _, header-holds _),
-  (
+  λ _. (
     (count-facts _, count-holds _),
-    (
+    λ _. (
       (contents-facts _ _ _, contents-holds _ _ _),
-      (
+      λ _. (
         (routers-facts _ _, routers-holds _ _),
-        (
+        λ _. (
           (sessions-facts _ _, sessions-holds _ _),
-          (
+          λ _. (
             (distances-facts _ _, distances-holds _ _),
-            (
+            λ _. (
               (lists-facts _ _, lists-holds _ _),
-              tt,
+              λ _. tt,
             ),
           ),
         ),

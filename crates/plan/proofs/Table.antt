@@ -1,4 +1,4 @@
--- A table of checks in order, each with its number and passing exactly if its facts hold: the number given is that of the first that fails.
+-- A table of checks in order, each with its number: the number given is that of the first that fails.
 use Prim.Native.Nat.{ℕ, zero, suc, _≤_, _<_}
 use native.Mathlib.Omega.{arith}
 use mathlib.Core.Path.{_≡_, refl, _∙_, sym, ap}
@@ -26,14 +26,14 @@ unfoldable pub distinct : List ℕ → Bool
 distinct [] = true
 distinct (number ∷ numbers) = ltb 0 number && (not (among number numbers) && distinct numbers)
 
--- row by row, the check passes exactly if the facts hold
+-- row by row, the check passes exactly if its facts hold, where those of the rows before it do
 unfoldable pub Decide : List Bool → List (Type 0) → Type 0
 Decide [] [] = Unit {0}
 Decide [] (fact ∷ facts) = ⊥
 Decide (ok ∷ checks) [] = ⊥
-Decide (ok ∷ checks) (fact ∷ facts) = ((ok ≡ true) ↔ fact) × Decide checks facts
+Decide (ok ∷ checks) (fact ∷ facts) = ((ok ≡ true) ↔ fact) × (fact → Decide checks facts)
 
-abbrev Held : List (Type 0) → ℕ → Type 0
+abbrev pub Held : List (Type 0) → ℕ → Type 0
 Held facts row = getD facts row (Unit {0})
 
 -- `number` is given exactly if the facts of row `at` fail and those of every row before it hold
@@ -81,7 +81,11 @@ module _ (number : ℕ) (numbers : List ℕ) (d : distinct (number ∷ numbers) 
       (λ (h : among (firstFailing numbers checks) numbers ≡ true). alone (ap (λ x. among x numbers) (sym e) ∙ h))
       (given-among numbers checks)
 
-held-too : {fact : Type 0} (facts : List (Type 0)) {at : ℕ} → fact → ((j : ℕ) → j < at → Held facts j) → (j : ℕ) → j < suc at → Held (fact ∷ facts) j
+-- the facts of the rows before one: none, and one row more
+pub held-none : (facts : List (Type 0)) (j : ℕ) → j < 0 → Held facts j
+held-none facts j l = absurd (omega arith)
+
+pub held-too : {fact : Type 0} (facts : List (Type 0)) {at : ℕ} → fact → ((j : ℕ) → j < at → Held facts j) → (j : ℕ) → j < suc at → Held (fact ∷ facts) j
 held-too facts held rest zero l = held
 held-too facts held rest (suc j) l = rest j (omega arith)
 
@@ -98,7 +102,7 @@ first-fails (number ∷ numbers) (true ∷ checks) (fact ∷ facts) n d zero l m
       given = λ held fails. absurd (fails (d .0 .0 refl));
     }
 first-fails (number ∷ numbers) (true ∷ checks) (fact ∷ facts) n d (suc at) l m =
-    let rest = first-fails numbers checks facts (rest-distinct number numbers n) (d .1) at (omega arith) (omega arith) in
+    let rest = first-fails numbers checks facts (rest-distinct number numbers n) (d .1 (d .0 .0 refl)) at (omega arith) (omega arith) in
     record {
       before = λ e. held-too facts (d .0 .0 refl) (rest .before e);
       fails = rest .fails;
@@ -132,7 +136,7 @@ all-held numbers [] (fact ∷ facts) n l d e = absurd d
 all-held numbers (ok ∷ checks) [] n l d e = absurd d
 all-held [] (ok ∷ checks) (fact ∷ facts) n l d e = absurd (omega arith)
 all-held (number ∷ numbers) (true ∷ checks) (fact ∷ facts) n l d e =
-    (d .0 .0 refl, all-held numbers checks facts (rest-distinct number numbers n) (omega arith) (d .1) e)
+    (d .0 .0 refl, all-held numbers checks facts (rest-distinct number numbers n) (omega arith) (d .1 (d .0 .0 refl)) e)
 all-held (number ∷ numbers) (false ∷ checks) (fact ∷ facts) n l d e = absurd (omega (arith, some number numbers n))
 
 pub none-given : (numbers : List ℕ) (checks : List Bool) (facts : List (Type 0)) → Decide checks facts → AllOf facts → firstFailing numbers checks ≡ 0
@@ -140,7 +144,7 @@ unfolding firstFailing Decide refuse AllOf
 none-given [] checks facts d h = refl
 none-given (number ∷ numbers) [] facts d h = refl
 none-given (number ∷ numbers) (ok ∷ checks) [] d h = absurd d
-none-given (number ∷ numbers) (true ∷ checks) (fact ∷ facts) d h = none-given numbers checks facts (d .1) (h .1)
+none-given (number ∷ numbers) (true ∷ checks) (fact ∷ facts) d h = none-given numbers checks facts (d .1 (h .0)) (h .1)
 none-given (number ∷ numbers) (false ∷ checks) (fact ∷ facts) d h = not-both true refl (sym (d .0 .1 (h .0)))
 
 -- every number is at most a bound

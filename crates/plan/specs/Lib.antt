@@ -1,3 +1,4 @@
 pub mod Refusal
+pub mod Refused
 pub mod Passed
 pub mod EgressLists

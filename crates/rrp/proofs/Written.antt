@@ -2,7 +2,7 @@
 use Prim.Native.Nat.{ℕ}
 use native.Mathlib.Omega.{arith}
 use mathlib.Core.Path.{_≡_, _∙_, sym, ap}
-use Rattle.checker.specs.Refused.{unlessRefused}
+use Rattle.plan.specs.Refused.{unlessRefused}
 use Rattle.checker.proofs.Refused.{when-given}
 
 -- nothing is refused: the variable holds the call's field

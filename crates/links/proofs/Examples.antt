@@ -1,0 +1,43 @@
+-- The examples, worked out from the rules.
+use mathlib.Core.Path.{refl}
+use Rattle.base.specs.Below.{allBelow}
+use Rattle.base.specs.Tab.{tab, joined}
+use Rattle.contents.specs.Header.{routerCountOk}
+use Rattle.plan.specs.Refusal.{refuse}
+use Rattle.links.specs.Sheet.{linkOk, sheetOk}
+use Rattle.links.specs.Sums.{direct, summing}
+use Rattle.links.specs.Distances.{sumsOk, distancesRefusal, rowOf, bodyOf, distancesBody, distancesAfter}
+use Rattle.links.specs.Examples.{bothWays, eight, seven, eighteen, LinksExamples}
+
+pub links-examples : LinksExamples
+unfolding
+    bothWays eight seven eighteen distancesRefusal rowOf bodyOf distancesBody distancesAfter sumsOk direct summing linkOk sheetOk
+    refuse routerCountOk allBelow tab joined
+links-examples =
+    record {
+      oneRouter = (refl, refl);
+      directed = (refl, refl);
+      highByte = (refl, refl);
+      twoLinks = (refl, refl);
+      throughTheLast = (refl, refl);
+      loop = (refl, refl);
+      loopBesides = (refl, refl);
+      noRouter = (refl, refl);
+      sixtyFive = (refl, refl);
+      fromAtN = (refl, refl);
+      toAtN = (refl, refl);
+      noWeight = (refl, refl);
+      equalLinks = (refl, refl);
+      toFalls = (refl, refl);
+      fromFalls = (refl, refl);
+      threeBytes = (refl, refl);
+      oneWay = (refl, refl);
+      cutOff = (refl, refl);
+      greatest = (refl, refl);
+      oneMore = (refl, refl);
+      sumAbove = (refl, refl);
+      elevenFirst = (refl, refl);
+      twelveFirst = (refl, refl);
+      short = (refl, refl);
+      longer = (refl, refl);
+    }

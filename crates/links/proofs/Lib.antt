@@ -1,0 +1,9 @@
+pub mod Examples
+pub mod LeastSums
+pub mod KindThree
+pub mod Words
+pub mod Facts
+pub mod InOrder
+pub mod Loops
+pub mod Returns
+pub mod Meaning

@@ -1,0 +1,245 @@
+-- Tables of words: what a lowered word, a lowered row and a lowered table hold.
+use Prim.Native.Nat.{ℕ, zero, suc, _+_, _*_, _≤_, _<_, min}
+use native.Mathlib.Numerals.{add-one}
+use native.Mathlib.Omega.{arith}
+use mathlib.Core.Path.{_≡_, refl, _∙_, sym, ap, ap₂}
+use mathlib.Core.Bool.{Bool, true, false, cond, _&&_}
+use mathlib.Core.List.{List, _++_}
+use mathlib.Core.Logic.{⊎-elim}
+use mathlib.Core.Option.{Option, none, some}
+use borrow.Author.Tests.{eq-eqb, ne-eqb, eqb-true, le-leb, lt-leb, leb-true}
+use lib.Dec.{leb, eqb}
+use lib.ListN.{length, getD, set, drop, replicate, length-set, length-replicate, getD-replicate}
+use lib.Seq.{getD-set-same, getD-set-other}
+use Rattle.base.specs.Tab.{tab}
+use Rattle.base.proofs.Tab.{getD-written}
+use Rattle.base.proofs.Below.{all-at, all-cong}
+use Rattle.base.proofs.Numbers.{both-left, both-right, not-both, eq-or-ne, lt-or-le}
+use Rattle.links.specs.Sheet.{linkCount, linkFrom, linkTo, linkWeight}
+use Rattle.links.specs.Sums.{Sums, lesser, plus, nowhere, staying, linked, direct, through, cell, summing}
+use Rattle.links.specs.Words.{word, capped, wordAt, Holds, HasWords, RowLowered, RowsLowered, rowFits, wordsFit}
+use Rattle.links.specs.Distances.{fits, sumsOk, bodyOf, distanceOf}
+use Rattle.links.specs.Passed.{Sheet}
+use Rattle.links.proofs.LeastSums.{stage-none, stage-more}
+use Rattle.links.proofs.KindThree.{body-cong}
+
+word-most : (x : Option ℕ) → word x ≤ 131071
+word-most none = omega arith
+word-most (some d) = omega arith
+
+pub has-words : (D : Sums) (n : ℕ) (t : List ℕ) → Holds D n t → HasWords n t
+has-words D n t h = record { long = h .long; most = λ i j l m. rw (h .are i j l m) (word-most (D i j)) }
+
+-- sums that are the same below n
+holds-same : (D E : Sums) (n : ℕ) (t : List ℕ) → ((i j : ℕ) → i < n → j < n → D i j ≡ E i j) → Holds D n t → Holds E n t
+holds-same D E n t e h = record { long = h .long; are = λ i j l m. h .are i j l m ∙ ap word (e i j l m) }
+
+-- one word lowered
+word-linked : (x : Option ℕ) (w : ℕ) → w ≤ 65535 → min (word x) w ≡ word (lesser x (some w))
+word-linked none w h = omega arith
+word-linked (some d) w h = omega arith
+
+lesser-none : (x : Option ℕ) → lesser x none ≡ x
+lesser-none none = refl
+lesser-none (some d) = refl
+
+other-pair : (f g i j : ℕ) → (f ≡ i → g ≡ j → ⊥) → (eqb f i && eqb g j) ≡ false
+other-pair f g i j p = go (eqb f i && eqb g j) refl
+  where
+    go : (b : Bool) → (eqb f i && eqb g j) ≡ b → (eqb f i && eqb g j) ≡ false
+    go true e = absurd (p (eqb-true f i (both-left _ _ e)) (eqb-true g j (both-right (eqb f i) _ e)))
+    go false e = e
+
+module _ (n : ℕ) (small : n ≤ 64) where
+  pub holds-linked :
+      (D : Sums) (t : List ℕ) (f g w : ℕ) → f < n → g < n → w ≤ 65535 → Holds D n t →
+      Holds (linked D f g w) n (set t (64 * f + g) (min (wordAt t f g) w))
+  holds-linked D t f g w a b u h = record {
+    long = simp length-set (h .long);
+    are = λ i j l m. ⊎-elim (here i j l m) (there i j l m) (eq-or-ne (64 * i + j) (64 * f + g));
+  }
+    where
+      lowered : ℕ
+      lowered = min (wordAt t f g) w
+
+      here : (i j : ℕ) → i < n → j < n → 64 * i + j ≡ 64 * f + g → wordAt (set t (64 * f + g) lowered) i j ≡ word (linked D f g w i j)
+      here i j l m e =
+          let p : f ≡ i = omega arith in
+          let q : g ≡ j = omega arith in
+          rw (eq-eqb f i p, eq-eqb g j q, e, getD-set-same t (64 * f + g) lowered 0 (omega (arith, h .long)), h .are f g a b, p, q)
+          (word-linked (D i j) w u)
+
+      there : (i j : ℕ) → i < n → j < n → (64 * i + j ≡ 64 * f + g → ⊥) → wordAt (set t (64 * f + g) lowered) i j ≡ word (linked D f g w i j)
+      there i j l m e =
+          rw (other-pair f g i j (λ p q. e (omega arith)), lesser-none (D i j))
+          (getD-set-other t (64 * f + g) (64 * i + j) lowered 0 e ∙ h .are i j l m)
+
+-- the walk of no link at routers below k, a router a turn
+unfoldable pub stays : ℕ → Sums
+stays zero = nowhere
+stays (suc k) = linked (stays k) k k 0
+
+zero-least : (x : Option ℕ) → lesser x (some 0) ≡ some 0
+zero-least none = refl
+zero-least (some d) = ap some (omega arith)
+
+least-zero : (x : Option ℕ) → lesser (some 0) x ≡ some 0
+least-zero none = refl
+least-zero (some d) = ap some (omega arith)
+
+stays-off : (k i j : ℕ) → (i ≡ j → ⊥) → stays k i j ≡ none
+unfolding stays
+stays-off zero i j p = refl
+stays-off (suc k) i j p = rw (other-pair k k i j (λ a b. p (sym a ∙ b)), stays-off k i j p)
+
+stays-on : (k i : ℕ) → i < k → stays k i i ≡ some 0
+unfolding stays
+stays-on zero i l = absurd (omega arith)
+stays-on (suc k) i l =
+    ⊎-elim (λ (e : k ≡ i). rw (eq-eqb k i e) (zero-least (stays k i i)))
+    (λ (e : k ≡ i → ⊥). rw (stays-on k i (omega arith)) (least-zero (cond (eqb k i && eqb k i) (some 0) none)))
+    (eq-or-ne k i)
+
+stays-all : (n i j : ℕ) → i < n → j < n → stays n i j ≡ staying i j
+stays-all n i j l m =
+    ⊎-elim (λ (e : i ≡ j). rw (eq-eqb i j e, e) (stays-on n j m)) (λ (e : i ≡ j → ⊥). rw (ne-eqb i j e) (stays-off n i j e)) (eq-or-ne i j)
+
+module _ (n : ℕ) (small : n ≤ 64) where
+  pub stay-more : (t after : List ℕ) (i : ℕ) → i < n → Holds (stays i) n t → after ≡ set t (64 * i + i) (min (wordAt t i i) 0) → Holds (stays (i + 1)) n after
+  unfolding stays
+  stay-more t after i l h e = rw (add-one, e) (holds-linked n small (stays i) t i i 0 l l (omega arith) h)
+
+  pub stay-done : (t : List ℕ) (i : ℕ) → i ≤ n → n ≤ i → Holds (stays i) n t → Holds staying n t
+  stay-done t i u l h = let e : i ≡ n = omega arith in holds-same (stays n) staying n t (stays-all n) (rw e at h)
+
+  module _ (s : List ℕ) where
+    pub direct-more :
+        Sheet s n → (t after : List ℕ) (k f g w : ℕ) → k < linkCount s → f ≡ linkFrom s k → g ≡ linkTo s k →
+        w ≡ linkWeight s k →
+        w < 65536 →
+        Holds (direct s k) n t →
+        after ≡ set t (64 * f + g) (min (wordAt t f g) w) →
+        Holds (direct s (k + 1)) n after
+    unfolding direct
+    direct-more sheet t after k f g w l a b c u h e =
+        rw (add-one, e, ← a, ← b, ← c)
+        (holds-linked n small (direct s k) t f g w (omega (arith, sheet .froms k l)) (omega (arith, sheet .tos k l)) (omega arith) h)
+
+-- one row lowered
+module _ (first : ℕ) (beyond t₀ : List ℕ) (i : ℕ) where
+  pub row-start : RowLowered first beyond t₀ i 0 t₀
+  row-start = record { long = refl; row = λ j l. absurd (omega arith); earlier = λ p l. refl; later = λ p l. refl }
+
+  pub row-more :
+      (t after : List ℕ) (j w : ℕ) → 64 * i + j < length t → RowLowered first beyond t₀ i j t →
+      w ≡ capped (first + getD beyond j 0) →
+      after ≡ set t (64 * i + j) (min (wordAt t i j) w) →
+      RowLowered first beyond t₀ i (j + 1) after
+  row-more t after j w room h q e = record {
+    long = ap length e ∙ simp length-set (h .long);
+    row = λ d l. ⊎-elim (here d) (λ (g : d ≡ j → ⊥). other (64 * i + d) (λ x. g (omega arith)) ∙ h .row d (omega arith)) (eq-or-ne d j);
+    earlier = λ p l. other p (λ g. omega arith) ∙ h .earlier p l;
+    later = λ p l. other p (λ g. omega arith) ∙ h .later p (omega arith);
+  }
+    where
+      other : (p : ℕ) → (p ≡ 64 * i + j → ⊥) → getD after p 0 ≡ getD t p 0
+      other p g = ap (λ x. getD x p 0) e ∙ getD-set-other t (64 * i + j) p _ 0 g
+
+      here : (d : ℕ) → d ≡ j → wordAt after i d ≡ min (wordAt t₀ i d) (capped (first + getD beyond d 0))
+      here d g =
+          rw (g, e, getD-set-same t (64 * i + j) (min (wordAt t i j) w) 0 room, h .later (64 * i + j) (omega arith), q)
+
+-- every row lowered to what goes through k
+module _ (n k : ℕ) (t₀ : List ℕ) where
+  pub rows-start : RowsLowered n k t₀ 0 t₀
+  rows-start = record { long = refl; rows = λ i j l. absurd (omega arith); others = λ i j l m. refl }
+
+  pub rows-more :
+      (beyond d t after : List ℕ) (i : ℕ) → n ≤ 64 → k < n → beyond ≡ tab (wordAt t₀ k) n ++ drop n d →
+      RowsLowered n k t₀ i t →
+      RowLowered (wordAt t i k) beyond t i n after →
+      RowsLowered n k t₀ (i + 1) after
+  rows-more beyond d t after i small u b h r = record {
+    long = r .long ∙ h .long;
+    rows = λ a j l m. ⊎-elim (here a j m) (there a j l m) (eq-or-ne a i);
+    others = λ a j l m. r .later (64 * a + j) (omega arith) ∙ h .others a j (omega arith) m;
+  }
+    where
+      here : (a j : ℕ) → j < n → a ≡ i → wordAt after a j ≡ min (wordAt t₀ a j) (capped (wordAt t₀ a k + wordAt t₀ k j))
+      here a j m e = rw (e, r .row j m, getD-written (wordAt t₀ k) n 0 d beyond b j m, h .others i j (omega arith) m, h .others i k (omega arith) u)
+
+      there : (a j : ℕ) → a < i + 1 → j < n → (a ≡ i → ⊥) → wordAt after a j ≡ min (wordAt t₀ a j) (capped (wordAt t₀ a k + wordAt t₀ k j))
+      there a j l m e = r .earlier (64 * a + j) (omega arith) ∙ h .rows a j (omega arith) m
+
+  -- what it is lowered to is made up of words
+  module _ (h : HasWords n t₀) (u : k < n) where
+    pub first-most : (t : List ℕ) (i : ℕ) → i < n → RowsLowered n k t₀ i t → wordAt t i k ≤ 131071
+    first-most t i l r = rw (r .others i k (omega arith) u) (h .most i k l u)
+
+    pub beyond-most : (beyond d : List ℕ) → beyond ≡ tab (wordAt t₀ k) n ++ drop n d → (j : ℕ) → j < n → getD beyond j 0 ≤ 131071
+    beyond-most beyond d b j l = rw (getD-written (wordAt t₀ k) n 0 d beyond b j l) (h .most k j u l)
+
+-- the word of the lesser of a sum and of two sums' sum
+capped-none : (x : ℕ) → 131071 ≤ x → capped x ≡ 131071
+capped-none x h = rw (le-leb 131071 x h)
+
+capped-sum : (x : ℕ) → x < 131071 → capped x ≡ min x 65535
+capped-sum x h = rw (lt-leb 131071 x h)
+
+word-plus : (x y : Option ℕ) → capped (word x + word y) ≡ word (plus x y)
+word-plus none y = capped-none (131071 + word y) (omega arith)
+word-plus (some a) none = capped-none (min a 65535 + 131071) (omega arith)
+word-plus (some a) (some b) = capped-sum (min a 65535 + min b 65535) (omega arith) ∙ omega arith
+
+word-lesser : (x y : Option ℕ) → min (word x) (word y) ≡ word (lesser x y)
+word-lesser none y = omega (arith, word-most y)
+word-lesser (some a) none = omega arith
+word-lesser (some a) (some b) = omega arith
+
+holds-through : (D : Sums) (n k : ℕ) (t after : List ℕ) → k < n → Holds D n t → RowsLowered n k t n after → Holds (through D k) n after
+holds-through D n k t after u h r = record {
+  long = r .long ∙ h .long;
+  are =
+      λ i j l m.
+      r .rows i j l m
+      ∙ ap₂ min (h .are i j l m) (ap₂ (λ x y. capped (x + y)) (h .are i k l u) (h .are k j u m) ∙ word-plus (D i k) (D k j))
+      ∙ word-lesser (D i j) (plus (D i k) (D k j));
+}
+
+-- the stages, one router more a turn
+module _ (s : List ℕ) (n : ℕ) where
+  pub sums-start : (t : List ℕ) → Holds (direct s (linkCount s)) n t → Holds (cell (summing s n 0)) n t
+  sums-start t = holds-same (direct s (linkCount s)) (cell (summing s n 0)) n t (λ i j l m. sym (stage-none s n i j l m))
+
+  pub sums-more : (t after : List ℕ) (k : ℕ) → k < n → Holds (cell (summing s n k)) n t → RowsLowered n k t n after → Holds (cell (summing s n (k + 1))) n after
+  sums-more t after k u h r =
+      rw add-one
+      (holds-same (through (cell (summing s n k)) k) (cell (summing s n (suc k))) n after (λ i j l m. sym (stage-more s n k i j l m))
+      (holds-through (cell (summing s n k)) n k t after u h r))
+
+-- the words of sums that are distances
+word-fits : (x : Option ℕ) → leb (word x) 65534 ≡ fits x
+word-fits none = refl
+word-fits (some d) =
+    ⊎-elim (λ (l : 65534 < d). lt-leb (min d 65535) 65534 (omega arith) ∙ sym (lt-leb d 65534 l))
+    (λ (l : d ≤ 65534). le-leb (min d 65535) 65534 (omega arith) ∙ sym (le-leb d 65534 l))
+    (lt-or-le 65534 d)
+
+word-distance : (x : Option ℕ) → fits x ≡ true → word x ≡ distanceOf x
+word-distance none h = not-both false h refl
+word-distance (some d) h = omega (arith, leb-true d 65534 h)
+
+module _ (D : Sums) (n : ℕ) (t : List ℕ) (h : Holds D n t) where
+  pub words-fit : wordsFit t n ≡ sumsOk D n
+  unfolding wordsFit rowFits sumsOk
+  words-fit = all-cong _ _ n (λ u l. all-cong _ _ n (λ e m. ap (λ x. leb x 65534) (h .are u e l m) ∙ word-fits (D u e)))
+
+  pub words-body : sumsOk D n ≡ true → bodyOf (wordAt t) n ≡ bodyOf (λ u e. distanceOf (D u e)) n
+  unfolding sumsOk
+  words-body ok = body-cong _ _ n (λ u e l m. h .are u e l m ∙ word-distance (D u e) (all-at _ n (all-at _ n ok u l) e m))
+
+pub no-walks : (n : ℕ) → n ≤ 64 → Holds nowhere n (replicate 4096 131071)
+no-walks n small = record {
+  long = length-replicate {A = ℕ} 4096 131071;
+  are = λ i j l m. getD-replicate 4096 (64 * i + j) 131071 0 (omega arith);
+}

@@ -1,0 +1,33 @@
+-- `links::sums::least_sums`: the words are those of the sums over walks through routers below `via`.
+use Prim.Native.Nat.{_-_, _≤_}
+use native.Mathlib.Omega.{arith}
+use mathlib.Core.Path.{_≡_}
+use borrow.Author.Needs.{needs}
+use Rattle.links.specs.Sums.{cell, summing}
+use Rattle.links.specs.Words.{Holds}
+use Rattle.links.proofs.Words.{has-words, sums-start, sums-more}
+use Rattle.links.proofs.sums.least_sums.Statement.{statement}
+use Rattle.links.proofs.sums.least_sums.Tie as tie
+
+abbrev Inv-loop : tie.InvT-loop
+Inv-loop links n words₀ via₀ words via = Holds (cell (summing links n via)) n words × (via ≤ n)
+
+abbrev μ-loop : tie.MeasureT-loop
+μ-loop links n words₀ via₀ words via = n - via
+
+pub least-sums-spec : {M : Type 1} → statement M
+least-sums-spec =
+    tie.close
+    (tie.spec
+    Inv-loop
+    μ-loop
+    (λ c κs. search needs)
+    (λ c κs. search needs)
+    (λ c. (sums-start _ _ _ (c .add-links .ensures), search needs))
+    (λ c κs. (search needs, search needs, has-words _ _ _ (c .before .before .loop .inv .0)))
+    (λ c. search needs)
+    (λ c. search needs)
+    (λ c.
+    let u = c .before .before .before in
+    (sums-more _ _ _ _ (u .loop .via) (search needs) (u .loop .inv .0) (c .pass-through .ensures), search needs))
+    (λ c. let e : c .before .loop .via ≡ c .before .before .before .before .before .before .before .args .n = omega arith in rw e at (c .before .loop .inv .0)))

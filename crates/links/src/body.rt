@@ -1,0 +1,63 @@
+// A kind 3 body from the table of words.
+
+ghost use mathlib.Core.Path.{_≡_};
+ghost use mathlib.Core.List.{_++_};
+ghost use Prim.Native.Nat.{_+_, _*_, _≤_, _<_};
+ghost use lib.ListN.{length, take, drop};
+ghost use Rattle.links.specs.Distances.{rowOf, bodyOf};
+ghost use Rattle.links.specs.Words.{wordAt, rowFits, wordsFit};
+
+fn row_fits(words: &[u32; 4096], n: usize, u: usize) -> bool
+    requires { ⌜ (n ≤ 64) × (u < 64) ⌝ }
+    ensures { λ r. ⌜ r ≡ rowFits (now (words .entry)) n u ⌝ }
+{
+    let mut e = 0;
+    while e < n {
+        if 65534 < words[64 * u + e] {
+            return false;
+        }
+        e += 1;
+    }
+    true
+}
+
+// Whether every word is at most 65,534.
+pub fn words_fit(words: &[u32; 4096], n: usize) -> bool
+    requires { ⌜ n ≤ 64 ⌝ }
+    ensures { λ r. ⌜ r ≡ wordsFit (now (words .entry)) n ⌝ }
+{
+    let mut u = 0;
+    while u < n {
+        if !row_fits(words, n, u) {
+            return false;
+        }
+        u += 1;
+    }
+    true
+}
+
+// Writes row u from `at` on, each word in two bytes, low byte first.
+fn write_row(words: &[u32; 4096], n: usize, u: usize, out: &mut [u8], at: usize)
+    requires { ⌜ (n ≤ 64) × (u < 64) × (at + 2 * n ≤ length (now out)) ⌝ }
+    ensures { λ _. ⌜ now (out .exit) ≡ take at (now (out .entry)) ++ rowOf (wordAt (now (words .entry)) u) n ++ drop (at + 2 * n) (now (out .entry)) ⌝ }
+{
+    let mut e = 0;
+    while e < n {
+        let word = words[64 * u + e];
+        out[at + 2 * e] = (word % 256) as u8;
+        out[at + 2 * e + 1] = (word / 256 % 256) as u8;
+        e += 1;
+    }
+}
+
+// Writes all rows, one after the other.
+pub fn write_body(words: &[u32; 4096], n: usize, out: &mut [u8])
+    requires { ⌜ (n ≤ 64) × (2 * (n * n) ≤ length (now out)) ⌝ }
+    ensures { λ _. ⌜ now (out .exit) ≡ bodyOf (wordAt (now (words .entry))) n ++ drop (2 * (n * n)) (now (out .entry)) ⌝ }
+{
+    let mut row = 0;
+    while row < n {
+        write_row(words, n, row, out, 2 * n * row);
+        row += 1;
+    }
+}
