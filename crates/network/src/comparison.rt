@@ -14,11 +14,11 @@ pub fn prefers(distances: &[u8], n: usize, w: usize, e: usize, f: usize) -> bool
 {
     let first = bodies::distances::distance(distances, n, w, e);
     let second = bodies::distances::distance(distances, n, w, f);
-    if first < second {
-        return true;
+    if second < first {
+        return false;
     }
     if first != second {
-        return false;
+        return true;
     }
     e < f
 }

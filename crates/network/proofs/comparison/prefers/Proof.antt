@@ -22,10 +22,10 @@ module _ (c : tie.After-distance2) (I : Instance) (q : Measured c I) where
   second-is = let a = c .before .before .before .args in ap (λ d. d (a .w) (a .f)) q ∙ sym (c .distance2 .ensures .0)
 
 returns : tie.Need-returns
-returns c I q = sym (prefers-nearer I _ _ _ (omega (arith, first-is (c .before) I q, second-is (c .before) I q)))
+returns c I q = sym (prefers-farther I _ _ _ (omega (arith, first-is (c .before) I q, second-is (c .before) I q)))
 
 returns-2 : tie.Need-returns-2
-returns-2 c I q = sym (prefers-farther I _ _ _ (omega (arith, first-is (c .before .before) I q, second-is (c .before .before) I q)))
+returns-2 c I q = sym (prefers-nearer I _ _ _ (omega (arith, first-is (c .before .before) I q, second-is (c .before .before) I q)))
 
 returns-3 : tie.Need-returns-3
 returns-3 c I q = sym (prefers-tie I _ _ _ (omega (arith, first-is (c .before .before) I q, second-is (c .before .before) I q)))
