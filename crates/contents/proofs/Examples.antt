@@ -2,13 +2,16 @@
 use mathlib.Core.Path.{refl}
 use Rattle.contents.specs.Header.{headerOk, routerCountOk}
 use Rattle.contents.specs.Contents.{kindsOk, placesOk, sizesOk, contentsOk}
-use Rattle.contents.specs.Examples.{firstBytes, fourEntries, ContentsExamples}
+use Rattle.contents.specs.Examples.{firstBytes, otherCount, otherLetter, oneByteShort, entriesOf, fourEntries, ContentsExamples}
 
 pub contents-examples : ContentsExamples
-unfolding firstBytes fourEntries headerOk routerCountOk kindsOk placesOk sizesOk contentsOk
+unfolding firstBytes otherCount otherLetter oneByteShort entriesOf fourEntries headerOk routerCountOk kindsOk placesOk sizesOk contentsOk
 contents-examples =
     record {
       header = refl;
+      anotherCount = refl;
+      anotherLetter = refl;
+      tooShort = refl;
       count = refl;
       sixtyFour = refl;
       sixtyFive = refl;
@@ -18,5 +21,10 @@ contents-examples =
       byLowBytes = refl;
       gap = refl;
       otherEnd = refl;
+      inOrder = refl;
+      kindsExchanged = refl;
+      oddSessions = refl;
+      routersShort = refl;
+      distancesLong = refl;
       part = refl;
     }

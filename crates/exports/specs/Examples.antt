@@ -62,6 +62,13 @@ pub record ExportExamples : Type 0 where
   -- for list 2,3 reflector 0 relies on its client 2, and 2, which is listed, on no one
   pub relies : (r : ℕ) (relied : Lent ℕ) → ReliesExport plan 0 0 2 r relied → (r ≡ 0) × (relied .after ≡ 1)
   pub reliesNot : (r : ℕ) (relied : Lent ℕ) → ReliesExport plan 0 2 0 r relied → (r ≡ 0) × (relied .after ≡ 0)
+  -- no bytes are no plan, there is no list 3 and no router 4: numbers 1 and 8, and each result variable is left as it was
+  pub refusedSize : (r : ℕ) (routers lists : Lent ℕ) → SizeExport [] r routers lists
+      → (r ≡ 1) × (routers .after ≡ routers .before) × (lists .after ≡ lists .before)
+  pub refusedList : (r : ℕ) (start count : Lent ℕ) → ListExport plan 3 r start count
+      → (r ≡ 8) × (start .after ≡ start .before) × (count .after ≡ count .before)
+  pub refusedCompare : (r : ℕ) (better : Lent ℕ) → CompareExport plan 0 2 4 r better → (r ≡ 8) × (better .after ≡ better .before)
+  pub refusedRelies : (r : ℕ) (relied : Lent ℕ) → ReliesExport plan 0 0 4 r relied → (r ≡ 8) × (relied .after ≡ relied .before)
   -- list 2,3: suspect, a cycle of two routers, 0 and 1
   pub suspect : (r : ℕ) (labels ranks table cycle : List ℕ) (stable size : Lent ℕ)
       → VerdictExport plan 0 r (from five labels) (from five ranks) (from nine table) (from five cycle) stable size

@@ -3,11 +3,11 @@ use native.Mathlib.Omega.{arith}
 use mathlib.Core.Path.{refl}
 use Rattle.guarantees.specs.SmallPlans.{smallPlan}
 use Rattle.guarantees.specs.Series.{seriesBuffer, seriesActs, ForThis}
-use Rattle.guarantees.specs.SeriesExamples.{plan, start, calls, SeriesExamples}
+use Rattle.guarantees.specs.SeriesExamples.{plan, start, calls, roundsOf, SeriesExamples}
 use Rattle.guarantees.proofs.Questions.{allRules}
 
 pub series-examples : SeriesExamples
-unfolding allRules smallPlan seriesBuffer seriesActs ForThis plan start calls
+unfolding allRules smallPlan seriesBuffer seriesActs ForThis plan start calls roundsOf
 series-examples =
     record {
       starts = record { planOk = refl; listOk = omega arith; stableList = refl; long = omega arith; table = refl };
@@ -18,4 +18,6 @@ series-examples =
       roundsOfAll = refl;
       roundsOfARun = refl;
       buffer = refl;
+      fourAreNotEnough = λ h. omega (arith, h);
+      fiveAreEnough = omega arith;
     }

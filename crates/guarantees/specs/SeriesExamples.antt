@@ -6,7 +6,7 @@ use mathlib.Core.List.{List, [], _∷_}
 use Rattle.routing.specs.Rounds.{rounds}
 use Rattle.checker.specs.Run.{runRounds}
 use Rattle.guarantees.specs.SmallPlans.{smallPlan}
-use Rattle.guarantees.specs.Series.{Call, activateCall, runCall, callRefusal, seriesBuffer, seriesActs, ForThis, Start}
+use Rattle.guarantees.specs.Series.{Call, activateCall, runCall, callRefusal, seriesBuffer, seriesActs, ForThis, Start, Enough}
 
 -- M3's plan: its list 1 names router 3 alone, and is stable
 unfoldable pub plan : List ℕ
@@ -26,6 +26,16 @@ calls =
     ∷ runCall plan 1 (0 ∷ 1 ∷ 2 ∷ 3 ∷ []) 9
     ∷ []
 
+-- a run of so many rounds, each of the acts 3 2 1 0
+unfoldable pub roundsOf : (acts : List ℕ) → List Call
+roundsOf acts = runCall plan 1 acts 99 ∷ []
+
+abbrev pub fourRounds : List Call
+fourRounds = roundsOf (3 ∷ 2 ∷ 1 ∷ 0 ∷ 3 ∷ 2 ∷ 1 ∷ 0 ∷ 3 ∷ 2 ∷ 1 ∷ 0 ∷ 3 ∷ 2 ∷ 1 ∷ 0 ∷ [])
+
+abbrev pub fiveRounds : List Call
+fiveRounds = roundsOf (3 ∷ 2 ∷ 1 ∷ 0 ∷ 3 ∷ 2 ∷ 1 ∷ 0 ∷ 3 ∷ 2 ∷ 1 ∷ 0 ∷ 3 ∷ 2 ∷ 1 ∷ 0 ∷ 3 ∷ 2 ∷ 1 ∷ 0 ∷ [])
+
 pub record SeriesExamples : Type 0 where
   -- "Fix a plan and one of its lists whose verdict is stable. .. It starts from a lent buffer whose first 2n bytes are any held-route
   -- table for that plan and list."
@@ -44,3 +54,6 @@ pub record SeriesExamples : Type 0 where
   pub roundsOfARun : runRounds 0 plan (1 ∷ 2 ∷ 3 ∷ 0 ∷ []) 3 ≡ 0
   -- "Each call is lent this buffer as the call before left it". Misread as the start for each: 255 255 3 3 255 255 3 3 9.
   pub buffer : seriesBuffer calls start ≡ 3 ∷ 1 ∷ 3 ∷ 3 ∷ 3 ∷ 0 ∷ 3 ∷ 3 ∷ 9 ∷ []
+  -- "at least the highest rank plus two": the highest rank is 3. Misread as plus one: four are enough. As plus three: five are not.
+  pub fourAreNotEnough : Enough plan 1 fourRounds start → ⊥
+  pub fiveAreEnough : Enough plan 1 fiveRounds start
