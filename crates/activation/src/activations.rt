@@ -1,4 +1,4 @@
-// An activation on the caller's table: one pass over the routers, of which the neighbours are heard.
+// An activation on the caller's table: one pass over the neighbours of the router that may advertise a route.
 
 use crate::table::RouteBytes;
 use network::NO_ROUTER;
