@@ -1,5 +1,5 @@
--- Examples that tell the rules of a link sheet from a misreading of them, in literal bytes: n, the links' bytes, the buffer lent, the number
--- returned, and every byte that the buffer then has. Beside each stands what a misreading gives.
+-- Examples that tell the rules of a link sheet from a misreading of them, in literal bytes: n, the links' bytes, the buffer lent,
+-- the number returned, and every byte that the buffer then has. Beside each stands what a misreading gives.
 use Prim.Native.Nat.{ℕ}
 use mathlib.Core.Path.{_≡_}
 use mathlib.Core.List.{List, [], _∷_}
@@ -36,7 +36,8 @@ pub record LinksExamples : Type 0 where
       Gives 3 (0 ∷ 1 ∷ 9 ∷ 0 ∷ 0 ∷ 2 ∷ 1 ∷ 0 ∷ 1 ∷ 0 ∷ 1 ∷ 0 ∷ 2 ∷ 1 ∷ 2 ∷ 0 ∷ []) eighteen 0
       (0 ∷ 0 ∷ 3 ∷ 0 ∷ 1 ∷ 0 ∷ 1 ∷ 0 ∷ 0 ∷ 0 ∷ 2 ∷ 0 ∷ 3 ∷ 0 ∷ 2 ∷ 0 ∷ 0 ∷ 0 ∷ [])  -- through routers below n - 1: 9 for 3
   pub loop : Gives 1 (0 ∷ 0 ∷ 5 ∷ 0 ∷ []) (91 ∷ 92 ∷ []) 0 (0 ∷ 0 ∷ [])  -- the loop's weight: 5 0
-  pub loopBesides : Gives 2 (0 ∷ 0 ∷ 5 ∷ 0 ∷ 0 ∷ 1 ∷ 7 ∷ 0 ∷ 1 ∷ 0 ∷ 9 ∷ 0 ∷ []) eight 0 (0 ∷ 0 ∷ 7 ∷ 0 ∷ 9 ∷ 0 ∷ 0 ∷ 0 ∷ [])  -- a loop forbidden: 11
+  -- a loop forbidden: 11
+  pub loopBesides : Gives 2 (0 ∷ 0 ∷ 5 ∷ 0 ∷ 0 ∷ 1 ∷ 7 ∷ 0 ∷ 1 ∷ 0 ∷ 9 ∷ 0 ∷ []) eight 0 (0 ∷ 0 ∷ 7 ∷ 0 ∷ 9 ∷ 0 ∷ 0 ∷ 0 ∷ [])
   -- "An n outside 1 to 64 gives refusal 2."
   pub noRouter : Gives 0 [] eight 2 eight  -- from 0: 0
   pub sixtyFive : Gives 65 (0 ∷ 1 ∷ 7 ∷ []) eight 2 eight  -- to 65, or 2 after 11: 11

@@ -44,8 +44,8 @@ pub record SomeFar (s : List ℕ) (n : ℕ) : Type 0 where
   pub toBelow : to < n
   pub far : (Walk s from to → ⊥) ⊎ Above s from to
 
--- "the first check in order that fails now decides, not the lowest number": each number is given exactly if its check fails and those before
--- it pass, in the order 2, 11, 12, 9
+-- "the first check in order that fails now decides, not the lowest number": each number is given exactly if its check fails and those
+-- before it pass, in the order 2, 11, 12, 9
 pub record FirstDecides (n : ℕ) (s : List ℕ) (room number : ℕ) : Type 0 where
   pub two : (number ≡ 2) ↔ (RouterCount n → ⊥)
   pub eleven : (number ≡ 11) ↔ (RouterCount n × (Sheet s n → ⊥))
@@ -60,8 +60,8 @@ pub record LeastBody (s : List ℕ) (n : ℕ) (body : List ℕ) : Type 0 where
   pub diagonal : (u : ℕ) → u < n → distanceIn body n u u ≡ 0
   pub passes : distancesOk body n ≡ true
 
--- a call that returns r and leaves `after` of the buffer `out`: the first check that fails decides; a refused call changes no byte; one that is
--- not refused has written such a body, and "later ones are untouched"
+-- a call that returns r and leaves `after` of the buffer `out`: the first check that fails decides; a refused call changes no byte; one
+-- that is not refused has written such a body, and "later ones are untouched"
 pub record CallMeans (n : ℕ) (s : List ℕ) (r : ℕ) (out after : List ℕ) : Type 0 where
   pub decided : FirstDecides n s (length out) r
   pub unchanged : (r ≡ 0 → ⊥) → after ≡ out

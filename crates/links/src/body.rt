@@ -39,7 +39,8 @@ pub fn words_fit(words: &[u32; 4096], n: usize) -> bool
 // Writes row u from `at` on, each word in two bytes, low byte first.
 fn write_row(words: &[u32; 4096], n: usize, u: usize, out: &mut [u8], at: usize)
     requires { ⌜ (n ≤ 64) × (u < 64) × (at + 2 * n ≤ length (now out)) ⌝ }
-    ensures { λ _. ⌜ now (out .exit) ≡ take at (now (out .entry)) ++ rowOf (wordAt (now (words .entry)) u) n ++ drop (at + 2 * n) (now (out .entry)) ⌝ }
+    ensures { λ _. ⌜ now (out .exit) ≡ take at (now (out .entry)) ++ rowOf (wordAt (now (words .entry)) u) n
+        ++ drop (at + 2 * n) (now (out .entry)) ⌝ }
 {
     let mut e = 0;
     while e < n {
