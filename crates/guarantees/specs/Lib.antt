@@ -4,3 +4,4 @@ pub mod Questions
 pub mod SmallPlans
 pub mod TellingExamples
 pub mod SeriesExamples
+pub mod RefusedCalls

@@ -1,0 +1,28 @@
+-- Document 01, "Refusal table": "beside a refusal number every other returned field is zero or no", and lent buffers are unchanged. What the
+-- contracts of the calls that return more than an enum say of a refused call.
+use Prim.Native.Nat.{ℕ}
+use mathlib.Core.Path.{_≡_}
+use mathlib.Core.Bool.{false}
+use mathlib.Core.List.{List, []}
+use denote.Ref.{RefT, ptr, now}
+use Rattle.base.specs.Bytes.{bytesOn}
+use Rattle.plan.specs.Refusal.{planRefusal}
+use Rattle.refusals.specs.Refusals.{egressListRefusal, activateRefusal, runRefusal}
+use Rattle.checker.specs.declared.size.SizeAnswer.{SizeAnswer}
+use Rattle.checker.specs.declared.run.RunAnswer.{RunAnswer}
+use Rattle.checker.specs.EgressList.{StretchOf}
+use Rattle.checker.specs.Size.{Sizes}
+use Rattle.checker.specs.Activate.{Activates}
+use Rattle.checker.specs.Run.{Runs}
+
+pub record RefusedCalls : Type 0 where
+  -- "If refused, the stretch is empty": at the plan's own start
+  pub list : (plan : RefT (List ℕ)) (k : ℕ) (part : RefT (List ℕ)) → StretchOf plan k part → (egressListRefusal (now plan) k ≡ 0 → ⊥)
+      → (now part ≡ []) × (ptr part ≡ bytesOn (ptr plan) 0)
+  pub size : (plan : List ℕ) (r : SizeAnswer) → Sizes plan r → (planRefusal plan ≡ 0 → ⊥)
+      → (r .refused ≡ planRefusal plan) × (r .routers ≡ 0) × (r .lists ≡ 0)
+  pub activate : (plan : List ℕ) (k w : ℕ) (table : List ℕ) (r : ℕ) (after : List ℕ) → Activates plan k w table r after
+      → (activateRefusal plan k w table ≡ 0 → ⊥) → (r ≡ activateRefusal plan k w table) × (after ≡ table)
+  pub run : (plan : List ℕ) (k : ℕ) (acts : List ℕ) (limit : ℕ) (table : List ℕ) (r : RunAnswer) (after : List ℕ)
+      → Runs plan k acts limit table r after → (runRefusal plan k acts table ≡ 0 → ⊥)
+      → (r .refused ≡ runRefusal plan k acts table) × (r .applied ≡ 0) × (r .rounds ≡ 0) × (r .exhausted ≡ false) × (after ≡ table)
