@@ -13,7 +13,7 @@ use Rattle.refusals.specs.Refusals.{verdictRefusal}
 use Rattle.checker.specs.declared.verdict.VerdictAnswer.the-variants as answers
 use Rattle.checker.specs.Verdict.{isStable, labelsOf, ranksOf, highestOf, settledBytes, cycleOf, verdictOf, verdictAnswer}
 use Rattle.checker.specs.Verdict.{labelsAfter, ranksAfter, tableAfter, cycleAfter, verdictNumber, verdictIsStable, verdictSize, sizeOf, answerOf, VerdictCall}
-use Rattle.checker.proofs.Refused.{when-refused, when-given}
+use Rattle.plan.proofs.Refused.{when-refused, when-given}
 
 not-refused : (a : Assessment) → verdictNumber (answerOf a) ≡ 0
 not-refused (Stable highest) = refl

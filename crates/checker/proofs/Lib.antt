@@ -1,9 +1,1 @@
-pub mod Examples
-pub mod Refused
-pub mod ListStretch
-pub mod Preferring
-pub mod Relying
-pub mod OneActivation
-pub mod Sequences
-pub mod Sizing
 pub mod Judging

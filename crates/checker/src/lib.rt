@@ -1,19 +1,12 @@
-// The public calls. None has a `requires`: any bytes and numbers get a result or a refusal number.
+// The public calls, those of crates queries and runs among them. None has a `requires`: any bytes and numbers get a result or a
+// refusal number.
 
-pub mod activate;
-pub mod compare;
-pub mod lists;
-pub mod relies;
-pub mod run;
-pub mod size;
 pub mod verdict;
 
-ghost use mathlib.Core.Path.{_≡_};
-ghost use Rattle.plan.specs.Refusal.{planRefusal};
-
-// The number that a plan is refused with, 1 to 7; 0 for none.
-pub fn check(plan: &[u8]) -> u8
-    ensures { λ r. ⌜ r ≡ planRefusal (now (plan .entry)) ⌝ }
-{
-    plan::refusal::refusal(plan)
-}
+pub use queries::check;
+pub use queries::compare;
+pub use queries::lists;
+pub use queries::relies;
+pub use queries::size;
+pub use runs::activate;
+pub use runs::run;

@@ -23,11 +23,11 @@ use Rattle.settling.specs.Settled.{chooseAll, chosenAfter, settledTable}
 use Rattle.activation.specs.TableBytes.{readRoute, tableOf, tableBytes, activateBytes, runBytes}
 use Rattle.refusals.specs.Refusals.{egressListRefusal, compareRefusal, reliesRefusal, buffersOk, verdictRefusal}
 use Rattle.refusals.specs.Refusals.{tableChecks, sequenceOk, activateRefusal, runRefusal}
-use Rattle.checker.specs.Compare.{better}
-use Rattle.checker.specs.Activate.{activateTable}
+use Rattle.queries.specs.Compare.{better}
+use Rattle.runs.specs.Activate.{activateTable}
 use Rattle.checker.specs.Verdict.{isStable, labelsOf, ranksOf, highestOf, settledBytes, cycleOf, sizeOf}
 use Rattle.checker.specs.Verdict.{labelsAfter, ranksAfter, tableAfter, cycleAfter}
-use Rattle.checker.specs.Run.{runApplied, runRounds, runExhausted, runTable}
+use Rattle.runs.specs.Run.{runApplied, runRounds, runExhausted, runTable}
 use Rattle.exports.specs.Examples.{plan, ExportExamples}
 
 pub export-examples : ExportExamples

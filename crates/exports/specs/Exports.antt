@@ -12,9 +12,9 @@ use Rattle.routing.specs.Reliance.{relies}
 use Rattle.network.specs.FromPlan.{instanceOf}
 use Rattle.plan.specs.Refused.{unlessRefused}
 use Rattle.refusals.specs.Refusals.{egressListRefusal, compareRefusal, reliesRefusal, verdictRefusal, runRefusal}
-use Rattle.checker.specs.Compare.{better}
+use Rattle.queries.specs.Compare.{better}
 use Rattle.checker.specs.Verdict.{isStable, sizeOf, labelsAfter, ranksAfter, tableAfter, cycleAfter}
-use Rattle.checker.specs.Run.{runApplied, runRounds, runExhausted, runTable}
+use Rattle.runs.specs.Run.{runApplied, runRounds, runExhausted, runTable}
 
 -- a result variable of a call whose refusal is `number`: "unchanged" if refused, else the value
 abbrev pub Holds : (number : ℕ) (variable : Lent ℕ) (value : ℕ) → Type 0

@@ -24,13 +24,13 @@ use Rattle.cycles.specs.Cycle.{start, next, walk, second, first, lap, cycleIn, 
 use Rattle.settling.specs.Settled.{chooseAll, chosenAfter, settledTable}
 use Rattle.activation.specs.TableBytes.{readRoute, tableOf, tableBytes, activateBytes, runBytes}
 use Rattle.refusals.specs.Refusals.{sequenceOk, egressListRefusal, compareRefusal, reliesRefusal, buffersOk, verdictRefusal, tableChecks, activateRefusal, runRefusal}
-use Rattle.checker.specs.Size.{sizeRouters, sizeLists}
-use Rattle.checker.specs.EgressList.{egressListStart, egressListSize}
-use Rattle.checker.specs.Compare.{better, compared}
-use Rattle.checker.specs.Relies.{relied}
+use Rattle.queries.specs.Size.{sizeRouters, sizeLists}
+use Rattle.queries.specs.EgressList.{egressListStart, egressListSize}
+use Rattle.queries.specs.Compare.{better, compared}
+use Rattle.queries.specs.Relies.{relied}
 use Rattle.checker.specs.Verdict.{isStable, labelsOf, ranksOf, highestOf, settledBytes, cycleOf, verdictOf, verdictAnswer, labelsAfter, ranksAfter, tableAfter, cycleAfter}
-use Rattle.checker.specs.Activate.{activateTable}
-use Rattle.checker.specs.Run.{runApplied, runRounds, runExhausted, runTable}
+use Rattle.runs.specs.Activate.{activateTable}
+use Rattle.runs.specs.Run.{runApplied, runRounds, runExhausted, runTable}
 use Rattle.guarantees.specs.Questions.{Question, Answer, answerTo}
 
 -- to unfold this is to unfold them all

@@ -3,11 +3,11 @@ use mathlib.Core.Path.{_∙_, ap}
 use lib.ListN.{take, drop}
 use denote.Ref.{ptr, now}
 use Rattle.base.specs.Bytes.{bytesOn}
-use Rattle.checker.specs.EgressList.{egressListStart, egressListSize}
-use Rattle.checker.specs.Size.{sizeRouters, sizeLists}
-use Rattle.checker.specs.Activate.{activateTable}
-use Rattle.checker.specs.Run.{runApplied, runRounds, runExhausted, runTable}
-use Rattle.checker.proofs.Refused.{when-refused}
+use Rattle.queries.specs.EgressList.{egressListStart, egressListSize}
+use Rattle.queries.specs.Size.{sizeRouters, sizeLists}
+use Rattle.runs.specs.Activate.{activateTable}
+use Rattle.runs.specs.Run.{runApplied, runRounds, runExhausted, runTable}
+use Rattle.plan.proofs.Refused.{when-refused}
 use Rattle.guarantees.specs.RefusedCalls.{RefusedCalls}
 
 pub refused-calls : RefusedCalls

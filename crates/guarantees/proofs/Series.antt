@@ -31,10 +31,10 @@ use Rattle.plan.specs.Refused.{unlessRefused}
 use Rattle.checker.specs.Verdict.{highestOf, settledBytes}
 use Rattle.guarantees.specs.VerdictMeaning.{rankIn}
 use Rattle.refusals.specs.Refusals.{tableChecks, activateRefusal, sequenceOk, runRefusal}
-use Rattle.checker.specs.Activate.{activateTable}
-use Rattle.checker.specs.Run.{runTable}
+use Rattle.runs.specs.Activate.{activateTable}
+use Rattle.runs.specs.Run.{runTable}
 use Rattle.guarantees.specs.Series.{Call, activateCall, runCall, callPlan, callList, callRefusal, bufferAfter, callActs, seriesBuffer, seriesActs, ForThis, Enough, EverySeriesSettles, EverySeriesGoesOn}
-use Rattle.checker.proofs.Refused.{when-refused, when-given}
+use Rattle.plan.proofs.Refused.{when-refused, when-given}
 use Rattle.guarantees.proofs.VerdictMeaning.{ranked, settled-alone}
 
 -- acts of routers below n: one act, a part of a sequence, two sequences one after the other

@@ -6,19 +6,19 @@ use mathlib.Core.List.{List, map}
 use lib.ListN.{take, drop}
 use Rattle.plan.specs.Refusal.{planRefusal}
 use Rattle.refusals.specs.Refusals.{egressListRefusal, compareRefusal, reliesRefusal, verdictRefusal, activateRefusal, runRefusal}
-use Rattle.checker.specs.declared.compare.CompareAnswer.{CompareAnswer}
-use Rattle.checker.specs.declared.compare.CompareAnswer.the-variants as compares
-use Rattle.checker.specs.declared.relies.ReliesAnswer.{ReliesAnswer}
-use Rattle.checker.specs.declared.relies.ReliesAnswer.the-variants as relying
+use Rattle.queries.specs.declared.compare.CompareAnswer.{CompareAnswer}
+use Rattle.queries.specs.declared.compare.CompareAnswer.the-variants as compares
+use Rattle.queries.specs.declared.relies.ReliesAnswer.{ReliesAnswer}
+use Rattle.queries.specs.declared.relies.ReliesAnswer.the-variants as relying
 use Rattle.checker.specs.declared.verdict.VerdictAnswer.{VerdictAnswer}
 use Rattle.plan.specs.Refused.{unlessRefused, field}
-use Rattle.checker.specs.Size.{sizeRouters, sizeLists}
-use Rattle.checker.specs.EgressList.{egressListStart, egressListSize}
-use Rattle.checker.specs.Compare.{better, compared}
-use Rattle.checker.specs.Relies.{relied}
+use Rattle.queries.specs.Size.{sizeRouters, sizeLists}
+use Rattle.queries.specs.EgressList.{egressListStart, egressListSize}
+use Rattle.queries.specs.Compare.{better, compared}
+use Rattle.queries.specs.Relies.{relied}
 use Rattle.checker.specs.Verdict.{verdictAnswer, labelsAfter, ranksAfter, tableAfter, cycleAfter}
-use Rattle.checker.specs.Activate.{activateTable}
-use Rattle.checker.specs.Run.{runApplied, runRounds, runExhausted, runTable}
+use Rattle.runs.specs.Activate.{activateTable}
+use Rattle.runs.specs.Run.{runApplied, runRounds, runExhausted, runTable}
 
 -- what a caller asks of a plan, with every byte of the buffers that the call is lent
 pub data Question : Type 0 where

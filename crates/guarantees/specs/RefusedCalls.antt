@@ -8,12 +8,12 @@ use denote.Ref.{RefT, ptr, now}
 use Rattle.base.specs.Bytes.{bytesOn}
 use Rattle.plan.specs.Refusal.{planRefusal}
 use Rattle.refusals.specs.Refusals.{egressListRefusal, activateRefusal, runRefusal}
-use Rattle.checker.specs.declared.size.SizeAnswer.{SizeAnswer}
-use Rattle.checker.specs.declared.run.RunAnswer.{RunAnswer}
-use Rattle.checker.specs.EgressList.{StretchOf}
-use Rattle.checker.specs.Size.{Sizes}
-use Rattle.checker.specs.Activate.{Activates}
-use Rattle.checker.specs.Run.{Runs}
+use Rattle.queries.specs.declared.size.SizeAnswer.{SizeAnswer}
+use Rattle.runs.specs.declared.run.RunAnswer.{RunAnswer}
+use Rattle.queries.specs.EgressList.{StretchOf}
+use Rattle.queries.specs.Size.{Sizes}
+use Rattle.runs.specs.Activate.{Activates}
+use Rattle.runs.specs.Run.{Runs}
 
 pub record RefusedCalls : Type 0 where
   -- "If refused, the stretch is empty": at the plan's own start

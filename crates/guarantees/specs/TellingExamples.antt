@@ -4,8 +4,8 @@ use Prim.Native.Nat.{ℕ}
 use mathlib.Core.Bool.{true, false}
 use mathlib.Core.List.{List, [], _∷_, _++_}
 use lib.ListN.{replicate}
-use Rattle.checker.specs.declared.compare.CompareAnswer.the-variants.{First, Second, Same}
-use Rattle.checker.specs.declared.relies.ReliesAnswer.the-variants.{Yes, No}
+use Rattle.queries.specs.declared.compare.CompareAnswer.the-variants.{First, Second, Same}
+use Rattle.queries.specs.declared.relies.ReliesAnswer.the-variants.{Yes, No}
 use Rattle.checker.specs.declared.verdict.VerdictAnswer.the-variants.{Suspect}
 use Rattle.guarantees.specs.Questions.{checkAsked, sizeAsked, listAsked, compareAsked, reliesAsked}
 use Rattle.guarantees.specs.Questions.{verdictAsked, activateAsked, runAsked}

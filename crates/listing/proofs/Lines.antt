@@ -20,10 +20,10 @@ use Rattle.network.specs.FromPlan.{instanceOf}
 use Rattle.assessment.specs.declared.Assessment.{Assessment}
 use Rattle.assessment.specs.declared.Assessment.the-variants.{Stable, Suspect}
 use Rattle.refusals.proofs.Granted.{few-routers}
-use Rattle.checker.specs.declared.size.SizeAnswer.{SizeAnswer}
-use Rattle.checker.specs.Size.{sizeRouters, sizeLists, Sizes}
+use Rattle.queries.specs.declared.size.SizeAnswer.{SizeAnswer}
+use Rattle.queries.specs.Size.{sizeRouters, sizeLists, Sizes}
 use Rattle.checker.specs.Verdict.{reliance, isStable, highestOf, cycleOf}
-use Rattle.checker.proofs.Refused.{when-refused, when-given}
+use Rattle.plan.proofs.Refused.{when-refused, when-given}
 use Rattle.report.specs.Text.{headLine, refusedLine, stableLine, suspectLine}
 use Rattle.listing.specs.Listing.{listLine, listLines, planText}
 use Rattle.listing.specs.Found.{foundLine, Printable}

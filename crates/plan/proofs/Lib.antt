@@ -1,3 +1,4 @@
+pub mod Refused
 pub mod Cascade
 pub mod Table
 pub mod Passed

@@ -9,22 +9,22 @@ use Rattle.base.specs.Seek.{flag}
 use Rattle.routing.specs.Preference.{prefers}
 use Rattle.routing.specs.Reliance.{relies}
 use Rattle.network.specs.FromPlan.{instanceOf}
-use Rattle.checker.specs.declared.compare.CompareAnswer.{CompareAnswer}
-use Rattle.checker.specs.declared.compare.CompareAnswer.the-variants as compares
-use Rattle.checker.specs.declared.relies.ReliesAnswer.{ReliesAnswer}
-use Rattle.checker.specs.declared.relies.ReliesAnswer.the-variants as relying
+use Rattle.queries.specs.declared.compare.CompareAnswer.{CompareAnswer}
+use Rattle.queries.specs.declared.compare.CompareAnswer.the-variants as compares
+use Rattle.queries.specs.declared.relies.ReliesAnswer.{ReliesAnswer}
+use Rattle.queries.specs.declared.relies.ReliesAnswer.the-variants as relying
 use Rattle.checker.specs.declared.verdict.VerdictAnswer.{VerdictAnswer}
 use Rattle.checker.specs.declared.verdict.VerdictAnswer.the-variants as verdicts
-use Rattle.checker.specs.declared.run.RunAnswer.{RunAnswer}
-use Rattle.checker.specs.declared.size.SizeAnswer.{SizeAnswer}
+use Rattle.runs.specs.declared.run.RunAnswer.{RunAnswer}
+use Rattle.queries.specs.declared.size.SizeAnswer.{SizeAnswer}
 use Rattle.plan.specs.Refusal.{planRefusal}
 use Rattle.refusals.specs.Refusals.{egressListRefusal, compareRefusal, reliesRefusal, verdictRefusal, runRefusal}
-use Rattle.checker.specs.Compare.{compared, compareNumber, compareBetter, Compares}
-use Rattle.checker.specs.Relies.{relied, reliesNumber, reliesFlag, Relied}
+use Rattle.queries.specs.Compare.{compared, compareNumber, compareBetter, Compares}
+use Rattle.queries.specs.Relies.{relied, reliesNumber, reliesFlag, Relied}
 use Rattle.checker.specs.Verdict.{isStable, verdictOf, verdictAnswer, verdictNumber, verdictIsStable, verdictSize, VerdictCall}
-use Rattle.checker.specs.Run.{Runs}
-use Rattle.checker.specs.Size.{sizeRouters, sizeLists, Sizes}
-use Rattle.checker.proofs.Refused.{when-refused, when-given}
+use Rattle.runs.specs.Run.{Runs}
+use Rattle.queries.specs.Size.{sizeRouters, sizeLists, Sizes}
+use Rattle.plan.proofs.Refused.{when-refused, when-given}
 use Rattle.checker.proofs.Judging.{kept}
 use Rattle.plan.specs.EgressLists.{SpanOf}
 use Rattle.exports.specs.Exports.{SizeExport, ListExport, CompareExport, ReliesExport, VerdictExport, RunExport}

@@ -3,7 +3,7 @@ use Prim.Native.Nat.{ℕ}
 use native.Mathlib.Omega.{arith}
 use mathlib.Core.Path.{_≡_, _∙_, sym, ap}
 use Rattle.plan.specs.Refused.{unlessRefused}
-use Rattle.checker.proofs.Refused.{when-given}
+use Rattle.plan.proofs.Refused.{when-given}
 
 -- nothing is refused: the variable holds the call's field
 pub written : {A : Type 0} (number : ℕ) (before zeroed value x : A) → number ≡ 0 → x ≡ unlessRefused number zeroed value

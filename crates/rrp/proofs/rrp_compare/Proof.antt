@@ -1,6 +1,6 @@
 use mathlib.Core.Path.{ap}
 use borrow.Author.Needs.{needs}
-use Rattle.checker.specs.Compare.{compareNumber, compareBetter}
+use Rattle.queries.specs.Compare.{compareNumber, compareBetter}
 use Rattle.rrp.proofs.Exporting.{compare-refused, compare-given}
 use Rattle.rrp.proofs.rrp_compare.Statement.{statement}
 use Rattle.rrp.proofs.rrp_compare.Tie as tie

@@ -1,7 +1,7 @@
 use mathlib.Core.Path.{ap}
 use mathlib.Core.Bool.{true, false}
 use borrow.Author.Needs.{needs}
-use Rattle.checker.specs.Relies.{reliesNumber, reliesFlag}
+use Rattle.queries.specs.Relies.{reliesNumber, reliesFlag}
 use Rattle.rrp.proofs.Exporting.{relies-refused, relies-given}
 use Rattle.rrp.proofs.rrp_relies.Statement.{statement}
 use Rattle.rrp.proofs.rrp_relies.Tie as tie

@@ -1,0 +1,5 @@
+pub mod Examples
+pub mod ListStretch
+pub mod Preferring
+pub mod Relying
+pub mod Sizing

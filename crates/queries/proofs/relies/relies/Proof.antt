@@ -1,0 +1,58 @@
+use native.Mathlib.Omega.{arith}
+use mathlib.Core.Path.{_≡_, refl, _∙_, sym, ap}
+use borrow.Author.Needs.{needs}
+use lib.Dec.{lit<}
+use Rattle.routing.specs.Reliance.{relies}
+use Rattle.network.specs.Decoded.{decoded}
+use Rattle.network.specs.FromPlan.{instanceOf}
+use Rattle.network.proofs.FromPlan.{well-formed}
+use Rattle.refusals.specs.Refusals.{reliesRefusal}
+use Rattle.refusals.proofs.Granted.{ReliesAsked, relies-asked}
+use Rattle.queries.proofs.Relying.{relied-refused, relied-yes, relied-no}
+use Rattle.queries.proofs.relies.relies.Statement.{statement}
+use Rattle.queries.proofs.relies.relies.Tie as tie
+
+-- nothing is refused
+given : (c : tie.Else1) → let a = c .before .before .before .args in reliesRefusal (a .plan .now) (a .list) (a .router) (a .other) ≡ 0
+given c = sym (c .before .relies-refusal .ensures) ∙ c .if1 .left
+
+asked : (c : tie.Else1) → let a = c .before .before .before .args in ReliesAsked (a .plan .now) (a .list) (a .router) (a .other)
+asked c = relies-asked _ _ _ _ (given c)
+
+-- where the guard is, from after the calls
+abbrev guard : tie.After-part → tie.Else1
+guard c = c .before .before .before
+
+relies-requires : tie.Need-relies-requires
+relies-requires c κs =
+    let d = c .before in
+    let q = asked (guard d) in
+    let read = d .before .decode .ensures in (
+      rw (d .part .ensures) (well-formed _ _ _ _ (q .planOk) (q .list) read),
+      rw (read .count) (omega arith),
+      rw (read .count) (omega arith),
+    )
+
+-- the reliance found is that of the plan's network
+judged : (c : tie.After-relies) → let a = guard (c .before .before) .before .before .before .args in
+    c .relies .result ≡ relies (instanceOf (a .plan .now) (a .list)) (a .router) (a .other)
+judged c =
+    let d = c .before .before in
+    let a = guard d .before .before .before .args in
+    let net = d .before .decode .result in
+    let rows = d .before .decode .last .1 .1 .0 in
+    c .relies .ensures
+    ∙ ap (λ s. relies (decoded net rows s) (a .router) (a .other)) (d .part .ensures)
+    ∙ ap (λ I. relies I (a .router) (a .other)) (d .before .decode .ensures .same)
+
+pub relies-spec : {M : Type 1} → statement M
+relies-spec =
+    tie.close
+    (tie.spec
+    (λ c κs. search needs)
+    (λ c. relied-refused _ _ _ _ _ (c .before .relies-refusal .ensures) (c .if1 .taken))
+    (λ c κs. let q = asked (c .before) in (q .planOk, q .list, refl))
+    (λ c κs. (asked (c .before .before) .planOk, lit< tt))
+    relies-requires
+    (λ c. relied-yes _ _ _ _ (given (guard (c .before .before .before))) (sym (judged (c .before)) ∙ c .if2 .taken))
+    (λ c. relied-no _ _ _ _ (given (guard (c .before .before .before))) (sym (judged (c .before)) ∙ c .if2 .left)))

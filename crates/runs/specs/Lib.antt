@@ -1,0 +1,3 @@
+pub mod Activate
+pub mod Run
+pub mod Examples
