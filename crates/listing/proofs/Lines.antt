@@ -25,7 +25,7 @@ use Rattle.queries.specs.Size.{sizeRouters, sizeLists, Sizes}
 use Rattle.checker.specs.Verdict.{reliance, isStable, highestOf, cycleOf}
 use Rattle.plan.proofs.Refused.{when-refused, when-given}
 use Rattle.report.specs.Text.{headLine, refusedLine, stableLine, suspectLine}
-use Rattle.listing.specs.Listing.{listLine, listLines, planText}
+use Rattle.text.specs.Listing.{listLine, listLines, planText}
 use Rattle.listing.specs.Found.{foundLine, Printable}
 
 -- a plan that is not refused has n routers and m lists

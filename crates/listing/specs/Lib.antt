@@ -1,3 +1,1 @@
-pub mod Listing
 pub mod Found
-pub mod Examples

@@ -8,7 +8,7 @@ ghost use lib.ListN.{length};
 ghost use Rattle.plan.specs.Refusal.{planRefusal};
 ghost use Rattle.plan.specs.EgressLists.{listCount};
 ghost use Rattle.report.specs.Buffer.{Put, AtFront, lineRoom};
-ghost use Rattle.listing.specs.Listing.{listLine, listLines, planText, textRoom};
+ghost use Rattle.text.specs.Listing.{listLine, listLines, planText, textRoom};
 ghost use Rattle.listing.specs.Found.{foundLine, Printable};
 
 // Room for any text, `textRoom`: the first line and the lines of 64 lists, of at most 272 bytes each.

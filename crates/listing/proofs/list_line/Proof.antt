@@ -9,7 +9,7 @@ use Rattle.network.proofs.FromPlan.{well-formed}
 use Rattle.refusals.proofs.Granted.{few-routers}
 use Rattle.checker.specs.Verdict.{isStable, highestOf, cycleOf}
 use Rattle.report.proofs.Writing.{put-as}
-use Rattle.listing.specs.Listing.{listLine}
+use Rattle.text.specs.Listing.{listLine}
 use Rattle.listing.specs.Found.{foundLine, Printable}
 use Rattle.listing.proofs.Lines.{found-says}
 use Rattle.listing.proofs.list_line.Statement.{statement}

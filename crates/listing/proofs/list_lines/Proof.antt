@@ -5,7 +5,7 @@ use mathlib.Core.Path.{refl}
 use borrow.Author.Needs.{needs}
 use Rattle.report.specs.Buffer.{lineRoom}
 use Rattle.report.proofs.Writing.{Putting, putting-start, putting-more, putting-done}
-use Rattle.listing.specs.Listing.{listLines}
+use Rattle.text.specs.Listing.{listLines}
 use Rattle.listing.proofs.list_lines.Statement.{statement}
 use Rattle.listing.proofs.list_lines.Tie as tie
 

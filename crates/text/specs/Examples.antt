@@ -2,7 +2,7 @@
 use Prim.Native.Nat.{ℕ}
 use mathlib.Core.Path.{_≡_}
 use mathlib.Core.List.{List, [], _∷_, _++_, map}
-use Rattle.listing.specs.Listing.{planText}
+use Rattle.text.specs.Listing.{planText}
 
 -- "M3's distances with lists 2,3 and 3"
 unfoldable pub examplePlan : List ℕ
