@@ -7,7 +7,8 @@ ghost use Prim.Native.Nat.{_+_, _*_, _≤_, _<_};
 ghost use lib.ListN.{length};
 ghost use Rattle.plan.specs.Refusal.{planRefusal};
 ghost use Rattle.plan.specs.EgressLists.{listCount};
-ghost use Rattle.report.specs.Buffer.{Put, AtFront, lineRoom};
+ghost use Rattle.fields.specs.Buffer.{Put, AtFront};
+ghost use Rattle.report.specs.Text.{lineRoom};
 ghost use Rattle.text.specs.Listing.{listLine, listLines, planText, textRoom};
 ghost use Rattle.listing.specs.Found.{foundLine, Printable};
 

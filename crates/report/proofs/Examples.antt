@@ -1,6 +1,7 @@
 -- The examples, worked out from the definitions that the contracts cite.
 use mathlib.Core.Path.{refl}
-use Rattle.report.specs.Text.{decimal, spaced, headLine, refusedLine, stableLine, suspectLine}
+use Rattle.fields.specs.Fields.{decimal, spaced}
+use Rattle.report.specs.Text.{headLine, refusedLine, stableLine, suspectLine}
 use Rattle.report.specs.Examples.{examples, LineExamplesHold}
 
 pub line-examples : LineExamplesHold

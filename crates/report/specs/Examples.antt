@@ -2,7 +2,8 @@
 use Prim.Native.Nat.{ℕ}
 use mathlib.Core.Path.{_≡_}
 use mathlib.Core.List.{List, [], _∷_, map}
-use Rattle.report.specs.Text.{decimal, headLine, refusedLine, stableLine, suspectLine}
+use Rattle.fields.specs.Fields.{decimal}
+use Rattle.report.specs.Text.{headLine, refusedLine, stableLine, suspectLine}
 
 pub record Example : Type 0 where
   pub text : List ℕ

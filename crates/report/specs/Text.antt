@@ -1,28 +1,8 @@
 -- The lines of the verdict program's report (document 01, "Small plans").
-use Prim.Native.Nat.{ℕ, _+_, _/_, _%_}
-use mathlib.Core.Bool.{cond}
+use Prim.Native.Nat.{ℕ}
 use mathlib.Core.List.{List, [], _∷_, _++_, map}
-use lib.Dec.{ltb}
 use lib.ListN.{length}
-
--- the byte of a digit
-abbrev pub digit : ℕ → ℕ
-digit d = 48 + d
-
--- a number below 1000 in decimal digits, without leading zeros
-unfoldable pub decimal : ℕ → List ℕ
-decimal x =
-    cond (ltb x 10) (digit x ∷ [])
-    (cond (ltb x 100) (digit (x / 10) ∷ digit (x % 10) ∷ []) (digit (x / 100) ∷ digit (x / 10 % 10) ∷ digit (x % 10) ∷ []))
-
--- fields after another: "One space parts two fields." 32 is the space
-unfoldable pub spaced : List (List ℕ) → List ℕ
-spaced [] = []
-spaced (field ∷ fields) = (32 ∷ field) ++ spaced fields
-
--- numbers as fields after another
-abbrev pub numberFields : List ℕ → List ℕ
-numberFields numbers = spaced (map decimal numbers)
+use Rattle.fields.specs.Fields.{decimal, spaced}
 
 -- a line of a first field and others, "each line ended by byte 10"
 abbrev pub line : List ℕ → List (List ℕ) → List ℕ
@@ -59,3 +39,7 @@ stableLine list highest = line (decimal list) (stableWord ∷ decimal highest �
 -- "In each later line the fields are list number, verdict, then ring length and ring". Here the ring is a cycle.
 unfoldable pub suspectLine : ℕ → List ℕ → List ℕ
 suspectLine list cycle = line (decimal list) (suspectWord ∷ decimal (length cycle) ∷ map decimal cycle)
+
+-- room for any line: of a suspect list with a number of three digits, and 64 members of three digits
+abbrev pub lineRoom : ℕ
+lineRoom = 272

@@ -1,21 +1,20 @@
 // The lines of the verdict program's report: each is written into a caller's buffer from a place on, and the place after it is returned.
 
-pub mod parts;
-
-use crate::parts::LINE_END;
-use crate::parts::put_byte;
-use crate::parts::put_bytes;
-use crate::parts::put_last_number;
-use crate::parts::put_next_bytes;
-use crate::parts::put_next_number;
-use crate::parts::put_next_numbers;
-use crate::parts::put_number;
 use base::wide;
+use fields::LINE_END;
+use fields::put_byte;
+use fields::put_bytes;
+use fields::put_last_number;
+use fields::put_next_bytes;
+use fields::put_next_number;
+use fields::put_next_numbers;
+use fields::put_number;
 ghost use mathlib.Core.List.{_∷_, _++_};
 ghost use Prim.Native.Nat.{_+_, _≤_, _<_};
 ghost use lib.ListN.{length};
-ghost use Rattle.report.specs.Buffer.{Put, lineRoom};
-ghost use Rattle.report.specs.Text.{decimal, headLine, refusedLine, stableLine, suspectLine};
+ghost use Rattle.fields.specs.Buffer.{Put};
+ghost use Rattle.fields.specs.Fields.{decimal};
+ghost use Rattle.report.specs.Text.{lineRoom, headLine, refusedLine, stableLine, suspectLine};
 
 // The first line: the plan has n routers and m lists.
 pub fn head_line(out: &mut [u8], at: usize, n: usize, m: usize) -> usize

@@ -19,7 +19,8 @@ use Rattle.graph.specs.Groups.{together, label, stable, grouped}
 use Rattle.ranking.specs.Rank.{rankOver, rankRounds, rank}
 use Rattle.cycles.specs.Cycle.{start, next, walk, second, first, lap, cycleIn, cycle}
 use Rattle.checker.specs.Verdict.{isStable, highestOf, cycleOf}
-use Rattle.report.specs.Text.{decimal, spaced, headLine, refusedLine, stableLine, suspectLine}
+use Rattle.fields.specs.Fields.{decimal, spaced}
+use Rattle.report.specs.Text.{headLine, refusedLine, stableLine, suspectLine}
 use Rattle.text.specs.Listing.{listLine, listLines, planText}
 use Rattle.text.specs.Examples.{examplePlan, exampleText, refused1, refused3, examples, TextExamplesHold}
 

@@ -7,8 +7,7 @@ use Rattle.plan.specs.Refusal.{planRefusal}
 use Rattle.plan.specs.EgressLists.{listCount}
 use Rattle.plan.specs.Refused.{unlessRefused}
 use Rattle.checker.specs.Verdict.{isStable, highestOf, cycleOf}
-use Rattle.report.specs.Buffer.{lineRoom}
-use Rattle.report.specs.Text.{headLine, refusedLine, stableLine, suspectLine}
+use Rattle.report.specs.Text.{lineRoom, headLine, refusedLine, stableLine, suspectLine}
 
 -- "In each later line the fields are list number, verdict, then ring length and ring, or highest rank." The ring is called cycle.
 unfoldable pub listLine : List ℕ → ℕ → List ℕ

@@ -8,7 +8,7 @@ use Rattle.network.specs.FromPlan.{instanceOf}
 use Rattle.network.proofs.FromPlan.{well-formed}
 use Rattle.refusals.proofs.Granted.{few-routers}
 use Rattle.checker.specs.Verdict.{isStable, highestOf, cycleOf}
-use Rattle.report.proofs.Writing.{put-as}
+use Rattle.fields.proofs.Writing.{put-as}
 use Rattle.text.specs.Listing.{listLine}
 use Rattle.listing.specs.Found.{foundLine, Printable}
 use Rattle.listing.proofs.Lines.{found-says}

@@ -3,8 +3,8 @@ use Prim.Native.Nat.{_-_}
 use native.Mathlib.Numerals.{add-one}
 use mathlib.Core.Path.{refl}
 use borrow.Author.Needs.{needs}
-use Rattle.report.specs.Buffer.{lineRoom}
-use Rattle.report.proofs.Writing.{Putting, putting-start, putting-more, putting-done}
+use Rattle.report.specs.Text.{lineRoom}
+use Rattle.fields.proofs.Writing.{Putting, putting-start, putting-more, putting-done}
 use Rattle.text.specs.Listing.{listLines}
 use Rattle.listing.proofs.list_lines.Statement.{statement}
 use Rattle.listing.proofs.list_lines.Tie as tie

@@ -1,6 +1,6 @@
 use native.Mathlib.Omega.{arith}
 use borrow.Author.Needs.{needs}
-use Rattle.report.proofs.Writing.{put-then, at-front}
+use Rattle.fields.proofs.Writing.{put-then, at-front}
 use Rattle.listing.proofs.Lines.{Sized, sized, text-refused, text-given}
 use Rattle.listing.proofs.plan_text.Statement.{statement}
 use Rattle.listing.proofs.plan_text.Tie as tie

@@ -1,7 +1,7 @@
 use native.Mathlib.Omega.{arith}
 use borrow.Author.Needs.{needs}
 use Rattle.report.proofs.Text.{head-parts}
-use Rattle.report.proofs.Writing.{put-then, put-as}
+use Rattle.fields.proofs.Writing.{put-then, put-as}
 use Rattle.report.proofs.head_line.Statement.{statement}
 use Rattle.report.proofs.head_line.Tie as tie
 

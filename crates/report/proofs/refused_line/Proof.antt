@@ -3,7 +3,7 @@ use mathlib.Core.Path.{_∙_, ap}
 use borrow.Author.Needs.{needs}
 use Rattle.report.specs.Text.{refusedLine}
 use Rattle.report.proofs.Text.{refused-parts}
-use Rattle.report.proofs.Writing.{put-then, put-as}
+use Rattle.fields.proofs.Writing.{put-then, put-as}
 use Rattle.report.proofs.refused_line.Statement.{statement}
 use Rattle.report.proofs.refused_line.Tie as tie
 

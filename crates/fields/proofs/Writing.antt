@@ -7,7 +7,7 @@ use mathlib.Core.Path.{_≡_, refl, _∙_, sym, ap, ap₂}
 use mathlib.Core.List.{List, [], _∷_, _++_, append-assoc, append-nil}
 use lib.ListN.{length, take, drop, set, length-append, length-drop, take-append-drop}
 use lib.Seq.{set-split, append-snoc, take-at, drop-drop, drop-append-add, length-take-le}
-use Rattle.report.specs.Buffer.{written, Put, AtFront}
+use Rattle.fields.specs.Buffer.{written, Put, AtFront}
 
 module _ (d : List ℕ) (at : ℕ) (s : List ℕ) (h : at + length s ≤ length d) where
   -- the bytes that are written, after those before them, end at the next place

@@ -4,8 +4,8 @@ use base::wide;
 ghost use mathlib.Core.List.{[], _∷_, _++_};
 ghost use Prim.Native.Nat.{_+_, _*_, _≤_, _<_};
 ghost use lib.ListN.{length};
-ghost use Rattle.report.specs.Buffer.{Put};
-ghost use Rattle.report.specs.Text.{digit, decimal, numberFields};
+ghost use Rattle.fields.specs.Buffer.{Put};
+ghost use Rattle.fields.specs.Fields.{digit, decimal, numberFields};
 
 pub const LINE_END: u8 = 10;
 

@@ -1,12 +1,12 @@
--- `report::parts::put_number`: each return writes the digits of its case.
+-- `fields::put_number`: each return writes the digits of its case.
 use native.Mathlib.Omega.{arith}
 use mathlib.Core.Path.{refl}
 use borrow.Author.Needs.{needs}
 use borrow.Author.Tests.{lt-ltb, le-ltb}
-use Rattle.report.specs.Text.{decimal}
-use Rattle.report.proofs.Writing.{put-then, put-as}
-use Rattle.report.proofs.parts.put_number.Statement.{statement}
-use Rattle.report.proofs.parts.put_number.Tie as tie
+use Rattle.fields.specs.Fields.{decimal}
+use Rattle.fields.proofs.Writing.{put-then, put-as}
+use Rattle.fields.proofs.put_number.Statement.{statement}
+use Rattle.fields.proofs.put_number.Tie as tie
 
 returns : tie.Need-returns
 unfolding decimal

@@ -1,7 +1,7 @@
 use borrow.Author.Needs.{needs}
-use Rattle.report.proofs.Writing.{put-one}
-use Rattle.report.proofs.parts.put_byte.Statement.{statement}
-use Rattle.report.proofs.parts.put_byte.Tie as tie
+use Rattle.fields.proofs.Writing.{put-one}
+use Rattle.fields.proofs.put_byte.Statement.{statement}
+use Rattle.fields.proofs.put_byte.Tie as tie
 
 pub put-byte-spec : {M : Type 1} → statement M
 put-byte-spec =

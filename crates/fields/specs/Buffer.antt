@@ -20,7 +20,3 @@ pub record AtFront (buffer text after : List ℕ) (size : ℕ) : Type 0 where
   pub within : size ≤ length buffer
   pub long : size ≡ length text
   pub is : after ≡ text ++ drop size buffer
-
--- room for any line: of a suspect list with a number of three digits, and 64 members of three digits
-abbrev pub lineRoom : ℕ
-lineRoom = 272

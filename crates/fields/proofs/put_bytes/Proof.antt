@@ -1,4 +1,4 @@
--- `report::parts::put_bytes`: the first i bytes are written.
+-- `fields::put_bytes`: the first i bytes are written.
 use Prim.Native.Nat.{_-_}
 use native.Mathlib.Numerals.{add-one}
 use native.Mathlib.Omega.{arith}
@@ -6,9 +6,9 @@ use mathlib.Core.Path.{refl}
 use borrow.Author.Needs.{needs}
 use lib.ListN.{length, take}
 use lib.Seq.{take-suc, take-length}
-use Rattle.report.proofs.Writing.{put-as, Putting, putting-start, putting-more, putting-done}
-use Rattle.report.proofs.parts.put_bytes.Statement.{statement}
-use Rattle.report.proofs.parts.put_bytes.Tie as tie
+use Rattle.fields.proofs.Writing.{put-as, Putting, putting-start, putting-more, putting-done}
+use Rattle.fields.proofs.put_bytes.Statement.{statement}
+use Rattle.fields.proofs.put_bytes.Tie as tie
 
 abbrev Inv-loop : tie.InvT-loop
 Inv-loop out₀ at bytes next₀ i₀ out next i = Putting (λ k. take k bytes) 1 (length bytes) out₀ at out next i

@@ -1,7 +1,7 @@
 use borrow.Author.Needs.{needs}
-use Rattle.report.proofs.Writing.{put-then}
-use Rattle.report.proofs.parts.put_last_number.Statement.{statement}
-use Rattle.report.proofs.parts.put_last_number.Tie as tie
+use Rattle.fields.proofs.Writing.{put-then}
+use Rattle.fields.proofs.put_last_number.Statement.{statement}
+use Rattle.fields.proofs.put_last_number.Tie as tie
 
 returns : tie.Need-returns
 returns c =

@@ -1,4 +1,4 @@
--- `report::parts::put_next_numbers`: the first i numbers are written.
+-- `fields::put_next_numbers`: the first i numbers are written.
 use Prim.Native.Nat.{_-_}
 use native.Mathlib.Omega.{arith}
 use mathlib.Core.Path.{refl, _∙_, sym, ap}
@@ -6,11 +6,11 @@ use mathlib.Core.List.{_∷_, _++_}
 use borrow.Author.Needs.{needs}
 use lib.ListN.{length, take}
 use lib.Seq.{take-length}
-use Rattle.report.specs.Text.{decimal, spaced, numberFields}
-use Rattle.report.proofs.Text.{spaced-more}
-use Rattle.report.proofs.Writing.{put-as, Putting, putting-start, putting-more, putting-done}
-use Rattle.report.proofs.parts.put_next_numbers.Statement.{statement}
-use Rattle.report.proofs.parts.put_next_numbers.Tie as tie
+use Rattle.fields.specs.Fields.{decimal, spaced, numberFields}
+use Rattle.fields.proofs.Fields.{spaced-more}
+use Rattle.fields.proofs.Writing.{put-as, Putting, putting-start, putting-more, putting-done}
+use Rattle.fields.proofs.put_next_numbers.Statement.{statement}
+use Rattle.fields.proofs.put_next_numbers.Tie as tie
 
 abbrev Inv-loop : tie.InvT-loop
 Inv-loop out₀ at numbers next₀ i₀ out next i =
