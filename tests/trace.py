@@ -11,7 +11,7 @@ An entry is `CRATE/FOLDER/FILE: NAME, NAME`, and of edits `CRATE/must-fail: NAME
 - must-fail edit: an edit of that crate.
 A word in a comment declares nothing, nor does a name local to a proof. Each row has a contract, a theorem or an
 example. No two edits have one name. Each edit is named in some row, and so is each definition of specs/, but for
-those of the examples themselves.
+those that the examples are made of, and each example: a field of a record called ..Examples, or what has type Example.
 """
 import re
 import sys
@@ -26,6 +26,7 @@ COLUMNS = {
     'must-fail edit': ('must-fail',),
 }
 EXAMPLE_FILES = re.compile(r'(Examples|SmallPlans)$')
+EXAMPLE = re.compile(r'^(?:abbrev|unfoldable) pub (\S+) : Example$', re.MULTILINE)
 DECLARATION = re.compile(r'''\s* (?P<marks> ((pub|abbrev|unfoldable)\s+)* ) (?P<kind> (record|data)\s+ )?
                              (?P<name> [^\s(){}]+ ) \s* (?P<rest> .* )''', re.VERBOSE)
 
@@ -141,15 +142,31 @@ class Repository:
     def edits(self):
         return sorted(self.crates.glob('*/must-fail/*.edit'))
 
-    def definitions(self):
-        """CRATE/specs/FILE: NAME of each definition that a reader must believe."""
+    def specs(self):
+        """(crate, file) of each file of specs/."""
         for path in sorted(self.crates.glob('*/specs/**/*.antt')):
             crate = path.relative_to(self.crates).parts[0]
-            file = str(path.relative_to(self.crates / crate / 'specs').with_suffix(''))
+            yield crate, str(path.relative_to(self.crates / crate / 'specs').with_suffix(''))
+
+    def definitions(self):
+        """CRATE/specs/FILE: NAME of each definition that a reader must believe."""
+        for crate, file in self.specs():
             if not EXAMPLE_FILES.search(file):
                 for name, (kind, public) in self.declared(crate, 'specs', file).items():
                     if public and kind != 'field':
                         yield f'{crate}/specs/{file}: {name}'
+
+    def examples(self):
+        """CRATE/specs/FILE: NAME of each example."""
+        for crate, file in self.specs():
+            if EXAMPLE_FILES.search(file):
+                names = EXAMPLE.findall(self.text(crate, 'specs', file))
+                for name, (kind, public) in self.declared(crate, 'specs', file).items():
+                    record, _, field = name.partition('.')
+                    if kind == 'field' and record.endswith('Examples'):
+                        names.append(field)
+                for name in names:
+                    yield f'{crate}/specs/{file}: {name}'
 
 
 def wrong(repository, column, place, name):
@@ -239,6 +256,9 @@ def check(root):
     for definition in repository.definitions():
         if ('definition', definition) not in named:
             problems.append(f'{definition} is named in no row')
+    for example in repository.examples():
+        if ('pinning example', example) not in named:
+            problems.append(f'{example} is named in no row')
     return named, problems
 
 

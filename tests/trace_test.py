@@ -40,6 +40,12 @@ pub record Shown : Type 0 where
 pub record ShownToo : Type 0 where
   pub twice : next (next 6) ≡ 8
 
+pub record RuleExamples : Type 0 where
+  pub nextOf7 : next 7 ≡ 8
+
+abbrev pub nextOf8 : Example
+nextOf8 = example 8 9
+
 abbrev pub seven : ℕ
 seven = next 6
 
@@ -48,7 +54,7 @@ eight = next 7
 
 abbrev pub all : List ℕ
 all =
-    seven ∷ []
+    seven ∷ nextOf8 ∷ []
 ''',
     'crates/rules/proofs/Examples.antt': '''
 next-of-3 : next 3 ≡ 4
@@ -56,6 +62,9 @@ next-of-3 = refl
 
 shown : Shown
 shown = record { nextOf5 = refl }
+
+rule-examples : RuleExamples
+rule-examples = record { nextOf7 = refl }
 ''',
     'crates/rules/must-fail/next_adds_two.edit': '',
     'crates/code/src/step.rt': '''
@@ -88,7 +97,7 @@ TRACE = [
     ['sentence', 'definition', 'contract or theorem', 'pinning example', 'must-fail edit'],
     ['---', '---', '---', '---', '---'],
     ['one more', '`rules/specs/Rule: next`', '`code/src/step: step, Counter::up`',
-     '`rules/proofs/Examples: next-of-3`<br>`rules/specs/Examples: nextOf5, seven`',
+     '`rules/proofs/Examples: next-of-3`<br>`rules/specs/Examples: nextOf5, nextOf7, nextOf8, seven`',
      '`code/must-fail: step_of_two`'],
     ['follows', '`rules/specs/Rule: Follows, Follows.same`', '`rules/proofs/Rule: next-more`',
      '`shown/stdout`<br>`tests/shown/three.expected`',
@@ -148,6 +157,10 @@ CASES = [
      'has no place in the column "contract or theorem"'),
     ('a definition named nowhere', 'Follows, Follows.same', 'Follows.same',
      'rules/specs/Rule: Follows is named in no row'),
+    ('a field of a record of examples named nowhere', ', nextOf7', '',
+     'rules/specs/Examples: nextOf7 is named in no row'),
+    ('an example of a list named nowhere', ', nextOf8', '',
+     'rules/specs/Examples: nextOf8 is named in no row'),
     ('a row that shows nothing', '`rules/proofs/Rule: next-more` | `shown/stdout`<br>`tests/shown/three.expected`', '|',
      'the row has no contract, theorem or example'),
     ('a row with a cell too few', '`code/must-fail: step_of_two` |', '',

@@ -35,6 +35,7 @@ run-examples =
       appliedToTheEnd = refl;
       roundsToTheLimit = refl;
       roundsToTheEnd = refl;
+      roundsOfNoActs = refl;
       exhausted = refl;
       notExhausted = refl;
       tableToTheLimit = refl;

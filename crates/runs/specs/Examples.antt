@@ -19,8 +19,11 @@ pub record RunExamples : Type 0 where
   pub appliedToTheEnd : runApplied 0 (0 ∷ 2 ∷ 1 ∷ []) 5 ≡ 3  -- the limit: 5
   pub roundsToTheLimit : runRounds 0 threeRouters (0 ∷ 2 ∷ 1 ∷ []) 2 ≡ 0  -- in the whole sequence: 1
   pub roundsToTheEnd : runRounds 0 threeRouters (0 ∷ 2 ∷ 1 ∷ []) 3 ≡ 1
+  -- "No acts make no rounds."
+  pub roundsOfNoActs : runRounds 0 threeRouters [] 3 ≡ 0  -- from a first round on: 1
   pub exhausted : runExhausted 0 (0 ∷ 2 ∷ 1 ∷ []) 2 ≡ true  -- never said: false
   pub notExhausted : runExhausted 0 (0 ∷ 2 ∷ 1 ∷ []) 3 ≡ false  -- from the limit on: true
+  -- a run "touches none after them": the byte 9
   pub tableToTheLimit : runTable threeRouters 0 (0 ∷ 2 ∷ []) 1 lent ≡ 1 ∷ 1 ∷ 1 ∷ 1 ∷ 255 ∷ 255 ∷ 9 ∷ []
   pub tableToTheEnd : runTable threeRouters 0 (0 ∷ 2 ∷ []) 2 lent ≡ 1 ∷ 1 ∷ 1 ∷ 1 ∷ 1 ∷ 1 ∷ 9 ∷ []
   pub activated : activateTable threeRouters 0 0 lent ≡ 1 ∷ 1 ∷ 1 ∷ 1 ∷ 255 ∷ 255 ∷ 9 ∷ []
