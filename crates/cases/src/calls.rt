@@ -5,6 +5,7 @@ use base::wide;
 use checker::compare::CompareAnswer;
 use checker::relies::ReliesAnswer;
 use checker::verdict::VerdictAnswer;
+ghost use Prim.Native.Nat.{_≤_};
 
 pub fn check(plan: &[u8]) {
     text::number(wide(checker::check(plan)));
@@ -62,8 +63,21 @@ fn verdict_answer(answer: VerdictAnswer) {
     }
 }
 
+// A buffer's name and its bytes.
+fn left(name: &[u8], bytes: &[u8]) {
+    text::word(name);
+    text::numbers(bytes);
+}
+
+fn buffers(labels: &[u8], ranks: &[u8], table: &[u8], cycle: &[u8]) {
+    left(b"labels", labels);
+    left(b"ranks", ranks);
+    left(b"table", table);
+    left(b"cycle", cycle);
+}
+
 // The verdict, and what it left in the four buffers.
-pub fn verdict(
+fn verdict_in(
     plan: &[u8],
     list: usize,
     labels: &mut [u8],
@@ -72,12 +86,30 @@ pub fn verdict(
     cycle: &mut [u8],
 ) {
     verdict_answer(checker::verdict::verdict(plan, list, labels, ranks, table, cycle));
-    text::word(b"labels");
-    text::numbers(labels);
-    text::word(b"ranks");
-    text::numbers(ranks);
-    text::word(b"table");
-    text::numbers(table);
-    text::word(b"cycle");
-    text::numbers(cycle);
+    buffers(labels, ranks, table, cycle);
+}
+
+fn at_most_10(x: usize) -> usize
+    ensures { λ r. ⌜ r ≤ 10 ⌝ }
+{
+    if 10 < x {
+        return 10;
+    }
+    x
+}
+
+// The same with buffers of these lengths, at most 10, each byte 7 before.
+pub fn verdict(plan: &[u8], list: usize, labels: usize, ranks: usize, table: usize, cycle: usize) {
+    let first = at_most_10(labels);
+    let second = at_most_10(ranks);
+    let third = at_most_10(table);
+    let fourth = at_most_10(cycle);
+    verdict_in(
+        plan,
+        list,
+        &mut [7u8; 10][0..first],
+        &mut [7u8; 10][0..second],
+        &mut [7u8; 10][0..third],
+        &mut [7u8; 10][0..fourth],
+    );
 }

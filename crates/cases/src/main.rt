@@ -1,22 +1,18 @@
-// The cases of the rules that no theorem states, by the public calls: each line is a case's name and what the calls gave.
-// A name that starts with a number tells the refusal. What each line must read follows from the rules as the comments say; the
-// second checker of tests/second gives the same lines.
+// The cases of the rules that no theorem states, by the public calls: each line of the output is a case's name and what the calls
+// gave. The cases are the text on standard input (the file `stdin`), which says what each is about; the second checker of
+// tests/second gives the same lines.
 
-mod asked;
 mod build;
 mod calls;
 mod cases;
-mod damages;
-mod limits;
-mod misread;
 mod plans;
-mod runs;
+mod script;
 mod text;
 
+use libc::STDIN_FILENO;
+
 fn main() {
-    limits::all();
-    damages::all();
-    asked::all();
-    misread::all();
-    runs::all();
+    let mut input = [0u8; 16384];
+    let size = io::read_full(STDIN_FILENO, &mut input);
+    cases::all(&input[0..size]);
 }

@@ -1,73 +1,52 @@
-// The plans of the cases.
+// The plan that the cases are about, body by body: each is written after the one before, with its contents entry.
 
 use crate::build;
+use crate::script;
 
-// The room of a plan of a few routers.
-pub const ROOM: usize = 128;
-
-// The small plan: routers 0, 1 reflectors, 2, 3 clients, sessions 0-1, 0-2, 1-3; p is the distance from 0 to 3, q from 1 to 2.
-// Its lists are 0: 2,3; 1: 3; 2: 0; 3: 1,2,3. It has 96 bytes: routers from 26, sessions from 46, distances from 52, lists from 84.
-pub fn small(plan: &mut [u8], p: u8, q: u8) -> usize {
-    let distances = [0, 30, 10, p, 30, 0, q, 10, 30, 30, 0, 30, 30, 30, 30, 0];
-    let lists = [4, 2, 2, 3, 1, 3, 1, 0, 3, 1, 2, 3];
-    build::put_plan(plan, &[1, 1, 2, 2], &[0, 1, 0, 2, 1, 3], &distances, &lists)
+// The kind of the body that a word sets: `roles` and `peers` 1, `sessions` and `mesh` 2, `distances` and `zeros` 3, `lists` and
+// `full` 4.
+fn kind(word: u8) -> u8 {
+    match word {
+        b'r' | b'p' => 1,
+        b's' | b'm' => 2,
+        b'd' | b'z' => 3,
+        _ => 4,
+    }
 }
 
-// Reflector 0 has client 2, reflector 1 has clients 3 and 4. Router 1 is nearer to 3 than to 4; router 0 is at 10 from 2, 12 from 3,
-// 8 from 4. Lists 0: 2,3,4; 1: 3,4.
-pub fn two_clients(plan: &mut [u8]) -> usize {
-    let distances = [
-        0,
-        30,
-        10,
-        12,
-        8,
-        30,
-        0,
-        30,
-        5,
-        6,
-        30,
-        30,
-        0,
-        30,
-        30,
-        30,
-        30,
-        30,
-        0,
-        30,
-        30,
-        30,
-        30,
-        30,
-        0,
-    ];
-    let lists = [2, 3, 2, 3, 4, 2, 3, 4];
-    build::put_plan(
-        plan,
-        &[1, 1, 2, 2, 2],
-        &[0, 1, 0, 2, 1, 3, 1, 4],
-        &distances,
-        &lists,
-    )
+// The routers of these roles, and the plan's head.
+fn routers(plan: &mut [u8], roles: &[usize]) -> usize {
+    build::put_head(plan, roles.len());
+    build::put_routers(plan, 26, roles)
 }
 
-// Reflectors 0, 1, 2 in a row, and client 3 of router 2, which alone is listed.
-pub fn three_reflectors(plan: &mut [u8]) -> usize {
-    let distances = [0, 1, 2, 3, 1, 0, 1, 2, 2, 1, 0, 1, 3, 2, 1, 0];
-    build::put_plan(
-        plan,
-        &[1, 1, 1, 2],
-        &[0, 1, 1, 2, 2, 3],
-        &distances,
-        &[1, 1, 3],
-    )
+// So many reflectors, at most 65.
+fn peers(plan: &mut [u8], n: usize) -> usize {
+    let roles = [1usize; 65];
+    if 65 < n {
+        return 26;
+    }
+    routers(plan, &roles[0..n])
 }
 
-// Clients 2 and 3 have sessions with both reflectors 0 and 1; router 2 alone is listed.
-pub fn shared_client(plan: &mut [u8]) -> usize {
-    let distances = [0, 1, 5, 1, 1, 0, 5, 1, 5, 5, 0, 5, 1, 1, 5, 0];
-    let sessions = [0, 1, 0, 2, 0, 3, 1, 2, 1, 3];
-    build::put_plan(plan, &[1, 1, 2, 2], &sessions, &distances, &[1, 1, 2])
+fn body(word: u8, numbers: &[usize], plan: &mut [u8], start: usize) -> usize {
+    let n = script::number(numbers, 0, 0);
+    match word {
+        b'r' => routers(plan, numbers),
+        b'p' => peers(plan, n),
+        b'm' => build::put_all_pairs(plan, start, n),
+        b'd' => build::put_distances(plan, start, numbers),
+        b'z' => build::put_zeros(plan, start, n),
+        b'f' => build::put_full_lists(plan, start, n, script::number(numbers, 1, 0)),
+        _ => build::put_all(plan, start, numbers),
+    }
+}
+
+// Writes the body that a word and its numbers say, and returns the plan's length up to its end. The routers start at 26.
+pub fn set(word: u8, numbers: &[usize], plan: &mut [u8], length: usize) -> usize {
+    let which = kind(word);
+    let start = if which == 1 { 26 } else { length };
+    let stop = body(word, numbers, plan, start);
+    build::put_entry(plan, which, start, stop);
+    stop
 }

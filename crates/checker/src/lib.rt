@@ -1,4 +1,4 @@
-// The public calls, those of crates queries and runs among them. None has a `requires`: any bytes and numbers get a result or a
+// The public calls, those of crates queries and running among them. None has a `requires`: any bytes and numbers get a result or a
 // refusal number.
 
 pub mod verdict;
@@ -8,5 +8,5 @@ pub use queries::compare;
 pub use queries::lists;
 pub use queries::relies;
 pub use queries::size;
-pub use runs::activate;
-pub use runs::run;
+pub use running::activate;
+pub use running::run;

@@ -24,10 +24,10 @@ use Rattle.activation.specs.TableBytes.{readRoute, tableOf, tableBytes, activat
 use Rattle.refusals.specs.Refusals.{egressListRefusal, compareRefusal, reliesRefusal, buffersOk, verdictRefusal}
 use Rattle.refusals.specs.Refusals.{tableChecks, sequenceOk, activateRefusal, runRefusal}
 use Rattle.queries.specs.Compare.{better}
-use Rattle.runs.specs.Activate.{activateTable}
+use Rattle.running.specs.Activate.{activateTable}
 use Rattle.checker.specs.Verdict.{isStable, labelsOf, ranksOf, highestOf, settledBytes, cycleOf, sizeOf}
 use Rattle.checker.specs.Verdict.{labelsAfter, ranksAfter, tableAfter, cycleAfter}
-use Rattle.runs.specs.Run.{runApplied, runRounds, runExhausted, runTable}
+use Rattle.running.specs.Run.{runApplied, runRounds, runExhausted, runTable}
 use Rattle.exports.specs.Examples.{plan, ExportExamples}
 
 pub export-examples : ExportExamples

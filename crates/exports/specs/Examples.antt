@@ -3,7 +3,7 @@ use Prim.Native.Nat.{ℕ}
 use mathlib.Core.Path.{_≡_}
 use mathlib.Core.List.{List, [], _∷_}
 use Rattle.base.specs.Lent.{Lent}
-use Rattle.runs.specs.Activate.{Activates}
+use Rattle.running.specs.Activate.{Activates}
 use Rattle.exports.specs.Exports.{SizeExport, ListExport, CompareExport, ReliesExport, VerdictExport, RunExport}
 
 -- Document 01, "Small plans", M3's distances: "Routers 0, 1 reflectors; 2, 3 clients; sessions 0-1, 0-2, 1-3; identifiers 10, 20, 30, 40.

@@ -14,7 +14,7 @@ use Rattle.plan.specs.Refused.{unlessRefused}
 use Rattle.refusals.specs.Refusals.{egressListRefusal, compareRefusal, reliesRefusal, verdictRefusal, runRefusal}
 use Rattle.queries.specs.Compare.{better}
 use Rattle.checker.specs.Verdict.{isStable, sizeOf, labelsAfter, ranksAfter, tableAfter, cycleAfter}
-use Rattle.runs.specs.Run.{runApplied, runRounds, runExhausted, runTable}
+use Rattle.running.specs.Run.{runApplied, runRounds, runExhausted, runTable}
 
 -- a result variable of a call whose refusal is `number`: "unchanged" if refused, else the value
 abbrev pub Holds : (number : ℕ) (variable : Lent ℕ) (value : ℕ) → Type 0

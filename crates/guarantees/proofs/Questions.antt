@@ -29,8 +29,8 @@ use Rattle.queries.specs.EgressList.{egressListStart, egressListSize}
 use Rattle.queries.specs.Compare.{better, compared}
 use Rattle.queries.specs.Relies.{relied}
 use Rattle.checker.specs.Verdict.{isStable, labelsOf, ranksOf, highestOf, settledBytes, cycleOf, verdictOf, verdictAnswer, labelsAfter, ranksAfter, tableAfter, cycleAfter}
-use Rattle.runs.specs.Activate.{activateTable}
-use Rattle.runs.specs.Run.{runApplied, runRounds, runExhausted, runTable}
+use Rattle.running.specs.Activate.{activateTable}
+use Rattle.running.specs.Run.{runApplied, runRounds, runExhausted, runTable}
 use Rattle.guarantees.specs.Questions.{Question, Answer, answerTo}
 
 -- to unfold this is to unfold them all

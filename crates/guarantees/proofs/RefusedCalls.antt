@@ -5,8 +5,8 @@ use denote.Ref.{ptr, now}
 use Rattle.base.specs.Bytes.{bytesOn}
 use Rattle.queries.specs.EgressList.{egressListStart, egressListSize}
 use Rattle.queries.specs.Size.{sizeRouters, sizeLists}
-use Rattle.runs.specs.Activate.{activateTable}
-use Rattle.runs.specs.Run.{runApplied, runRounds, runExhausted, runTable}
+use Rattle.running.specs.Activate.{activateTable}
+use Rattle.running.specs.Run.{runApplied, runRounds, runExhausted, runTable}
 use Rattle.plan.proofs.Refused.{when-refused}
 use Rattle.guarantees.specs.RefusedCalls.{RefusedCalls}
 

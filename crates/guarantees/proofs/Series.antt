@@ -31,8 +31,8 @@ use Rattle.plan.specs.Refused.{unlessRefused}
 use Rattle.checker.specs.Verdict.{highestOf, settledBytes}
 use Rattle.guarantees.specs.VerdictMeaning.{rankIn}
 use Rattle.refusals.specs.Refusals.{tableChecks, activateRefusal, sequenceOk, runRefusal}
-use Rattle.runs.specs.Activate.{activateTable}
-use Rattle.runs.specs.Run.{runTable}
+use Rattle.running.specs.Activate.{activateTable}
+use Rattle.running.specs.Run.{runTable}
 use Rattle.guarantees.specs.Series.{Call, activateCall, runCall, callPlan, callList, callRefusal, bufferAfter, callActs, seriesBuffer, seriesActs, ForThis, Enough, EverySeriesSettles, EverySeriesGoesOn}
 use Rattle.plan.proofs.Refused.{when-refused, when-given}
 use Rattle.guarantees.proofs.VerdictMeaning.{ranked, settled-alone}

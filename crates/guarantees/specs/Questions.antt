@@ -17,8 +17,8 @@ use Rattle.queries.specs.EgressList.{egressListStart, egressListSize}
 use Rattle.queries.specs.Compare.{better, compared}
 use Rattle.queries.specs.Relies.{relied}
 use Rattle.checker.specs.Verdict.{verdictAnswer, labelsAfter, ranksAfter, tableAfter, cycleAfter}
-use Rattle.runs.specs.Activate.{activateTable}
-use Rattle.runs.specs.Run.{runApplied, runRounds, runExhausted, runTable}
+use Rattle.running.specs.Activate.{activateTable}
+use Rattle.running.specs.Run.{runApplied, runRounds, runExhausted, runTable}
 
 -- what a caller asks of a plan, with every byte of the buffers that the call is lent
 pub data Question : Type 0 where

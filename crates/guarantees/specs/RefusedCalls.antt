@@ -9,11 +9,11 @@ use Rattle.base.specs.Bytes.{bytesOn}
 use Rattle.plan.specs.Refusal.{planRefusal}
 use Rattle.refusals.specs.Refusals.{egressListRefusal, activateRefusal, runRefusal}
 use Rattle.queries.specs.declared.size.SizeAnswer.{SizeAnswer}
-use Rattle.runs.specs.declared.run.RunAnswer.{RunAnswer}
+use Rattle.running.specs.declared.run.RunAnswer.{RunAnswer}
 use Rattle.queries.specs.EgressList.{StretchOf}
 use Rattle.queries.specs.Size.{Sizes}
-use Rattle.runs.specs.Activate.{Activates}
-use Rattle.runs.specs.Run.{Runs}
+use Rattle.running.specs.Activate.{Activates}
+use Rattle.running.specs.Run.{Runs}
 
 pub record RefusedCalls : Type 0 where
   -- "If refused, the stretch is empty": at the plan's own start

@@ -14,8 +14,8 @@ use Rattle.activation.specs.TableBytes.{tableOf, activateBytes}
 use Rattle.plan.specs.Refused.{unlessRefused}
 use Rattle.checker.specs.Verdict.{isStable, highestOf, settledBytes}
 use Rattle.refusals.specs.Refusals.{tableChecks, activateRefusal, runRefusal}
-use Rattle.runs.specs.Activate.{activateTable}
-use Rattle.runs.specs.Run.{runTable}
+use Rattle.running.specs.Activate.{activateTable}
+use Rattle.running.specs.Run.{runTable}
 
 -- "any number of act and run calls, mixed in any order": what such a call is handed beside the buffer, which may be anything
 pub data Call : Type 0 where

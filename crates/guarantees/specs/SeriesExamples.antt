@@ -4,7 +4,7 @@ use Prim.Native.Nat.{ℕ}
 use mathlib.Core.Path.{_≡_}
 use mathlib.Core.List.{List, [], _∷_}
 use Rattle.routing.specs.Rounds.{rounds}
-use Rattle.runs.specs.Run.{runRounds}
+use Rattle.running.specs.Run.{runRounds}
 use Rattle.guarantees.specs.SmallPlans.{smallPlan}
 use Rattle.guarantees.specs.Series.{Call, activateCall, runCall, callRefusal, seriesBuffer, seriesActs, ForThis, Start, Enough}
 

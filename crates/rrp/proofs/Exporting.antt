@@ -15,14 +15,14 @@ use Rattle.queries.specs.declared.relies.ReliesAnswer.{ReliesAnswer}
 use Rattle.queries.specs.declared.relies.ReliesAnswer.the-variants as relying
 use Rattle.checker.specs.declared.verdict.VerdictAnswer.{VerdictAnswer}
 use Rattle.checker.specs.declared.verdict.VerdictAnswer.the-variants as verdicts
-use Rattle.runs.specs.declared.run.RunAnswer.{RunAnswer}
+use Rattle.running.specs.declared.run.RunAnswer.{RunAnswer}
 use Rattle.queries.specs.declared.size.SizeAnswer.{SizeAnswer}
 use Rattle.plan.specs.Refusal.{planRefusal}
 use Rattle.refusals.specs.Refusals.{egressListRefusal, compareRefusal, reliesRefusal, verdictRefusal, runRefusal}
 use Rattle.queries.specs.Compare.{compared, compareNumber, compareBetter, Compares}
 use Rattle.queries.specs.Relies.{relied, reliesNumber, reliesFlag, Relied}
 use Rattle.checker.specs.Verdict.{isStable, verdictOf, verdictAnswer, verdictNumber, verdictIsStable, verdictSize, VerdictCall}
-use Rattle.runs.specs.Run.{Runs}
+use Rattle.running.specs.Run.{Runs}
 use Rattle.queries.specs.Size.{sizeRouters, sizeLists, Sizes}
 use Rattle.plan.proofs.Refused.{when-refused, when-given}
 use Rattle.checker.proofs.Judging.{kept}

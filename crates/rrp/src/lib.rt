@@ -7,7 +7,7 @@ use checker::verdict::VerdictAnswer;
 ghost use mathlib.Core.Path.{_≡_};
 ghost use Rattle.base.specs.Lent.{lent};
 ghost use Rattle.plan.specs.Refusal.{planRefusal};
-ghost use Rattle.runs.specs.Activate.{Activates};
+ghost use Rattle.running.specs.Activate.{Activates};
 ghost use Rattle.exports.specs.Exports.{SizeExport, ListExport, CompareExport, ReliesExport, VerdictExport, RunExport};
 
 #[no_mangle]

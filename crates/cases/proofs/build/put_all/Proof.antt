@@ -7,10 +7,10 @@ use Rattle.cases.proofs.build.put_all.Statement.{statement}
 use Rattle.cases.proofs.build.put_all.Tie as tie
 
 abbrev Inv-loop : tie.InvT-loop
-Inv-loop plan₀ start bytes at₀ i₀ plan at i = length plan ≡ length plan₀
+Inv-loop plan₀ start numbers at₀ i₀ plan at i = length plan ≡ length plan₀
 
 abbrev μ-loop : tie.MeasureT-loop
-μ-loop plan₀ start bytes at₀ i₀ plan at i = length bytes - i
+μ-loop plan₀ start numbers at₀ i₀ plan at i = length numbers - i
 
 pub put-all-spec : {M : Type 1} → statement M
 put-all-spec =
@@ -18,6 +18,8 @@ put-all-spec =
     (tie.spec
     Inv-loop
     μ-loop
+    (λ c. search needs)
+    (λ c. search needs)
     (λ c. search needs)
     (λ c. search needs)
     (λ c κs. search needs)

@@ -1,0 +1,48 @@
+-- The examples, worked out from the definitions that the contracts cite.
+use mathlib.Core.Path.{refl}
+use Rattle.base.specs.Below.{allBelow, anyBelow}
+use Rattle.base.specs.Best.{keepBest, best}
+use Rattle.base.specs.Tab.{tab}
+use Rattle.contents.specs.Header.{headerOk, routerCountOk}
+use Rattle.contents.specs.Contents.{kindsOk, placesOk, sizesOk, contentsOk}
+use Rattle.bodies.specs.Routers.{routerOk, routersOk}
+use Rattle.bodies.specs.Sessions.{sessionOk, sessionsOk}
+use Rattle.bodies.specs.Distances.{distanceOk, distanceRowOk, distancesOk}
+use Rattle.bodies.specs.Lists.{listPlace, memberOk, listAtOk, listOk, eachListOk, listsOk}
+use Rattle.plan.specs.Refusal.{refuse, bodyChecks, planChecks, planRefusal}
+use Rattle.network.specs.FromPlan.{pairs, inSession, named}
+use Rattle.network.specs.Examples.{threeRouters}
+use Rattle.routing.specs.Preference.{prefers}
+use Rattle.routing.specs.Activation.{reflects, advertises, hears, senderOf, routeTo, choice, choose, entryOk, tableOk}
+use Rattle.routing.specs.Rounds.{acted, roundsFrom, rounds}
+use Rattle.activation.specs.TableBytes.{readRoute, tableOf, activateBytes, runBytes}
+use Rattle.refusals.specs.Refusals.{sequenceOk, egressListRefusal, tableChecks, activateRefusal, runRefusal}
+use Rattle.running.specs.Activate.{activateTable}
+use Rattle.running.specs.Run.{runApplied, runRounds, runExhausted, runTable}
+use Rattle.running.specs.Examples.{lent, RunExamples}
+
+pub run-examples : RunExamples
+unfolding
+    threeRouters lent activateTable runApplied runRounds runExhausted runTable
+    sequenceOk egressListRefusal tableChecks activateRefusal runRefusal readRoute tableOf activateBytes runBytes
+    acted roundsFrom rounds reflects advertises hears senderOf routeTo choice choose entryOk tableOk prefers
+    pairs inSession named refuse bodyChecks planChecks planRefusal
+    headerOk routerCountOk kindsOk placesOk sizesOk contentsOk routerOk routersOk sessionOk sessionsOk distanceOk distanceRowOk distancesOk
+    listPlace memberOk listAtOk listOk eachListOk listsOk allBelow anyBelow keepBest best tab
+run-examples =
+    record {
+      appliedToTheLimit = refl;
+      appliedToTheEnd = refl;
+      roundsToTheLimit = refl;
+      roundsToTheEnd = refl;
+      roundsOfNoActs = refl;
+      exhausted = refl;
+      notExhausted = refl;
+      tableToTheLimit = refl;
+      tableToTheEnd = refl;
+      activated = refl;
+      refusedApplied = refl;
+      refusedExhausted = refl;
+      refusedTable = refl;
+      refusedActivation = refl;
+    }
