@@ -1,3 +1,4 @@
+pub mod Lent
 pub mod Numbers
 pub mod Below
 pub mod Best
