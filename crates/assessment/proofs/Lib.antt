@@ -1,2 +1,1 @@
-pub mod ByRank
 pub mod Relations

@@ -29,7 +29,7 @@ use Rattle.activation.specs.TableBytes.{tableBytes}
 use Rattle.reliance.specs.RelianceRows.{RelianceRows}
 use Rattle.assessment.specs.Assessed.{reliance, isStable, highestOf, cycleOf, Assessed}
 use Rattle.assessment.specs.declared.Assessment.the-variants.{Stable, Suspect}
-use Rattle.assessment.specs.ByRank.{highestIn}
+use Rattle.settled.specs.ByRank.{highestIn}
 
 module _ (I : Instance) (before relied : List ℕ) (h : RelianceRows I before relied) where
   related : Agree (bits relied) (reliance I) (I .n)

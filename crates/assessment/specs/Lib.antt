@@ -1,2 +1,1 @@
 pub mod Assessed
-pub mod ByRank

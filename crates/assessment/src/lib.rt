@@ -1,7 +1,5 @@
 // The verdict over a network read from a plan: groups, and ranks with the settled table or a cycle.
 
-pub mod settled;
-
 ghost use Prim.Native.Nat.{_*_, _≤_};
 ghost use lib.ListN.{length};
 ghost use Rattle.base.specs.Lent.{lent};
@@ -35,7 +33,7 @@ pub fn assess(
     let mut relied = [0u64; 64];
     reliance::reliances::reliance_rows(net, rows, distances, &mut relied);
     let mut closed = relied;
-    graph::closing::close(&mut closed, n);
+    closing::close(&mut closed, n);
     graph::groups::labels(&closed, n, labels);
     if graph::groups::is_stable(&closed, n) {
         let highest = ranking::ranks(&relied, n, ranks);

@@ -1,6 +1,3 @@
-// One reader for each of the plan's four bodies, over its own part of the plan: refusals 4 to 7.
+// The distances, and the rules of the plan's four bodies in specs/: refusals 4 to 7. The other readers are router_bodies and list_body.
 
 pub mod distances;
-pub mod lists;
-pub mod routers;
-pub mod sessions;

@@ -1,40 +1,4 @@
-// The first six bytes and the plan's length: refusals 1 and 2.
-
-ghost use mathlib.Core.Path.{_≡_};
-ghost use Rattle.contents.specs.Header.{headerOk, routerCountOk};
+// The plan's first bytes.
 
 // The byte of n, the number of routers.
 pub const ROUTER_COUNT: usize = 4;
-
-pub fn header_ok(plan: &[u8]) -> bool
-    ensures { λ r. ⌜ r ≡ headerOk (now (plan .entry)) ⌝ }
-{
-    if plan.len() < 26 {
-        return false;
-    }
-    if 16731 < plan.len() {
-        return false;
-    }
-    if plan[0] != b'R' {
-        return false;
-    }
-    if plan[1] != b'R' {
-        return false;
-    }
-    if plan[2] != b'P' {
-        return false;
-    }
-    if plan[3] != b'1' {
-        return false;
-    }
-    plan[5] == 4
-}
-
-pub fn router_count_ok(n: u8) -> bool
-    ensures { λ r. ⌜ r ≡ routerCountOk n ⌝ }
-{
-    if n < 1 {
-        return false;
-    }
-    n <= 64
-}

@@ -15,11 +15,11 @@ fn bodies_refusal(plan: &[u8], table: [entries::Entry; 4], n: u8) -> u8
     ensures { λ r. ⌜ r ≡ bodyChecks (now (plan .entry)) table n 0 ⌝ }
 {
     let routers = entries::body_of(plan, table[entries::ROUTERS]);
-    if !bodies::routers::routers_ok(routers, n as usize) {
+    if !router_bodies::routers::routers_ok(routers, n as usize) {
         return 4;
     }
     let sessions = entries::body_of(plan, table[entries::SESSIONS]);
-    if !bodies::sessions::sessions_ok(sessions, n) {
+    if !router_bodies::sessions::sessions_ok(sessions, n) {
         return 5;
     }
     let distances = entries::body_of(plan, table[entries::DISTANCES]);
@@ -27,7 +27,7 @@ fn bodies_refusal(plan: &[u8], table: [entries::Entry; 4], n: u8) -> u8
         return 6;
     }
     let lists = entries::body_of(plan, table[entries::LISTS]);
-    if !bodies::lists::lists_ok(lists, n) {
+    if !list_body::lists_ok(lists, n) {
         return 7;
     }
     0
@@ -36,11 +36,11 @@ fn bodies_refusal(plan: &[u8], table: [entries::Entry; 4], n: u8) -> u8
 pub fn refusal(plan: &[u8]) -> u8
     ensures { λ r. ⌜ r ≡ planRefusal (now (plan .entry)) ⌝ }
 {
-    if !header::header_ok(plan) {
+    if !head::header_ok(plan) {
         return 1;
     }
     let n = plan[header::ROUTER_COUNT];
-    if !header::router_count_ok(n) {
+    if !head::router_count_ok(n) {
         return 2;
     }
     let table = entries::read_contents(plan);
