@@ -1,10 +1,9 @@
 -- The bytes of a kind 3 body: how many they are, and what is read of them.
-use Prim.Native.Nat.{ℕ, _+_, _*_, _≤_, _<_}
+use Prim.Native.Nat.{ℕ, _+_, _*_, _<_}
 use native.Mathlib.Nat.{add-zero, mul-assoc, mul-comm}
 use native.Mathlib.Omega.{arith}
 use mathlib.Core.Path.{_≡_, refl, _∙_, ap}
-use mathlib.Core.List.{List, _++_}
-use lib.ListN.{length, getD, drop, length-append, length-drop}
+use lib.ListN.{length, getD}
 use Rattle.bodies.specs.Distances.{distanceIn}
 use Rattle.links.specs.Distances.{wordOf, rowOf, bodyOf}
 use Rattle.base.proofs.Joined.{length-joined, getD-joined, joined-cong}
@@ -16,10 +15,6 @@ length-row distance n = length-joined (λ e. wordOf (distance e)) 2 (λ e. refl)
 pub length-body : (distance : ℕ → ℕ → ℕ) (n : ℕ) → length (bodyOf distance n) ≡ 2 * (n * n)
 unfolding bodyOf
 length-body distance n = length-joined (λ u. rowOf (distance u) n) (2 * n) (λ u. length-row (distance u) n) n ∙ mul-assoc 2 n n
-
-pub body-over : (distance : ℕ → ℕ → ℕ) (n : ℕ) (out after : List ℕ) → 2 * (n * n) ≤ length out → after ≡ bodyOf distance n ++ drop (2 * (n * n)) out → length after ≡ length out
-body-over distance n out after h e =
-    ap length e ∙ length-append (bodyOf distance n) (drop (2 * (n * n)) out) ∙ omega (arith, length-body distance n, length-drop (2 * (n * n)) out)
 
 pub body-cong : (f g : ℕ → ℕ → ℕ) (n : ℕ) → ((u e : ℕ) → u < n → e < n → f u e ≡ g u e) → bodyOf f n ≡ bodyOf g n
 unfolding bodyOf rowOf

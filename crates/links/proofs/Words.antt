@@ -17,22 +17,19 @@ use Rattle.base.proofs.Below.{all-at, all-cong}
 use Rattle.base.proofs.Numbers.{both-left, both-right, not-both, eq-or-ne, lt-or-le}
 use Rattle.links.specs.Sheet.{linkCount, linkFrom, linkTo, linkWeight}
 use Rattle.links.specs.Sums.{Sums, lesser, plus, nowhere, staying, linked, direct, through, cell, summing}
-use Rattle.links.specs.Words.{word, capped, wordAt, Holds, HasWords, RowLowered, RowsLowered, rowFits, wordsFit}
+use Rattle.links.specs.Words.{word, capped, wordAt, Holds, RowLowered, RowsLowered, rowFits, wordsFit}
 use Rattle.links.specs.Distances.{fits, sumsOk, bodyOf, distanceOf}
 use Rattle.links.specs.Passed.{Sheet}
 use Rattle.links.proofs.LeastSums.{stage-none, stage-more}
 use Rattle.links.proofs.KindThree.{body-cong}
 
-word-most : (x : Option ℕ) → word x ≤ 131071
+word-most : (x : Option ℕ) → word x ≤ 65535
 word-most none = omega arith
 word-most (some d) = omega arith
 
-pub has-words : (D : Sums) (n : ℕ) (t : List ℕ) → Holds D n t → HasWords n t
-has-words D n t h = record { long = h .long; most = λ i j l m. rw (h .are i j l m) (word-most (D i j)) }
-
 -- sums that are the same below n
 holds-same : (D E : Sums) (n : ℕ) (t : List ℕ) → ((i j : ℕ) → i < n → j < n → D i j ≡ E i j) → Holds D n t → Holds E n t
-holds-same D E n t e h = record { long = h .long; are = λ i j l m. h .are i j l m ∙ ap word (e i j l m) }
+holds-same D E n t e h = record { room = h .room; are = λ i j l o. h .are i j l o ∙ ap word (e i j l o) }
 
 -- one word lowered
 word-linked : (x : Option ℕ) (w : ℕ) → w ≤ 65535 → min (word x) w ≡ word (lesser x (some w))
@@ -55,24 +52,25 @@ module _ (n : ℕ) (small : n ≤ 64) where
       (D : Sums) (t : List ℕ) (f g w : ℕ) → f < n → g < n → w ≤ 65535 → Holds D n t →
       Holds (linked D f g w) n (set t (64 * f + g) (min (wordAt t f g) w))
   holds-linked D t f g w a b u h = record {
-    long = simp length-set (h .long);
-    are = λ i j l m. ⊎-elim (here i j l m) (there i j l m) (eq-or-ne (64 * i + j) (64 * f + g));
+    room = simp length-set (h .room);
+    are = λ i j l o. ⊎-elim (here i j l o) (there i j l o) (eq-or-ne (64 * i + j) (64 * f + g));
   }
     where
       lowered : ℕ
       lowered = min (wordAt t f g) w
 
       here : (i j : ℕ) → i < n → j < n → 64 * i + j ≡ 64 * f + g → wordAt (set t (64 * f + g) lowered) i j ≡ word (linked D f g w i j)
-      here i j l m e =
+      here i j l o e =
           let p : f ≡ i = omega arith in
           let q : g ≡ j = omega arith in
-          rw (eq-eqb f i p, eq-eqb g j q, e, getD-set-same t (64 * f + g) lowered 0 (omega (arith, h .long)), h .are f g a b, p, q)
+          rw (eq-eqb f i p, eq-eqb g j q, e, getD-set-same t (64 * f + g) lowered 0 (omega (arith, h .room)), h .are f g a b, p, q)
           (word-linked (D i j) w u)
 
-      there : (i j : ℕ) → i < n → j < n → (64 * i + j ≡ 64 * f + g → ⊥) → wordAt (set t (64 * f + g) lowered) i j ≡ word (linked D f g w i j)
-      there i j l m e =
+      there :
+          (i j : ℕ) → i < n → j < n → (64 * i + j ≡ 64 * f + g → ⊥) → wordAt (set t (64 * f + g) lowered) i j ≡ word (linked D f g w i j)
+      there i j l o e =
           rw (other-pair f g i j (λ p q. e (omega arith)), lesser-none (D i j))
-          (getD-set-other t (64 * f + g) (64 * i + j) lowered 0 e ∙ h .are i j l m)
+          (getD-set-other t (64 * f + g) (64 * i + j) lowered 0 e ∙ h .are i j l o)
 
 -- the walk of no link at routers below k, a router a turn
 unfoldable pub stays : ℕ → Sums
@@ -105,7 +103,9 @@ stays-all n i j l m =
     ⊎-elim (λ (e : i ≡ j). rw (eq-eqb i j e, e) (stays-on n j m)) (λ (e : i ≡ j → ⊥). rw (ne-eqb i j e) (stays-off n i j e)) (eq-or-ne i j)
 
 module _ (n : ℕ) (small : n ≤ 64) where
-  pub stay-more : (t after : List ℕ) (i : ℕ) → i < n → Holds (stays i) n t → after ≡ set t (64 * i + i) (min (wordAt t i i) 0) → Holds (stays (i + 1)) n after
+  pub stay-more :
+      (t after : List ℕ) (i : ℕ) → i < n → Holds (stays i) n t → after ≡ set t (64 * i + i) (min (wordAt t i i) 0) →
+      Holds (stays (i + 1)) n after
   unfolding stays
   stay-more t after i l h e = rw (add-one, e) (holds-linked n small (stays i) t i i 0 l l (omega arith) h)
 
@@ -155,41 +155,42 @@ module _ (n k : ℕ) (t₀ : List ℕ) where
   rows-start = record { long = refl; rows = λ i j l. absurd (omega arith); others = λ i j l m. refl }
 
   pub rows-more :
-      (beyond d t after : List ℕ) (i : ℕ) → n ≤ 64 → k < n → beyond ≡ tab (wordAt t₀ k) n ++ drop n d →
+      (m : ℕ) (beyond d t after : List ℕ) (i : ℕ) → n ≤ m → m ≤ 64 → k < n → beyond ≡ tab (wordAt t₀ k) m ++ drop m d →
       RowsLowered n k t₀ i t →
-      RowLowered (wordAt t i k) beyond t i n after →
+      RowLowered (wordAt t i k) beyond t i m after →
       RowsLowered n k t₀ (i + 1) after
-  rows-more beyond d t after i small u b h r = record {
+  rows-more m beyond d t after i enough small u b h r = record {
     long = r .long ∙ h .long;
-    rows = λ a j l m. ⊎-elim (here a j m) (there a j l m) (eq-or-ne a i);
-    others = λ a j l m. r .later (64 * a + j) (omega arith) ∙ h .others a j (omega arith) m;
+    rows = λ a j l o. ⊎-elim (here a j o) (there a j l o) (eq-or-ne a i);
+    others = λ a j l o. r .later (64 * a + j) (omega arith) ∙ h .others a j (omega arith) o;
   }
     where
       here : (a j : ℕ) → j < n → a ≡ i → wordAt after a j ≡ min (wordAt t₀ a j) (capped (wordAt t₀ a k + wordAt t₀ k j))
-      here a j m e = rw (e, r .row j m, getD-written (wordAt t₀ k) n 0 d beyond b j m, h .others i j (omega arith) m, h .others i k (omega arith) u)
+      here a j o e =
+          let first = getD-written (wordAt t₀ k) m 0 d beyond b j (omega arith) in
+          rw (e, r .row j (omega arith), first, h .others i j (omega arith) o, h .others i k (omega arith) u)
 
       there : (a j : ℕ) → a < i + 1 → j < n → (a ≡ i → ⊥) → wordAt after a j ≡ min (wordAt t₀ a j) (capped (wordAt t₀ a k + wordAt t₀ k j))
-      there a j l m e = r .earlier (64 * a + j) (omega arith) ∙ h .rows a j (omega arith) m
+      there a j l o e = r .earlier (64 * a + j) (omega arith) ∙ h .rows a j (omega arith) o
 
-  -- what it is lowered to is made up of words
-  module _ (h : HasWords n t₀) (u : k < n) where
-    pub first-most : (t : List ℕ) (i : ℕ) → i < n → RowsLowered n k t₀ i t → wordAt t i k ≤ 131071
-    first-most t i l r = rw (r .others i k (omega arith) u) (h .most i k l u)
-
-    pub beyond-most : (beyond d : List ℕ) → beyond ≡ tab (wordAt t₀ k) n ++ drop n d → (j : ℕ) → j < n → getD beyond j 0 ≤ 131071
-    beyond-most beyond d b j l = rw (getD-written (wordAt t₀ k) n 0 d beyond b j l) (h .most k j u l)
+  -- nothing goes first to k from a row that has no walk there
+  pub rows-skip :
+      (t : List ℕ) (i : ℕ) → ((p : ℕ) → getD t p 0 < 65536) → k < n → RowsLowered n k t₀ i t → wordAt t i k ≡ 65535 →
+      RowsLowered n k t₀ (i + 1) t
+  rows-skip t i words u h e = record {
+    long = h .long;
+    rows = λ a j b m. ⊎-elim (here a j m) (λ (g : a ≡ i → ⊥). h .rows a j (omega arith) m) (eq-or-ne a i);
+    others = λ a j b m. h .others a j (omega arith) m;
+  }
+    where
+      here : (a j : ℕ) → j < n → a ≡ i → wordAt t a j ≡ min (wordAt t₀ a j) (capped (wordAt t₀ a k + wordAt t₀ k j))
+      here a j m g = rw g (omega (arith, h .others i j (omega arith) m, sym (h .others i k (omega arith) u) ∙ e, words (64 * i + j)))
 
 -- the word of the lesser of a sum and of two sums' sum
-capped-none : (x : ℕ) → 131071 ≤ x → capped x ≡ 131071
-capped-none x h = rw (le-leb 131071 x h)
-
-capped-sum : (x : ℕ) → x < 131071 → capped x ≡ min x 65535
-capped-sum x h = rw (lt-leb 131071 x h)
-
 word-plus : (x y : Option ℕ) → capped (word x + word y) ≡ word (plus x y)
-word-plus none y = capped-none (131071 + word y) (omega arith)
-word-plus (some a) none = capped-none (min a 65535 + 131071) (omega arith)
-word-plus (some a) (some b) = capped-sum (min a 65535 + min b 65535) (omega arith) ∙ omega arith
+word-plus none y = omega arith
+word-plus (some a) none = omega arith
+word-plus (some a) (some b) = omega arith
 
 word-lesser : (x y : Option ℕ) → min (word x) (word y) ≡ word (lesser x y)
 word-lesser none y = omega (arith, word-most y)
@@ -198,23 +199,25 @@ word-lesser (some a) (some b) = omega arith
 
 holds-through : (D : Sums) (n k : ℕ) (t after : List ℕ) → k < n → Holds D n t → RowsLowered n k t n after → Holds (through D k) n after
 holds-through D n k t after u h r = record {
-  long = r .long ∙ h .long;
+  room = rw (r .long) (h .room);
   are =
-      λ i j l m.
-      r .rows i j l m
-      ∙ ap₂ min (h .are i j l m) (ap₂ (λ x y. capped (x + y)) (h .are i k l u) (h .are k j u m) ∙ word-plus (D i k) (D k j))
+      λ i j l o.
+      r .rows i j l o
+      ∙ ap₂ min (h .are i j l o) (ap₂ (λ x y. capped (x + y)) (h .are i k l u) (h .are k j u o) ∙ word-plus (D i k) (D k j))
       ∙ word-lesser (D i j) (plus (D i k) (D k j));
 }
 
 -- the stages, one router more a turn
 module _ (s : List ℕ) (n : ℕ) where
   pub sums-start : (t : List ℕ) → Holds (direct s (linkCount s)) n t → Holds (cell (summing s n 0)) n t
-  sums-start t = holds-same (direct s (linkCount s)) (cell (summing s n 0)) n t (λ i j l m. sym (stage-none s n i j l m))
+  sums-start t = holds-same (direct s (linkCount s)) (cell (summing s n 0)) n t (λ i j l o. sym (stage-none s n i j l o))
 
-  pub sums-more : (t after : List ℕ) (k : ℕ) → k < n → Holds (cell (summing s n k)) n t → RowsLowered n k t n after → Holds (cell (summing s n (k + 1))) n after
+  pub sums-more :
+      (t after : List ℕ) (k : ℕ) → k < n → Holds (cell (summing s n k)) n t → RowsLowered n k t n after →
+      Holds (cell (summing s n (k + 1))) n after
   sums-more t after k u h r =
       rw add-one
-      (holds-same (through (cell (summing s n k)) k) (cell (summing s n (suc k))) n after (λ i j l m. sym (stage-more s n k i j l m))
+      (holds-same (through (cell (summing s n k)) k) (cell (summing s n (suc k))) n after (λ i j l o. sym (stage-more s n k i j l o))
       (holds-through (cell (summing s n k)) n k t after u h r))
 
 -- the words of sums that are distances
@@ -232,14 +235,14 @@ word-distance (some d) h = omega (arith, leb-true d 65534 h)
 module _ (D : Sums) (n : ℕ) (t : List ℕ) (h : Holds D n t) where
   pub words-fit : wordsFit t n ≡ sumsOk D n
   unfolding wordsFit rowFits sumsOk
-  words-fit = all-cong _ _ n (λ u l. all-cong _ _ n (λ e m. ap (λ x. leb x 65534) (h .are u e l m) ∙ word-fits (D u e)))
+  words-fit = all-cong _ _ n (λ u l. all-cong _ _ n (λ e o. ap (λ x. leb x 65534) (h .are u e l o) ∙ word-fits (D u e)))
 
   pub words-body : sumsOk D n ≡ true → bodyOf (wordAt t) n ≡ bodyOf (λ u e. distanceOf (D u e)) n
   unfolding sumsOk
-  words-body ok = body-cong _ _ n (λ u e l m. h .are u e l m ∙ word-distance (D u e) (all-at _ n (all-at _ n ok u l) e m))
+  words-body ok = body-cong _ _ n (λ u e l o. h .are u e l o ∙ word-distance (D u e) (all-at _ n (all-at _ n ok u l) e o))
 
-pub no-walks : (n : ℕ) → n ≤ 64 → Holds nowhere n (replicate 4096 131071)
-no-walks n small = record {
-  long = length-replicate {A = ℕ} 4096 131071;
-  are = λ i j l m. getD-replicate 4096 (64 * i + j) 131071 0 (omega arith);
+pub no-walks : (n m : ℕ) → n ≤ 64 → 64 * n ≤ m → Holds nowhere n (replicate m 65535)
+no-walks n m small room = record {
+  room = rw (length-replicate {A = ℕ} m 65535) room;
+  are = λ i j l o. getD-replicate m (64 * i + j) 65535 0 (omega arith);
 }

@@ -1,7 +1,7 @@
 -- Sums as the code holds them: a word each, 64 words a router.
 use Prim.Native.Nat.{ℕ, _+_, _*_, _≤_, _<_, min}
 use mathlib.Core.Path.{_≡_}
-use mathlib.Core.Bool.{Bool, cond}
+use mathlib.Core.Bool.{Bool}
 use mathlib.Core.List.{List}
 use mathlib.Core.Option.{Option, none, some}
 use lib.Dec.{leb}
@@ -9,14 +9,14 @@ use lib.ListN.{length, getD}
 use Rattle.base.specs.Below.{allBelow}
 use Rattle.links.specs.Sums.{Sums}
 
--- the word of a sum, and of none: no two sums make up that
+-- the word of a sum: one above 65,534 is held as 65,535, and so is no walk
 abbrev pub word : Option ℕ → ℕ
-word none = 131071
+word none = 65535
 word (some d) = min d 65535
 
 -- the word of the sum of two words
 abbrev pub capped : ℕ → ℕ
-capped x = cond (leb 131071 x) 131071 (min x 65535)
+capped x = min x 65535
 
 -- row i, column j of a table of words
 abbrev pub wordAt : List ℕ → ℕ → ℕ → ℕ
@@ -24,13 +24,8 @@ wordAt t i j = getD t (64 * i + j) 0
 
 -- t holds the words of the sums D below n
 pub record Holds (D : Sums) (n : ℕ) (t : List ℕ) : Type 0 where
-  pub long : length t ≡ 4096
+  pub room : 64 * n ≤ length t
   pub are : (i j : ℕ) → i < n → j < n → wordAt t i j ≡ word (D i j)
-
--- so it has words only
-pub record HasWords (n : ℕ) (t : List ℕ) : Type 0 where
-  pub long : length t ≡ 4096
-  pub most : (i j : ℕ) → i < n → j < n → wordAt t i j ≤ 131071
 
 -- in columns below m, row i has come down to `first` and what `beyond` adds to it; all other words are as before
 pub record RowLowered (first : ℕ) (beyond before : List ℕ) (i m : ℕ) (after : List ℕ) : Type 0 where

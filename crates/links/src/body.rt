@@ -7,8 +7,8 @@ ghost use lib.ListN.{length, take, drop};
 ghost use Rattle.links.specs.Distances.{rowOf, bodyOf};
 ghost use Rattle.links.specs.Words.{wordAt, rowFits, wordsFit};
 
-fn row_fits(words: &[u32; 4096], n: usize, u: usize) -> bool
-    requires { ⌜ (n ≤ 64) × (u < 64) ⌝ }
+fn row_fits(words: &[u16], n: usize, u: usize) -> bool
+    requires { ⌜ (n ≤ 64) × (u < n) × (64 * n ≤ length (now words)) ⌝ }
     ensures { λ r. ⌜ r ≡ rowFits (now (words .entry)) n u ⌝ }
 {
     let mut e = 0;
@@ -22,8 +22,8 @@ fn row_fits(words: &[u32; 4096], n: usize, u: usize) -> bool
 }
 
 // Whether every word is at most 65,534.
-pub fn words_fit(words: &[u32; 4096], n: usize) -> bool
-    requires { ⌜ n ≤ 64 ⌝ }
+pub fn words_fit(words: &[u16], n: usize) -> bool
+    requires { ⌜ (n ≤ 64) × (64 * n ≤ length (now words)) ⌝ }
     ensures { λ r. ⌜ r ≡ wordsFit (now (words .entry)) n ⌝ }
 {
     let mut u = 0;
@@ -37,8 +37,8 @@ pub fn words_fit(words: &[u32; 4096], n: usize) -> bool
 }
 
 // Writes row u from `at` on, each word in two bytes, low byte first.
-fn write_row(words: &[u32; 4096], n: usize, u: usize, out: &mut [u8], at: usize)
-    requires { ⌜ (n ≤ 64) × (u < 64) × (at + 2 * n ≤ length (now out)) ⌝ }
+fn write_row(words: &[u16], n: usize, u: usize, out: &mut [u8], at: usize)
+    requires { ⌜ (n ≤ 64) × (u < n) × (64 * n ≤ length (now words)) × (at + 2 * n ≤ length (now out)) ⌝ }
     ensures { λ _. ⌜ now (out .exit) ≡ take at (now (out .entry)) ++ rowOf (wordAt (now (words .entry)) u) n
         ++ drop (at + 2 * n) (now (out .entry)) ⌝ }
 {
@@ -52,8 +52,8 @@ fn write_row(words: &[u32; 4096], n: usize, u: usize, out: &mut [u8], at: usize)
 }
 
 // Writes all rows, one after the other.
-pub fn write_body(words: &[u32; 4096], n: usize, out: &mut [u8])
-    requires { ⌜ (n ≤ 64) × (2 * (n * n) ≤ length (now out)) ⌝ }
+pub fn write_body(words: &[u16], n: usize, out: &mut [u8])
+    requires { ⌜ (n ≤ 64) × (64 * n ≤ length (now words)) × (2 * (n * n) ≤ length (now out)) ⌝ }
     ensures { λ _. ⌜ now (out .exit) ≡ bodyOf (wordAt (now (words .entry))) n ++ drop (2 * (n * n)) (now (out .entry)) ⌝ }
 {
     let mut row = 0;

@@ -4,7 +4,30 @@ mod body;
 mod sheet;
 mod sums;
 
+ghost use mathlib.Core.Path.{_≡_};
+ghost use mathlib.Core.Bool.{true};
+ghost use Prim.Native.Nat.{_≤_};
+ghost use Rattle.contents.specs.Header.{routerCountOk};
+ghost use Rattle.links.specs.Sheet.{sheetOk};
+ghost use Rattle.links.specs.Sums.{nowhere};
+ghost use Rattle.links.specs.Words.{Holds};
 ghost use Rattle.links.specs.Distances.{DistancesCall};
+
+// The call for a number of routers and links that pass. The least sums are worked out in `words`.
+fn least_body(n: usize, links: &[u8], words: &mut [u16], out: &mut [u8]) -> u8
+    requires { ⌜ (n ≤ 64) × (routerCountOk n ≡ true) × (sheetOk (now links) n ≡ true) × Holds nowhere n (now words) ⌝ }
+    ensures { λ r. ⌜ DistancesCall n (now (links .entry)) r (now (out .entry)) (now (out .exit)) ⌝ }
+{
+    sums::least_sums(links, n, words);
+    if !body::words_fit(words, n) {
+        return 12;
+    }
+    if out.len() < 2 * (n * n) {
+        return 9;
+    }
+    body::write_body(words, n, out);
+    0
+}
 
 // Writes the least sum of weights over all walks from each router to each, two bytes each, row by row. Returns the refusal, 0 for none.
 pub fn distances(n: usize, links: &[u8], out: &mut [u8]) -> u8
@@ -19,14 +42,11 @@ pub fn distances(n: usize, links: &[u8], out: &mut [u8]) -> u8
     if !sheet::sheet_ok(links, n as u8) {
         return 11;
     }
-    let mut words = [sums::NO_WALK; 4096];
-    sums::least_sums(links, n, &mut words);
-    if !body::words_fit(&words, n) {
-        return 12;
+    // a smaller table is filled sooner
+    if n <= 8 {
+        let mut few = [sums::FAR; 512];
+        return least_body(n, links, &mut few, out);
     }
-    if out.len() < 2 * (n * n) {
-        return 9;
-    }
-    body::write_body(&words, n, out);
-    0
+    let mut words = [sums::FAR; 4096];
+    least_body(n, links, &mut words, out)
 }

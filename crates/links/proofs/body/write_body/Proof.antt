@@ -19,11 +19,12 @@ abbrev μ-loop : tie.MeasureT-loop
 
 loop-holds : tie.Need-loop-holds Inv-loop μ-loop
 loop-holds c =
-    let n : ℕ = c .before .args .n in
+    let n : ℕ = c .before .before .args .n in
     join-start _ _ (λ u. length-row _ n) n _ 0 (omega (arith, mul-assoc 2 n n))
 
 room : (c : tie.After-write-row-arg Inv-loop μ-loop) →
-    let n = c .before .before .before .before .args .n in 2 * n * c .before .before .loop .row + 2 * n ≤ length (c .before .before .loop .out)
+    let u = c .before .before in
+    let n = u .before .before .before .args .n in 2 * n * u .loop .row + 2 * n ≤ length (u .loop .out)
 room c = omega (arith, join-room _ _ (λ u. length-row _ _) _ _ 0 _ _ (c .before .before .loop .inv) (c .before .loop-test .taken))
 
 loop-again : tie.Need-loop-again Inv-loop μ-loop
@@ -35,8 +36,9 @@ loop-again c =
 returns : tie.Need-returns Inv-loop μ-loop
 unfolding bodyOf
 returns c =
-    let n : ℕ = c .before .before .before .args .n in
-    rw (zero-add (2 * n * n), mul-assoc 2 n n) at (join-done _ _ (λ u. length-row _ _) _ _ 0 _ _ (c .before .loop .inv) (c .loop-test .left))
+    let n : ℕ = c .before .before .before .before .args .n in
+    rw (zero-add (2 * n * n), mul-assoc 2 n n) at
+    (join-done _ _ (λ u. length-row _ _) _ _ 0 _ _ (c .before .loop .inv) (c .loop-test .left))
 
 pub write-body-spec : {M : Type 1} → statement M
 write-body-spec =
@@ -47,7 +49,7 @@ write-body-spec =
     loop-holds
     (λ c. search needs)
     (λ c. record { fits = omega (arith, room c, join-length _ _ (λ u. length-row _ _) _ _ 0 _ _ (c .before .before .loop .inv)) })
-    (λ c κs. (search needs, search needs, room c))
+    (λ c κs. (search needs, search needs, search needs, room c))
     (λ c. search needs)
     (λ c. search needs)
     loop-again

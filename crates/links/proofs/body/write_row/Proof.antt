@@ -16,7 +16,7 @@ Inv-loop words n u out₀ at e₀ out e = Joining (λ e. wordOf (wordAt words u 
 abbrev μ-loop : tie.MeasureT-loop
 μ-loop words n u out₀ at e₀ out e = n - e
 
-room : (c : tie.After-word Inv-loop μ-loop) →
+room : (c : tie.After-shared-slice-known Inv-loop μ-loop) →
     c .before .before .before .args .at + 2 * c .before .before .loop .e + 2 ≤ length (c .before .before .loop .out)
 room c = join-room _ 2 (λ e. refl) _ _ _ _ _ (c .before .before .loop .inv) (c .before .loop-test .taken)
 
@@ -34,7 +34,7 @@ write-row-spec =
     (tie.spec
     Inv-loop
     μ-loop
-    (λ c. join-start _ 2 (λ e. refl) _ _ _ (c .pre .2))
+    (λ c. join-start _ 2 (λ e. refl) _ _ _ (c .pre .3))
     (λ c. search needs)
     (λ c. search needs)
     (λ c. search needs)

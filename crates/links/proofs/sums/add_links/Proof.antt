@@ -1,8 +1,9 @@
 -- `links::sums::add_links`: the words are those of the sums over no link and one of the first k.
 use Prim.Native.Nat.{_-_, _≤_}
 use native.Mathlib.Omega.{arith}
-use mathlib.Core.Path.{_≡_}
+use mathlib.Core.Path.{_≡_, refl}
 use borrow.Author.Needs.{needs}
+use lib.ListN.{length}
 use Rattle.links.specs.Sheet.{linkCount}
 use Rattle.links.specs.Sums.{direct}
 use Rattle.links.specs.Words.{Holds}
@@ -12,7 +13,7 @@ use Rattle.links.proofs.sums.add_links.Statement.{statement}
 use Rattle.links.proofs.sums.add_links.Tie as tie
 
 abbrev Inv-loop : tie.InvT-loop
-Inv-loop links n words₀ count k₀ words k = Holds (direct links k) n words × (k ≤ count)
+Inv-loop links n words₀ count k₀ words k = Holds (direct links k) n words × (k ≤ count) × (length words ≡ length words₀)
 
 abbrev μ-loop : tie.MeasureT-loop
 μ-loop links n words₀ count k₀ words k = count - k
@@ -22,23 +23,24 @@ turn c = c .before .before .before .before .before .before .before
 
 lower-requires : tie.Need-lower-requires Inv-loop μ-loop
 lower-requires c κs =
-    let sheet = sheet-facts _ _ (turn c .before .before .pre .1) in
+    let sheet = sheet-facts _ _ (turn c .before .before .before .pre .1) in
     let from = sheet .froms (turn c .loop .k) (search needs) in
-    let to = sheet .tos (turn c .loop .k) (search needs) in (
-      omega (arith, from, to, c .before .before .before .before .wide .ensures .0, c .before .before .wide2 .ensures .0),
-      omega (arith, from, to, c .before .before .before .before .wide .ensures .0, c .before .before .wide2 .ensures .0),
-    )
+    let to = sheet .tos (turn c .loop .k) (search needs) in
+    let room = turn c .loop .inv .0 .room in
+    omega (arith, room, from, to, c .before .before .before .before .wide .ensures .0, c .before .before .wide2 .ensures .0)
 
 loop-again : tie.Need-loop-again Inv-loop μ-loop
 loop-again c =
-    let b = c .before in
-    let p = turn b .before .before .pre in (
-      direct-more _ (p .0) _ (sheet-facts _ _ (p .1)) _ _ (turn b .loop .k) _ _ _ (search needs) (b .before .before .before .before .wide .ensures .0)
+    let b = c .before .before .before in
+    let p = turn b .before .before .before .pre in (
+      direct-more _ (p .0) _ (sheet-facts _ _ (p .1)) _ _ (turn b .loop .k) _ _ _ (search needs)
+          (b .before .before .before .before .wide .ensures .0)
           (b .before .before .wide2 .ensures .0)
           (b .before .read2 .ensures .0)
           (b .before .read2 .ensures .1)
           (turn b .loop .inv .0)
-          (c .lower .ensures),
+          (c .before .before .lower .ensures),
+      search needs,
       search needs,
     )
 
@@ -49,7 +51,7 @@ add-links-spec =
     (tie.spec
     Inv-loop
     μ-loop
-    (λ c. (c .before .pre .2, search needs))
+    (λ c. (c .before .before .pre .2, search needs, refl))
     (λ c. search needs)
     (λ c. search needs)
     (λ c κs. search needs)
@@ -65,4 +67,7 @@ add-links-spec =
     (λ c. search needs)
     (λ c. search needs)
     loop-again
-    (λ c. let e : c .before .loop .k ≡ linkCount (c .before .before .before .args .links .now) = omega arith in rw e at (c .before .loop .inv .0)))
+    (λ c. c .before .loop .inv .2)
+    (λ c.
+    let e : c .before .loop .k ≡ linkCount (c .before .before .before .before .args .links .now) = omega arith in
+    rw e at (c .before .loop .inv .0)))

@@ -16,4 +16,5 @@ lower-spec =
     (λ c κs. search needs)
     (λ c. search needs)
     (λ c. search needs)
-    (λ c. let a = c .before .before .args in ap (set (a .words .now) (64 * a .i + a .j)) (c .lesser .ensures)))
+    (λ c. search needs)
+    (λ c. let a = c .before .before .before .args in ap (set (a .words .now) (64 * a .i + a .j)) (c .lesser .ensures)))

@@ -9,10 +9,10 @@ use Rattle.links.proofs.sums.lower_row.Statement.{statement}
 use Rattle.links.proofs.sums.lower_row.Tie as tie
 
 abbrev Inv-loop : tie.InvT-loop
-Inv-loop words₀ n i first beyond j₀ words j = RowLowered first beyond words₀ i j words × (j ≤ n)
+Inv-loop words₀ m i first beyond j₀ words j = RowLowered first beyond words₀ i j words × (j ≤ m)
 
 abbrev μ-loop : tie.MeasureT-loop
-μ-loop words₀ n i first beyond j₀ words j = n - j
+μ-loop words₀ m i first beyond j₀ words j = m - j
 
 pub lower-row-spec : {M : Type 1} → statement M
 lower-row-spec =
@@ -23,14 +23,14 @@ lower-row-spec =
     (λ c. (row-start _ _ _ _, search needs))
     (λ c. search needs)
     (λ c. search needs)
-    (λ c κs.
-    let u = c .before .before .before in
-    let p = u .before .pre .1 in
-    (p .0, p .1 (u .loop .j) (c .before .before .loop-test .taken)))
     (λ c κs. search needs)
+    (λ c κs. let u = c .before .before .before .before in omega (arith, u .loop .inv .0 .long))
     (λ c. search needs)
     (λ c. search needs)
     (λ c.
-    let u = c .before .before .before .before .before in
-    (row-more _ _ _ _ _ _ (u .loop .j) _ (omega (arith, u .loop .inv .0 .long)) (u .loop .inv .0) (c .before .plus .ensures) (c .lower .ensures), search needs))
-    (λ c. let e : c .before .loop .j ≡ c .before .before .args .n = omega arith in rw e at (c .before .loop .inv .0)))
+    let l = c .before .before in
+    let u = l .before .before .before .before .before in
+    let h = u .loop .inv .0 in
+    (row-more _ _ _ _ _ _ (u .loop .j) _ (omega (arith, h .long)) h (l .before .plus .ensures) (l .lower .ensures), search needs))
+    (λ c. c .before .loop .inv .0 .long)
+    (λ c. let e : c .before .loop .j ≡ c .before .before .before .args .m = omega arith in rw e at (c .before .loop .inv .0)))

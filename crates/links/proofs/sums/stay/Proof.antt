@@ -1,13 +1,16 @@
 -- `links::sums::stay`: routers below u have the walk of no link.
 use Prim.Native.Nat.{_-_, _≤_}
+use native.Mathlib.Omega.{arith}
+use mathlib.Core.Path.{_≡_, refl}
 use borrow.Author.Needs.{needs}
+use lib.ListN.{length}
 use Rattle.links.specs.Words.{Holds}
 use Rattle.links.proofs.Words.{stays, stay-more, stay-done}
 use Rattle.links.proofs.sums.stay.Statement.{statement}
 use Rattle.links.proofs.sums.stay.Tie as tie
 
 abbrev Inv-loop : tie.InvT-loop
-Inv-loop words₀ n u₀ words u = Holds (stays u) n words × (u ≤ n)
+Inv-loop words₀ n u₀ words u = Holds (stays u) n words × (u ≤ n) × (length words ≡ length words₀)
 
 abbrev μ-loop : tie.MeasureT-loop
 μ-loop words₀ n u₀ words u = n - u
@@ -19,11 +22,15 @@ stay-spec =
     (tie.spec
     Inv-loop
     μ-loop
-    (λ c. (c .pre .1, search needs))
-    (λ c κs. search needs)
+    (λ c. (c .before .pre .1, search needs, refl))
+    (λ c κs. omega (arith, c .before .before .loop .inv .0 .room))
     (λ c. search needs)
     (λ c. search needs)
     (λ c.
-    let b = c .before .before .before in
-    (stay-more _ (b .before .pre .0) _ _ (b .loop .u) (search needs) (b .loop .inv .0) (c .lower .ensures), search needs))
-    (λ c. stay-done _ (c .before .before .pre .0) _ (c .before .loop .u) (c .before .loop .inv .1) (c .loop-test .left) (c .before .loop .inv .0)))
+    let b = c .before .before .before .before .before in
+    let lowered = c .before .before .lower .ensures in
+    (stay-more _ (b .before .before .pre .0) _ _ (b .loop .u) (search needs) (b .loop .inv .0) lowered, search needs, search needs))
+    (λ c. c .before .loop .inv .2)
+    (λ c.
+    let b = c .before in
+    stay-done _ (b .before .before .pre .0) _ (b .loop .u) (b .loop .inv .1) (c .loop-test .left) (b .loop .inv .0)))
