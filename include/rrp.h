@@ -1,9 +1,9 @@
 /* Checks BGP route-reflection plans: which routers rely on which for an egress list, whether the plan is stable for that
- * list, and what the routers hold as they are activated one by one.
+ * list, and what the routers hold as they are activated one by one. And works out a plan's distances from weighted links.
  *
- * Every call takes a plan's bytes and returns a number of enum rrp_refusal: 0 if it is not refused, else the lowest number that
- * applies. A refused call writes nothing, neither to a buffer nor to a result variable. Otherwise bytes of a buffer beyond those
- * named below are left as they are.
+ * Every call takes the bytes of a plan, or of a link sheet, and returns a number of enum rrp_refusal: 0 if it is not refused,
+ * else that of the first check in order that fails. A refused call writes nothing, neither to a buffer nor to a result variable.
+ * Otherwise bytes of a buffer beyond those named below are left as they are.
  *
  * Routers and lists are numbered from 0, in the plan's order; n is the plan's number of routers. A buffer may be longer than
  * needed: RRP_MAX_ROUTERS bytes are enough for labels, ranks and cycle, and RRP_MAX_TABLE bytes for a table.
@@ -14,9 +14,9 @@
  *
  * Routers are activated one at a time. A round ends as soon as every router has been activated since the last one ended.
  *
- * Pointers are not null, even with a length of 0. The plan, the sequence, the buffers and the result variables of one call do not
- * overlap one another. The library is built for a 64-bit machine. It keeps nothing between calls and allocates nothing, so calls
- * may run at once in several threads. */
+ * Pointers are not null, even with a length of 0. The plan or links, the sequence, the buffers and the result variables of one
+ * call do not overlap one another. The library is built for a 64-bit machine. It keeps nothing between calls and allocates
+ * nothing, so calls may run at once in several threads. */
 #ifndef RRP_H
 #define RRP_H
 
@@ -30,13 +30,14 @@ extern "C" {
 /* A size_t must have 64 bits: elsewhere this line does not compile. */
 typedef char rrp_size_t_has_64_bits[sizeof(size_t) == 8 ? 1 : -1];
 
-/* What a call returns, in the order of the checks. */
+/* What a call returns: 0, or the number of the first check that fails, which need not be the lowest that applies. The order of
+ * the checks is, for a plan, 1 to 10; for a link sheet, 2, 11, 12, 9. */
 enum rrp_refusal {
     /* not refused */
     RRP_OK = 0,
     /* fewer than 26 or more than 16,731 bytes, or bytes 0 to 3 are not the letters RRP1, or byte 5 is not 4 */
     RRP_NOT_A_PLAN = 1,
-    /* byte 4, the number of routers, is 0 or above 64 */
+    /* the number of routers, byte 4 of a plan, is 0 or above 64 */
     RRP_BAD_ROUTER_COUNT = 2,
     /* a kind, an offset or a length in the table of contents is wrong */
     RRP_BAD_CONTENTS = 3,
@@ -55,7 +56,12 @@ enum rrp_refusal {
     RRP_SHORT_BUFFER = 9,
     /* in a table handed over, a router of the list does not hold its own route, or another holds neither RRP_NONE twice nor an
      * egress below n with a neighbour as sender */
-    RRP_BAD_TABLE = 10
+    RRP_BAD_TABLE = 10,
+    /* the links' bytes are no multiple of four, there are more than 512 links, a link has a number that is no router's or a weight
+     * of 0, or the links do not rise strictly */
+    RRP_BAD_LINKS = 11,
+    /* from some router there is no walk to another, or the least sum of weights is above 65,534 */
+    RRP_TOO_FAR = 12
 };
 
 enum {
@@ -65,6 +71,9 @@ enum {
     RRP_MAX_PLAN = 16731,
     /* the bytes of the largest table */
     RRP_MAX_TABLE = 128,
+    /* the most links of a sheet, four bytes each, and the bytes of the largest distances, those of 64 routers */
+    RRP_MAX_LINKS = 512,
+    RRP_MAX_DISTANCES = 8192,
     /* no router, in a table */
     RRP_NONE = 255
 };
@@ -108,6 +117,13 @@ uint8_t rrp_activate(const uint8_t *plan, size_t plan_len, size_t list, size_t r
  * routers, 0 0 1 1 makes one round), and *exhausted 1 if the sequence is longer than the limit, else 0. Refusals 1 to 10. */
 uint8_t rrp_run(const uint8_t *plan, size_t plan_len, size_t list, const uint8_t *sequence, size_t sequence_len, uint64_t limit,
                 uint8_t *table, size_t table_len, uint64_t *applied, uint64_t *rounds, uint8_t *exhausted);
+
+/* Works out the distances between n routers from a sheet of links, in the form that a plan holds them in. A link has four bytes:
+ * the router that it leads from, the one that it leads to, and its weight, 1 to 65,535, low byte first. Links rise strictly, by
+ * the first router and then by the second. A link leads one way; where traffic goes both ways there are two. Needs 2 * n * n bytes
+ * of out. out[2 * (n * u + e)] and the byte after it become the least sum of weights over all walks from router u to router e, low
+ * byte first; it is 0 from a router to itself. Refusals 2, 11, 12 and 9, in this order. */
+uint8_t rrp_distances(size_t n, const uint8_t *links, size_t links_len, uint8_t *out, size_t out_len);
 
 #ifdef __cplusplus
 }

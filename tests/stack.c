@@ -1,6 +1,6 @@
-/* Measures the stack that each call of the library uses on a plan and its list 0. A call runs on a stack of its own that was filled with a
- * pattern; what it uses is all from the first changed byte to the caller's frame, its return address and the arguments handed over on the stack
- * included. Each call is made for every router of the plan, and the most is printed.
+/* Measures the stack that each call of the library uses: on a plan and its list 0, or on 512 links among 64 routers. A call runs on a stack
+ * of its own that was filled with a pattern; what it uses is all from the first changed byte to the caller's frame, its return address and
+ * the arguments handed over on the stack included. Each call is made for every router of the plan, and the most is printed.
  * usage: stack PLAN        Prints a line for the verdict found, then one a call, in bytes. Fails if a call is refused. */
 #include <stdio.h>
 #include <stdlib.h>
@@ -8,7 +8,7 @@
 #include <ucontext.h>
 #include "rrp.h"
 
-enum { STACK = 1 << 16, PATTERN = 0xa5, ACTIVATIONS = 1000 };
+enum { STACK = 1 << 16, PATTERN = 0xa5, ACTIVATIONS = 1000, LINKS = 512 };
 
 static unsigned char stack[STACK];
 static ucontext_t caller, callee;
@@ -18,6 +18,7 @@ static uint8_t plan[RRP_MAX_PLAN + 1];
 static size_t length, router, other;
 static uint8_t labels[RRP_MAX_ROUTERS], ranks[RRP_MAX_ROUTERS], settled[RRP_MAX_TABLE], cycle[RRP_MAX_ROUTERS];
 static uint8_t table[RRP_MAX_TABLE], sequence[ACTIVATIONS];
+static uint8_t links[4 * LINKS], body[2 * RRP_MAX_ROUTERS * RRP_MAX_ROUTERS];
 static uint8_t refused, better, relied, stable, exhausted;
 static uint64_t routers, lists, start, count, found, applied, rounds;
 
@@ -37,6 +38,7 @@ static void run(void)
 {
     refused = rrp_run(plan, length, 0, sequence, ACTIVATIONS, ACTIVATIONS, table, sizeof table, &applied, &rounds, &exhausted);
 }
+static void distances(void) { refused = rrp_distances(RRP_MAX_ROUTERS, links, sizeof links, body, sizeof body); }
 
 static const struct {
     const char *name;
@@ -44,6 +46,7 @@ static const struct {
 } calls[] = {
     { "rrp_check", check },   { "rrp_size", plan_size },  { "rrp_list", list },         { "rrp_compare", compare },
     { "rrp_relies", relies }, { "rrp_verdict", verdict }, { "rrp_activate", activate }, { "rrp_run", run },
+    { "rrp_distances", distances },
 };
 
 /* Ends the program if the last call was refused. */
@@ -93,6 +96,16 @@ static void start_table(void)
         table[2 * plan[at]] = table[2 * plan[at] + 1] = plan[at];
 }
 
+/* Eight links of weight 1 from each router, to those of the next number modulo 8, so that there is a walk between any two. */
+static void fill_links(void)
+{
+    for (size_t i = 0; i < LINKS; i++) {
+        links[4 * i] = (uint8_t)(i / 8);
+        links[4 * i + 1] = (uint8_t)(8 * (i % 8) + (i / 8 + 1) % 8);
+        links[4 * i + 2] = 1;
+    }
+}
+
 int main(int words, char **word)
 {
     FILE *file = words == 2 ? fopen(word[1], "rb") : NULL;
@@ -108,6 +121,7 @@ int main(int words, char **word)
     list();
     accept("rrp_list");
     start_table();
+    fill_links();
     for (size_t i = 0; i < ACTIVATIONS; i++)
         sequence[i] = (uint8_t)(i % routers);
     /* Each call once unmeasured: what the program's loader does at a first call is no part of it. */

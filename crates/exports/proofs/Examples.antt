@@ -2,7 +2,7 @@
 use Rattle.base.specs.Below.{allBelow, anyBelow}
 use Rattle.base.specs.Best.{keepBest, best}
 use Rattle.base.specs.Seek.{seek, highest}
-use Rattle.base.specs.Tab.{tab}
+use Rattle.base.specs.Tab.{tab, joined}
 use Rattle.contents.specs.Header.{headerOk, routerCountOk}
 use Rattle.contents.specs.Contents.{kindsOk, placesOk, sizesOk, contentsOk}
 use Rattle.bodies.specs.Routers.{routerOk, routersOk}
@@ -10,6 +10,9 @@ use Rattle.bodies.specs.Sessions.{sessionOk, sessionsOk}
 use Rattle.bodies.specs.Distances.{distanceOk, distanceRowOk, distancesOk}
 use Rattle.bodies.specs.Lists.{listPlace, memberOk, listAtOk, listOk, eachListOk, listsOk}
 use Rattle.plan.specs.Refusal.{refuse, bodyChecks, planChecks, planRefusal}
+use Rattle.links.specs.Sheet.{linkOk, sheetOk}
+use Rattle.links.specs.Sums.{direct, summing}
+use Rattle.links.specs.Distances.{sumsOk, distancesRefusal, rowOf, bodyOf, distancesBody, distancesAfter}
 use Rattle.network.specs.FromPlan.{pairs, inSession, named}
 use Rattle.routing.specs.Preference.{prefers}
 use Rattle.routing.specs.Reliance.{listedClientOf, bestClient, offer, betterOffer, relies}
@@ -40,6 +43,7 @@ unfolding
     reflects advertises hears senderOf routeTo choice choose entryOk tableOk listedClientOf bestClient offer betterOffer relies prefers
     pairs inSession named refuse bodyChecks planChecks planRefusal
     headerOk routerCountOk kindsOk placesOk sizesOk contentsOk routerOk routersOk sessionOk sessionsOk distanceOk distanceRowOk distancesOk
+    linkOk sheetOk direct summing sumsOk distancesRefusal rowOf bodyOf distancesBody distancesAfter joined
     listPlace memberOk listAtOk listOk eachListOk listsOk allBelow anyBelow keepBest best seek highest tab
 export-examples =
     record {
@@ -62,4 +66,6 @@ export-examples =
       limited = λ r t a n x e. (e .numbered, e .bytes, e .acted, e .whole, e .cut);
       unlimited = λ r t a n x e. (e .numbered, e .bytes, e .acted, e .whole, e .cut);
       refusedRun = λ r t a n x e. (e .numbered, e .bytes, e .acted, e .whole, e .cut);
+      distances = λ r o e. (e .number, e .bytes);
+      refusedDistances = λ r o e. (e .number, e .bytes);
     }

@@ -3,6 +3,7 @@ use Prim.Native.Nat.{ℕ}
 use mathlib.Core.Path.{_≡_}
 use mathlib.Core.List.{List, [], _∷_}
 use Rattle.base.specs.Lent.{Lent}
+use Rattle.links.specs.Distances.{DistancesCall}
 use Rattle.running.specs.Activate.{Activates}
 use Rattle.exports.specs.Exports.{SizeExport, ListExport, CompareExport, ReliesExport, VerdictExport, RunExport}
 
@@ -44,6 +45,13 @@ fromNothing = 255 ∷ 255 ∷ 255 ∷ 255 ∷ 255 ∷ 255 ∷ 3 ∷ 3 ∷ 9 ∷ 
 
 abbrev pub sequence : List ℕ
 sequence = 2 ∷ 0 ∷ 1 ∷ 3 ∷ 0 ∷ 2 ∷ 1 ∷ 3 ∷ []
+
+-- links 0 to 1 by 1, 0 to 2 by 9, 1 to 2 by 2, 2 to 0 by 260; the buffer lent for their distances, one byte more than they need
+abbrev pub links : List ℕ
+links = 0 ∷ 1 ∷ 1 ∷ 0 ∷ 0 ∷ 2 ∷ 9 ∷ 0 ∷ 1 ∷ 2 ∷ 2 ∷ 0 ∷ 2 ∷ 0 ∷ 4 ∷ 1 ∷ []
+
+abbrev pub nineteen : List ℕ
+nineteen = 9 ∷ 9 ∷ 9 ∷ 9 ∷ 9 ∷ 9 ∷ 9 ∷ 9 ∷ 9 ∷ 9 ∷ 9 ∷ 9 ∷ 9 ∷ 9 ∷ 9 ∷ 9 ∷ 9 ∷ 9 ∷ 9 ∷ []
 
 -- r is the number returned
 pub record ExportExamples : Type 0 where
@@ -103,3 +111,8 @@ pub record ExportExamples : Type 0 where
       → RunExport plan 0 sequence 5 r (from fromNothing table) applied rounds exhausted
       → (r ≡ 10) × (table ≡ fromNothing)
       × (applied .after ≡ applied .before) × (rounds .after ≡ rounds .before) × (exhausted .after ≡ exhausted .before)
+  -- distances 0 1 3, 262 0 2 and 260 261 0, in two bytes each
+  pub distances : (r : ℕ) (out : List ℕ) → DistancesCall 3 links r nineteen out
+      → (r ≡ 0) × (out ≡ 0 ∷ 0 ∷ 1 ∷ 0 ∷ 3 ∷ 0 ∷ 6 ∷ 1 ∷ 0 ∷ 0 ∷ 2 ∷ 0 ∷ 4 ∷ 1 ∷ 5 ∷ 1 ∷ 0 ∷ 0 ∷ 9 ∷ [])
+  -- router 3 has no link: number 12, also where the buffer is short, and the buffer is left as it was
+  pub refusedDistances : (r : ℕ) (out : List ℕ) → DistancesCall 4 links r nineteen out → (r ≡ 12) × (out ≡ nineteen)

@@ -34,8 +34,9 @@ tableFacts plan =
 abbrev pub RowFacts : List ℕ → ℕ → Type 0
 RowFacts plan row = getD (tableFacts plan) (row - 1) (Unit {0})
 
--- "given exactly if", "The lowest number that applies is returned": a row's number is given exactly if its facts fail and those of every
--- row before it hold. The theorem `row-exactly` says so of each row from 1 to 7, and `refusal-most` that no other number is given.
+-- "given exactly if", and by document 02, in place of "The lowest number that applies is returned", "the first check in order that fails
+-- now decides": a row's number is given exactly if its facts fail and those of every row before it hold. The theorem `row-exactly`
+-- says so of each row from 1 to 7, and `refusal-most` that no other number is given.
 pub record RowExactly (plan : List ℕ) (row : ℕ) : Type 0 where
   pub before : planRefusal plan ≡ row → (r : ℕ) → 1 ≤ r → r < row → RowFacts plan r
   pub fails : planRefusal plan ≡ row → RowFacts plan row → ⊥

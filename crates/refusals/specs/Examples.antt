@@ -49,7 +49,7 @@ pub record RefusalsExamples : Type 0 where
   pub activatedInFive : activateRefusal threeRouters 0 0 short ≡ 9  -- n bytes: 0
   -- row 10: "a held-route table breaks its rule"
   pub tableBroken : activateRefusal threeRouters 0 0 broken ≡ 10  -- with any router as sender: 0
-  -- "The lowest number that applies is returned"
+  -- "the first check in order that fails now decides" (document 02)
   pub eightBeforeNine : activateRefusal threeRouters 0 3 short ≡ 8  -- the last: 9
   pub eightBeforeNineOfAVerdict : verdictRefusal threeRouters 2 two three lent three ≡ 8  -- the last: 9
   pub eightBeforeTen : runRefusal threeRouters 2 (0 ∷ []) broken ≡ 8  -- the last: 10

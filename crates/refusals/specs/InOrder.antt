@@ -1,5 +1,5 @@
--- Document 01, "Refusal table, in order of checking": "The lowest number that applies is returned." "Checks 8, 9 and 10 stand only
--- for calls that take such things": the others pass them.
+-- Document 01, "Refusal table, in order of checking": "Checks 8, 9 and 10 stand only for calls that take such things": the others pass
+-- them. Document 02: "the first check in order that fails now decides, not the lowest number".
 use Prim.Native.Nat.{ℕ}
 use mathlib.Core.Path.{_≡_}
 use mathlib.Core.Bool.{Bool, true, false}

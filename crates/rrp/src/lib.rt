@@ -8,6 +8,7 @@ ghost use mathlib.Core.Path.{_≡_};
 ghost use Rattle.base.specs.Lent.{lent};
 ghost use Rattle.plan.specs.Refusal.{planRefusal};
 ghost use Rattle.running.specs.Activate.{Activates};
+ghost use Rattle.links.specs.Distances.{DistancesCall};
 ghost use Rattle.exports.specs.Exports.{SizeExport, ListExport, CompareExport, ReliesExport, VerdictExport, RunExport};
 
 #[no_mangle]
@@ -161,4 +162,11 @@ pub extern "C" fn rrp_run(
     *rounds = done.rounds as u64;
     *exhausted = done.exhausted as u8;
     0
+}
+
+#[no_mangle]
+pub extern "C" fn rrp_distances(n: usize, links: &[u8], out: &mut [u8]) -> u8
+    ensures { λ r. ⌜ DistancesCall n (now (links .entry)) r (now (out .entry)) (now (out .exit)) ⌝ }
+{
+    links::distances(n, links, out)
 }

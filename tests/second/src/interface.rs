@@ -80,6 +80,9 @@ pub trait Checker {
     fn activate(&mut self, plan: &[u8], list: usize, router: usize, table: &mut [u8]) -> u8;
 
     fn run(&mut self, plan: &[u8], list: usize, acts: Acts, table: &mut [u8], fields: &mut RunFields) -> u8;
+
+    /// Writes the distances of n routers to `out`, by a sheet of links.
+    fn distances(&mut self, n: usize, links: &[u8], out: &mut [u8]) -> u8;
 }
 
 /// Stores the result of a call, or gives its refusal number and leaves the

@@ -58,6 +58,8 @@ extern "C" {
         rounds: *mut u64,
         exhausted: *mut u8,
     ) -> u8;
+
+    fn rrp_distances(n: usize, links: *const u8, links_len: usize, out: *mut u8, out_len: usize) -> u8;
 }
 
 /// The linked library. Each pointer handed over comes from a slice or a
@@ -133,5 +135,10 @@ impl Checker for Library {
                 &mut fields.exhausted.value,
             )
         }
+    }
+
+    fn distances(&mut self, n: usize, links: &[u8], out: &mut [u8]) -> u8 {
+        // SAFETY: as above.
+        unsafe { rrp_distances(n, links.as_ptr(), links.len(), out.as_mut_ptr(), out.len()) }
     }
 }

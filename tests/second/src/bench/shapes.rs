@@ -1,10 +1,12 @@
-//! The plans that the bench times.
+//! The plans and the sheets of links that the bench times.
 
 use crate::harness::draft::Draft;
 use crate::harness::generate::all_pairs;
 use crate::harness::random::Random;
+use crate::harness::sheets::Sheet;
+use crate::oracle::links::MOST_LINKS;
 use crate::oracle::verdict_lines;
-use std::collections::BTreeSet;
+use std::collections::{BTreeMap, BTreeSet};
 
 pub const SIZES: [usize; 5] = [4, 8, 16, 32, 64];
 
@@ -81,4 +83,23 @@ impl Shape {
             lists: vec![(self.reflectors..n).step_by(5).collect()],
         }
     }
+}
+
+/// A ring of links both ways, and a chord from each router to the one a third
+/// of the ring on.
+pub fn ring_and_chords(random: &mut Random, n: usize) -> Sheet {
+    let beside = |from: usize| [from + 1, from + n - 1, from + n / 3].map(|to| (from, to % n));
+    Sheet { n, weights: weighted(random, (0..n).flat_map(beside)) }
+}
+
+/// As many links as there may be, or one for each pair if these are fewer: from
+/// each router to those that follow it.
+pub fn full_sheet(random: &mut Random, n: usize) -> Sheet {
+    let each = (MOST_LINKS / n).min(n - 1);
+    let onward = |from: usize| (1..=each).map(move |step| (from, (from + step) % n));
+    Sheet { n, weights: weighted(random, (0..n).flat_map(onward)) }
+}
+
+fn weighted(random: &mut Random, links: impl Iterator<Item = (usize, usize)>) -> BTreeMap<(usize, usize), u16> {
+    links.map(|pair| (pair, random.between(1, 1000) as u16)).collect()
 }

@@ -3,7 +3,7 @@
 //! the turns, so that a machine that is slower for a while slows both sides.
 
 use super::plain::Plain;
-use super::shapes::{Shape, SIZES};
+use super::shapes::{full_sheet, ring_and_chords, Shape, SIZES};
 use super::tight::Tight;
 use crate::harness::arguments;
 use crate::harness::draft::Draft;
@@ -145,6 +145,10 @@ fn activate(checker: &mut dyn Checker, plan: &[u8], table: &[u8]) {
     assert_eq!(checker.activate(black_box(plan), 0, 0, black_box(&mut lent)), 0);
 }
 
+fn distances(checker: &mut dyn Checker, n: usize, links: &[u8], out: &mut [u8]) {
+    assert_eq!(checker.distances(black_box(n), black_box(links), black_box(out)), 0);
+}
+
 /// A plan, a table to start from, and acts drawn at random.
 struct Run {
     plan: Vec<u8>,
@@ -224,6 +228,15 @@ fn time_growth(bench: &Bench, random: &mut Random) {
     bench.growth("run, same degree, n = 64 over n = 32", &small, &large);
 }
 
+/// Distances from sheets of few links and of the most that there may be.
+fn time_sheets(bench: &Bench, random: &mut Random) {
+    for sheet in SIZES.into_iter().flat_map(|n| [ring_and_chords(random, n), full_sheet(random, n)]) {
+        let (n, links, mut out) = (sheet.n, sheet.bytes(), vec![0; 2 * sheet.n * sheet.n]);
+        let name = format!("distances, n = {n}, {} links", sheet.weights.len());
+        bench.line(&name, 1, |checker| distances(checker, n, &links, &mut out));
+    }
+}
+
 /// Prints the lines whose names have the word.
 pub fn bench(word: &str) {
     println!("library (ours), plain, tight: the best of {TURNS} turns, for a run that of one of its activations");
@@ -233,4 +246,5 @@ pub fn bench(word: &str) {
     time_checks(&bench, &mut random);
     time_network(&bench, &mut random);
     time_growth(&bench, &mut random);
+    time_sheets(&bench, &mut random);
 }

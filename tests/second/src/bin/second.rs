@@ -1,6 +1,6 @@
 //! Compares a checker of route-reflection plans with the second one.
 
-use second_checker::{self_test, small_plans, verdict_lines, Checker, Plain, Random, Tight};
+use second_checker::{self_test, small_plans, small_sheets, verdict_lines, Checker, Plain, Random, Tight};
 use std::env;
 use std::error::Error;
 use std::fs;
@@ -69,9 +69,14 @@ fn test_self(options: &Options) -> Result<bool, Box<dyn Error>> {
     println!("seed {}", options.seed);
     small_plans::test()?;
     println!("small plans M1 to M9, bounds, example output, rank of the deepest plan: as stated");
+    small_sheets::test()?;
+    println!("small sheets of links, their refusals in order: as stated");
     self_test::aimed_damage()?;
-    println!("damage aimed at refusals 1 to 7: refused so");
+    self_test::damaged_links()?;
+    println!("damage aimed at refusals 1 to 7 and 11: refused so");
     println!("known faults: {} found, each of them", self_test::faults()?);
+    let without_a_walk = self_test::least_sums(options.seed, options.plans)?;
+    println!("least sums on {} sheets: as due, {without_a_walk} pairs without a walk", options.plans);
     let counts = self_test::consistency(options.seed, options.plans)?;
     println!(
         "second self: {} plans, {} lists, {} suspect, {} starts settled",

@@ -5,7 +5,7 @@ use super::random::Random;
 use crate::oracle::rules::Case;
 use crate::oracle::tables::NONE;
 
-/// A number at or past its bound (which is at most 64), of many sizes; some
+/// A number at or past its bound (which is at most 65), of many sizes; some
 /// come out small if cut to fewer bits.
 pub fn past(random: &mut Random, bound: usize) -> usize {
     let small = random.below(bound);

@@ -37,6 +37,12 @@ pub enum Call {
         limit: u64,
         table: Vec<u8>,
     },
+    /// A call about no plan.
+    Distances {
+        n: usize,
+        links: Vec<u8>,
+        out: Vec<u8>,
+    },
 }
 
 /// All that a call answered and left.
@@ -48,7 +54,7 @@ pub struct Answer {
     /// Every byte of every lent buffer after the call.
     pub buffers: Vec<Vec<u8>>,
     /// The bytes before and after each buffer and each result variable of one
-    /// byte, the plan and the sequence are as they were.
+    /// byte, the plan, the sequence and the links are as they were.
     pub surroundings_kept: bool,
 }
 
@@ -136,6 +142,13 @@ pub fn perform(checker: &mut dyn Checker, plan: &[u8], call: &Call, prior: u64) 
         Call::Run { list, sequence, limit, table } => {
             let acts = Acts { sequence, limit: *limit };
             perform_run(checker, &lent_plan, *list, acts, table, prior)
+        }
+        Call::Distances { n, links, out } => {
+            let (lent_links, mut lent) = (links.clone(), [Guarded::new(out)]);
+            let refusal = checker.distances(*n, &lent_links, lent[0].lent());
+            let mut answer = Answer::new(refusal, Vec::new()).with(&lent);
+            answer.surroundings_kept &= lent_links == *links;
+            answer
         }
     };
     answer.surroundings_kept &= lent_plan == plan;

@@ -5,6 +5,7 @@ use super::call::{perform, Answer, Call};
 use super::generate;
 use super::plan_calls;
 use super::random::Random;
+use super::sheet_calls;
 use crate::interface::Checker;
 use crate::oracle::rules::Right;
 use crate::oracle::Oracle;
@@ -17,7 +18,10 @@ pub struct Counts {
     pub sound_plans: u64,
     pub lists: u64,
     pub suspect_lists: u64,
-    pub refusals: [u64; 11],
+    pub sheets: u64,
+    /// Sheets whose distances are written.
+    pub sheets_with_distances: u64,
+    pub refusals: [u64; 13],
     pub calls: u64,
     pub series: u64,
     pub acts_in_series: u64,
@@ -31,6 +35,7 @@ pub struct Counts {
 impl fmt::Display for Counts {
     fn fmt(&self, out: &mut fmt::Formatter) -> fmt::Result {
         writeln!(out, "sound plans {}, calls not refused {}", self.sound_plans, self.refusals[0])?;
+        writeln!(out, "sheets with distances {}", self.sheets_with_distances)?;
         writeln!(out, "highest rank {} longest cycle {}", self.highest_rank, self.longest_cycle)?;
         writeln!(out, "cycles without the lowest router of their group {}", self.entered_cycles)?;
         for (number, count) in self.refusals.iter().enumerate().skip(1) {
@@ -39,8 +44,8 @@ impl fmt::Display for Counts {
         writeln!(out, "acts in series {}", self.acts_in_series)?;
         write!(
             out,
-            "second: {} plans, {} lists, {} suspect, {} calls, {} series settled, mismatches {}",
-            self.plans, self.lists, self.suspect_lists, self.calls, self.series, self.mismatches
+            "second: {} plans, {} lists, {} suspect, {} sheets, {} calls, {} series settled, mismatches {}",
+            self.plans, self.lists, self.suspect_lists, self.sheets, self.calls, self.series, self.mismatches
         )
     }
 }
@@ -54,8 +59,8 @@ pub type Outcome = Result<(), Box<Mismatch>>;
 /// How many mismatches are reported before the comparison ends.
 const REPORTED: u64 = 5;
 
-/// Compares a checker with the oracle on the plans of these numbers, and hands
-/// each mismatch to `report` with its plan's number.
+/// Compares a checker with the oracle on the plans and sheets of these numbers,
+/// and hands each mismatch to `report` with its number.
 pub fn compare(
     subject: &mut dyn Checker,
     seed: u64,
@@ -89,7 +94,8 @@ pub struct Comparison<'a> {
 }
 
 impl Comparison<'_> {
-    /// All calls for one plan; they depend on the seed and its number alone.
+    /// All calls for one plan and one sheet of links; they depend on the seed and
+    /// the number alone.
     fn numbered(&mut self, seed: u64, number: u64) -> Outcome {
         let (bytes, mut random) = generate::numbered(seed, number);
         self.priors = Random::new(random.word());
@@ -98,7 +104,7 @@ impl Comparison<'_> {
             let few_routers = 1 + number as usize / 4000 % 4;
             plan_calls::long_run(self, &mut random, few_routers)?;
         }
-        Ok(())
+        sheet_calls::compare(self, &mut random)
     }
 
     /// Makes the call on both; the answer if they agree to the last byte.

@@ -1,5 +1,6 @@
 //! Checkers with one fault each, to see that the comparison finds it.
 
+use super::sheet_faults;
 use crate::interface::{Acts, Checker, ListFields, RunFields, SizeFields, VerdictBuffers, VerdictFields};
 use crate::oracle::plan::{Plan, Router};
 use crate::oracle::rules::{Case, Right, Route, Rules, Table};
@@ -132,9 +133,34 @@ pub enum Slip {
     FlagWrittenAsAWord,
     SuspectToAll,
     LongPlanAccepted,
+    TransposedDistances,
+    DirectLinksOnly,
+    LastRouterNotPassed,
+    LinksBothWays,
+    LoopOnTheDiagonal,
+    WeightHighByteFirst,
+    SumsWrap,
+    NextSumAccepted,
+    FarthestRefused,
+    NoWalkTakenForFarthest,
+    BytesAfterTheLinksAccepted,
+    OneLinkMoreAccepted,
+    RouterNAccepted,
+    WeightZeroAccepted,
+    EqualLinksAccepted,
+    AnyOrderWithinARouterAccepted,
+    AnyOrderOfRoutersAccepted,
+    RouterCountCutToAByte,
+    ElevenBeforeTwo,
+    TwelveBeforeEleven,
+    NineBeforeEleven,
+    NineBeforeTwelve,
+    EntryWrittenBeforeTwelve,
+    WhatFitsWrittenBeforeNine,
+    ByteAfterTheDistances,
 }
 
-pub const SLIPS: [Slip; 18] = [
+pub const SLIPS: [Slip; 43] = [
     Slip::FirstActOnly,
     Slip::ActLeavesTable,
     Slip::ExhaustedAtTheLimit,
@@ -153,6 +179,31 @@ pub const SLIPS: [Slip; 18] = [
     Slip::FlagWrittenAsAWord,
     Slip::SuspectToAll,
     Slip::LongPlanAccepted,
+    Slip::TransposedDistances,
+    Slip::DirectLinksOnly,
+    Slip::LastRouterNotPassed,
+    Slip::LinksBothWays,
+    Slip::LoopOnTheDiagonal,
+    Slip::WeightHighByteFirst,
+    Slip::SumsWrap,
+    Slip::NextSumAccepted,
+    Slip::FarthestRefused,
+    Slip::NoWalkTakenForFarthest,
+    Slip::BytesAfterTheLinksAccepted,
+    Slip::OneLinkMoreAccepted,
+    Slip::RouterNAccepted,
+    Slip::WeightZeroAccepted,
+    Slip::EqualLinksAccepted,
+    Slip::AnyOrderWithinARouterAccepted,
+    Slip::AnyOrderOfRoutersAccepted,
+    Slip::RouterCountCutToAByte,
+    Slip::ElevenBeforeTwo,
+    Slip::TwelveBeforeEleven,
+    Slip::NineBeforeEleven,
+    Slip::NineBeforeTwelve,
+    Slip::EntryWrittenBeforeTwelve,
+    Slip::WhatFitsWrittenBeforeNine,
+    Slip::ByteAfterTheDistances,
 ];
 
 pub struct Careless {
@@ -260,5 +311,9 @@ impl Checker for Careless {
             _ => (),
         }
         refusal
+    }
+
+    fn distances(&mut self, n: usize, links: &[u8], out: &mut [u8]) -> u8 {
+        sheet_faults::distances(self.slip, n, links, out)
     }
 }

@@ -1,5 +1,6 @@
-//! What compares a checker with the oracle: plans, damage, arguments, calls and
-//! series; faults that the comparison must find; and the lines of `cases`.
+//! What compares a checker with the oracle: plans, sheets of links, damage,
+//! arguments, calls and series; faults that the comparison must find; and the
+//! lines of `cases`.
 
 pub mod arguments;
 mod call;
@@ -13,4 +14,8 @@ mod plan_calls;
 pub mod random;
 pub mod self_test;
 mod series;
+mod sheet_calls;
+mod sheet_faults;
+pub mod sheets;
 pub mod small_plans;
+pub mod small_sheets;

@@ -7,7 +7,9 @@ use super::damage;
 use super::faults::{Careless, Misread, MISREADINGS, SLIPS};
 use super::generate;
 use super::random::Random;
+use super::sheets::{self, Sheet, DAMAGES};
 use crate::interface::Checker;
+use crate::oracle::links::{self, Sums};
 use crate::oracle::plan::{self, Router};
 use crate::oracle::rules::{Case, Right, Rules};
 use crate::oracle::tables::{self, Rounds};
@@ -15,13 +17,14 @@ use crate::oracle::verdict::{self, Outcome, Ranks, Reliances};
 use crate::oracle::Oracle;
 use std::collections::BTreeSet;
 
-/// The seed of the plans on which faults and damage are tried.
+/// The seed of the plans and sheets on which faults and damage are tried.
 const SEED: u64 = 4456;
 
 /// A fault must be found within that many plans.
 const PLANS_FOR_A_FAULT: u64 = 4000;
 
-/// So many damaged plans are tried for each refusal.
+/// So many damaged plans are tried for each refusal, and so many sheets for each
+/// kind of damage.
 const DAMAGED: usize = 500;
 
 fn finds(subject: &mut dyn Checker, fault: &str) -> Result<(), String> {
@@ -54,6 +57,53 @@ pub fn aimed_damage() -> Result<(), String> {
         let count = (0..DAMAGED).filter(|_| hits()).count();
         if count < DAMAGED * 8 / 10 {
             return Err(format!("damage aimed at {refusal} hit {count} times of {DAMAGED}"));
+        }
+    }
+    Ok(())
+}
+
+/// Links with damage of each kind are refused with 11, nearly always.
+pub fn damaged_links() -> Result<(), String> {
+    let mut random = Random::new(SEED);
+    for damage in DAMAGES {
+        let mut hits = || {
+            let sheet = sheets::sound(&mut random);
+            links::read(sheet.n, &sheets::damaged(&mut random, &sheet, damage)).err() == Some(11)
+        };
+        let count = (0..DAMAGED).filter(|_| hits()).count();
+        if count < DAMAGED * 8 / 10 {
+            return Err(format!("the damage {damage:?} hit {count} times of {DAMAGED}"));
+        }
+    }
+    Ok(())
+}
+
+/// The least sums over walks on random sheets; how many pairs have no walk.
+pub fn least_sums(seed: u64, sheets: u64) -> Result<u64, String> {
+    let mut random = Random::new(seed);
+    let mut without_a_walk = 0;
+    for number in 0..sheets {
+        let sheet = sheets::sound(&mut random);
+        let links = links::read(sheet.n, &sheet.bytes()).map_err(|refusal| format!("sheet {number}: {refusal}"))?;
+        let sums = links::least_sums(sheet.n, &links);
+        sums_fit(&sheet, &sums).map_err(|fault| format!("sheet {number}: {fault}"))?;
+        without_a_walk += sums.iter().flatten().filter(|sum| sum.is_none()).count() as u64;
+    }
+    Ok(without_a_walk)
+}
+
+/// A sum is 0 exactly on the diagonal; no link at the end of a walk makes a lesser
+/// sum; and each other sum is that of a lesser one and such a link.
+fn sums_fit(sheet: &Sheet, sums: &Sums) -> Result<(), String> {
+    for (from, row) in sums.iter().enumerate() {
+        let mut by_a_link = vec![None; sheet.n];
+        for (&(last, to), &weight) in &sheet.weights {
+            let sum = row[last].map(|sum| sum + u64::from(weight));
+            by_a_link[to] = by_a_link[to].into_iter().chain(sum).min();
+        }
+        by_a_link[from] = Some(0);
+        if *row != by_a_link {
+            return Err(format!("sums from {from} are {row:?}, by their last links {by_a_link:?}"));
         }
     }
     Ok(())

@@ -31,7 +31,7 @@ pub fn test() -> Result<(), String> {
     same("deepest plan", verdict_lines(&generate::deepest().bytes()), deepest)
 }
 
-fn same<T: PartialEq + Debug>(what: &str, found: T, expected: T) -> Result<(), String> {
+pub fn same<T: PartialEq + Debug>(what: &str, found: T, expected: T) -> Result<(), String> {
     if found == expected {
         return Ok(());
     }

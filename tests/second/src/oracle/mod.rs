@@ -1,7 +1,9 @@
-//! The second checker, written from document 01 alone and by other algorithms
-//! than the library's: sets and sorted orders, depth-first search, layers.
+//! The second checker, written from documents 01 and 02 alone and by other
+//! algorithms than the library's: sets and sorted orders, depth-first search,
+//! layers, Dijkstra's search.
 
 mod lines;
+pub mod links;
 pub mod plan;
 pub mod rules;
 pub mod tables;
@@ -152,6 +154,12 @@ impl<R: Rules> Oracle<R> {
     }
 }
 
+fn try_distances(n: usize, links: &[u8], out: &mut [u8]) -> Result<(), u8> {
+    let body = links::body(n, links)?;
+    out.get_mut(..body.len()).ok_or(9u8)?.copy_from_slice(&body);
+    Ok(())
+}
+
 impl<R: Rules> Checker for Oracle<R> {
     fn check(&mut self, plan: &[u8]) -> u8 {
         plan_of(&self.reading(plan)).err().unwrap_or(0)
@@ -183,5 +191,9 @@ impl<R: Rules> Checker for Oracle<R> {
 
     fn run(&mut self, plan: &[u8], list: usize, acts: Acts, table: &mut [u8], fields: &mut RunFields) -> u8 {
         store(self.try_run(plan, list, acts, table), fields)
+    }
+
+    fn distances(&mut self, n: usize, links: &[u8], out: &mut [u8]) -> u8 {
+        store(try_distances(n, links, out), &mut ())
     }
 }

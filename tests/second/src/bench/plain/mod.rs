@@ -4,6 +4,7 @@
 // Loops over router numbers are the plain way here.
 #![allow(clippy::needless_range_loop)]
 
+mod links;
 mod reader;
 mod rules;
 mod verdict;
@@ -11,6 +12,7 @@ mod verdict;
 use crate::interface::{
     store, Acts, Checker, Flag, ListFields, RunFields, SizeFields, VerdictBuffers, VerdictFields,
 };
+use links::distances;
 use reader::{check, read};
 use verdict::verdict;
 
@@ -107,5 +109,9 @@ impl Checker for Plain {
 
     fn run(&mut self, plan: &[u8], list: usize, acts: Acts, table: &mut [u8], fields: &mut RunFields) -> u8 {
         store(run(plan, list, acts, table), fields)
+    }
+
+    fn distances(&mut self, n: usize, links: &[u8], out: &mut [u8]) -> u8 {
+        store(distances(n, links, out), &mut ())
     }
 }

@@ -2,6 +2,7 @@
 //! decoded once a call into a set of 64 bits a router, neighbours are found by
 //! their set bits, and routes are compared by one packed key.
 
+mod links;
 mod reader;
 mod rules;
 mod verdict;
@@ -9,6 +10,7 @@ mod verdict;
 use crate::interface::{
     store, Acts, Checker, Flag, ListFields, RunFields, SizeFields, VerdictBuffers, VerdictFields,
 };
+use links::distances;
 use reader::{check, read, Bodies};
 use rules::{key, Network};
 use std::iter;
@@ -122,5 +124,9 @@ impl Checker for Tight {
 
     fn run(&mut self, plan: &[u8], list: usize, acts: Acts, table: &mut [u8], fields: &mut RunFields) -> u8 {
         store(run(plan, list, acts, table), fields)
+    }
+
+    fn distances(&mut self, n: usize, links: &[u8], out: &mut [u8]) -> u8 {
+        store(distances(n, links, out), &mut ())
     }
 }

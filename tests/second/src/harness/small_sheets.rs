@@ -1,0 +1,90 @@
+//! What document 02 states of links and their distances, on small sheets.
+
+use super::small_plans::same;
+use crate::interface::Checker;
+use crate::oracle::links::LinkBytes;
+use crate::oracle::Oracle;
+
+/// Links from router to router, with a weight each.
+type Drawn<'a> = &'a [(u8, u8, u16)];
+
+/// All that is stated, or the first thing that is otherwise.
+pub fn test() -> Result<(), String> {
+    written()?;
+    broken_links()?;
+    too_far()?;
+    in_order()
+}
+
+fn bytes(links: Drawn) -> Vec<u8> {
+    let link = |&(from, to, weight): &(u8, u8, u16)| -> LinkBytes {
+        let [low, high] = weight.to_le_bytes();
+        [from, to, low, high]
+    };
+    links.iter().map(link).collect::<Vec<_>>().concat()
+}
+
+/// Refusal and the buffer, of nines before, after the call.
+fn answer(n: usize, links: &[u8], lent: usize) -> (u8, Vec<u8>) {
+    let mut out = vec![9; lent];
+    (Oracle::right().distances(n, links, &mut out), out)
+}
+
+fn writes(what: &str, n: usize, links: Drawn, out: &[u8]) -> Result<(), String> {
+    same(what, answer(n, &bytes(links), out.len()), (0, out.to_vec()))
+}
+
+fn refuses(what: &str, refusal: u8, n: usize, links: &[u8], lent: usize) -> Result<(), String> {
+    same(what, answer(n, links, lent), (refusal, vec![9; lent]))
+}
+
+fn written() -> Result<(), String> {
+    writes("one router", 1, &[], &[0, 0])?;
+    writes("bytes after the distances", 1, &[], &[0, 0, 9, 9])?;
+    let three = [0, 0, 10, 0, 15, 0, 49, 1, 0, 0, 5, 0, 44, 1, 54, 1, 0, 0];
+    writes("three routers", 3, &[(0, 1, 10), (0, 2, 30), (1, 2, 5), (2, 0, 300)], &three)?;
+    writes("a loop", 3, &[(0, 1, 10), (0, 2, 30), (1, 1, 3), (1, 2, 5), (2, 0, 300)], &three)?;
+    writes("a loop alone", 1, &[(0, 0, 7)], &[0, 0])?;
+    writes("weight 65534", 2, &[(0, 1, 65_534), (1, 0, 1)], &[0, 0, 254, 255, 1, 0, 0, 0])?;
+    let sum = [0, 0, 253, 255, 254, 255, 2, 0, 0, 0, 1, 0, 1, 0, 254, 255, 0, 0];
+    writes("sum 65534", 3, &[(0, 1, 65_533), (1, 2, 1), (2, 0, 1)], &sum)?;
+    let detour = [0, 0, 1, 0, 2, 0, 2, 0, 0, 0, 1, 0, 1, 0, 2, 0, 0, 0];
+    writes("weight 65535 outdone", 3, &[(0, 1, 1), (0, 2, 65_535), (1, 2, 1), (2, 0, 1)], &detour)
+}
+
+/// So many links of weight 1 among 23 routers.
+fn many(count: usize) -> Vec<u8> {
+    let links: Vec<_> = (0..23).flat_map(|from| (0..23).map(move |to| (from, to, 1))).take(count).collect();
+    bytes(&links)
+}
+
+fn broken_links() -> Result<(), String> {
+    let eleven = |what: &str, links: Drawn| refuses(what, 11, 2, &bytes(links), 8);
+    eleven("weight 0", &[(0, 1, 1), (1, 0, 0)])?;
+    eleven("from n", &[(0, 1, 1), (1, 0, 1), (2, 0, 1)])?;
+    eleven("to n", &[(0, 1, 1), (1, 0, 1), (1, 2, 1)])?;
+    eleven("equal links", &[(0, 1, 1), (1, 0, 1), (1, 0, 2)])?;
+    eleven("falling to", &[(0, 1, 1), (1, 1, 1), (1, 0, 1)])?;
+    eleven("falling from", &[(1, 0, 1), (0, 1, 1)])?;
+    refuses("three bytes", 11, 1, &[0, 0, 1], 2)?;
+    refuses("513 links", 11, 23, &many(513), 2 * 23 * 23)?;
+    same("512 links", answer(23, &many(512), 2 * 23 * 23).0, 0)
+}
+
+fn too_far() -> Result<(), String> {
+    let twelve = |what: &str, n: usize, links: Drawn| refuses(what, 12, n, &bytes(links), 2 * n * n);
+    twelve("no walk", 2, &[(0, 1, 1)])?;
+    twelve("weight 65535", 2, &[(0, 1, 65_535), (1, 0, 1)])?;
+    twelve("sum 65535", 3, &[(0, 1, 65_533), (1, 2, 2), (2, 0, 1)])?;
+    twelve("sum 65536", 3, &[(0, 1, 65_535), (1, 2, 1), (2, 0, 1)])
+}
+
+/// The checks in their order: 2, 11, 12, 9.
+fn in_order() -> Result<(), String> {
+    for n in [0, 65, 256, 257, usize::MAX] {
+        refuses("number of routers", 2, n, &[0], 0)?;
+    }
+    refuses("broken, without a walk, short", 11, 2, &[0], 7)?;
+    refuses("without a walk, short", 12, 2, &[], 7)?;
+    refuses("short", 9, 2, &bytes(&[(0, 1, 1), (1, 0, 1)]), 7)
+}
