@@ -45,7 +45,7 @@ enum rrp_refusal {
     RRP_BAD_ROUTERS = 4,
     /* a session has a number that is no router's or not its lower number first, or the sessions do not rise strictly */
     RRP_BAD_SESSIONS = 5,
-    /* a distance is 65,535, or a router's distance to itself is not 0 */
+    /* a router's distance to itself is not 0 */
     RRP_BAD_DISTANCES = 6,
     /* there are no lists or more than 64; a list is empty, has a number that is no router's or does not rise strictly; or the
      * lists do not end where the plan ends */
@@ -60,7 +60,7 @@ enum rrp_refusal {
     /* the links' bytes are no multiple of four, there are more than 512 links, a link has a number that is no router's or a weight
      * of 0, or the links do not rise strictly */
     RRP_BAD_LINKS = 11,
-    /* from some router there is no walk to another, or the least sum of weights is above 65,534 */
+    /* from some router there are walks to another, and the least sum of their weights is above 65,534 */
     RRP_TOO_FAR = 12
 };
 
@@ -74,6 +74,8 @@ enum {
     /* the most links of a sheet, four bytes each, and the bytes of the largest distances, those of 64 routers */
     RRP_MAX_LINKS = 512,
     RRP_MAX_DISTANCES = 8192,
+    /* the distance, of two bytes, from a router to another that it has no way to */
+    RRP_NO_WAY = 65535,
     /* no router, in a table */
     RRP_NONE = 255
 };
@@ -88,8 +90,9 @@ uint8_t rrp_size(const uint8_t *plan, size_t plan_len, uint64_t *routers, uint64
  * Refusals 1 to 8. */
 uint8_t rrp_list(const uint8_t *plan, size_t plan_len, size_t list, uint64_t *start, uint64_t *count);
 
-/* Compares two egress routers at a router: *better is 1 if the first is better, 2 if the second is, 0 if they are the same. The
- * better one is nearer to the router or, if both are as near, has the lower number. Refusals 1 to 8. */
+/* Compares two egress routers at a router: *better is 1 if the first is better, 2 if the second is, 0 if neither is. The better
+ * one is nearer to the router or, if both are as near, has the lower number. One that the router has a way to is better than one
+ * that it has none to. Neither is better if they are the same, or if the router has no way to either. Refusals 1 to 8. */
 uint8_t rrp_compare(const uint8_t *plan, size_t plan_len, size_t router, size_t first, size_t second, uint8_t *better);
 
 /* Says whether a router relies on another for a list: *relies is 1 if it does, else 0. Refusals 1 to 8. */
@@ -109,7 +112,8 @@ uint8_t rrp_verdict(const uint8_t *plan, size_t plan_len, size_t list, uint8_t *
                     uint64_t *size);
 
 /* Activates one router, in the table's 2n bytes: a router of the list keeps its own route, and any other then holds the best route
- * that a neighbour announces to it at that moment, or none. No other router's entry changes. Refusals 1 to 10. */
+ * that a neighbour announces to it at that moment, of those whose egress it has a way to, or none. No other router's entry
+ * changes. Refusals 1 to 10. */
 uint8_t rrp_activate(const uint8_t *plan, size_t plan_len, size_t list, size_t router, uint8_t *table, size_t table_len);
 
 /* Activates the routers of a sequence, one byte each, in order, at most limit of them, in the table's 2n bytes. *applied is the
@@ -122,7 +126,7 @@ uint8_t rrp_run(const uint8_t *plan, size_t plan_len, size_t list, const uint8_t
  * the router that it leads from, the one that it leads to, and its weight, 1 to 65,535, low byte first. Links rise strictly, by
  * the first router and then by the second. A link leads one way; where traffic goes both ways there are two. Needs 2 * n * n bytes
  * of out. out[2 * (n * u + e)] and the byte after it become the least sum of weights over all walks from router u to router e, low
- * byte first; it is 0 from a router to itself. Refusals 2, 11, 12 and 9, in this order. */
+ * byte first, or RRP_NO_WAY if there is no walk; it is 0 from a router to itself. Refusals 2, 11, 12 and 9, in this order. */
 uint8_t rrp_distances(size_t n, const uint8_t *links, size_t links_len, uint8_t *out, size_t out_len);
 
 #ifdef __cplusplus

@@ -19,8 +19,8 @@ use Rattle.routing.proofs.Routes.{advertises-client}
 use Rattle.network.specs.declared.Network.{Network}
 use Rattle.network.specs.Decoded.{decoded}
 use Rattle.network.specs.WellFormed.{WellFormed}
-use Rattle.activation.specs.OnePass.{toldBy, keepRoute, keepHeard, keptHeard}
-use Rattle.activation.proofs.OnePass.{told-neighbour, told-stranger, heard-none, heard-more, keep-untold}
+use Rattle.activation.specs.OnePass.{heard, heardFrom, keepRoute, keepHeard, keptHeard}
+use Rattle.activation.proofs.OnePass.{heard-nothing, from-neighbour, from-stranger, heard-none, heard-more, keep-untold}
 
 abbrev pub advertisers : Network → List ℕ → ℕ → ℕ
 advertisers net rows w = bitAnd (getD rows w 0) (bitOr (net .listed) (net .reflectors))
@@ -34,17 +34,19 @@ module _ (net : Network) (rows : List ℕ) (w v : ℕ) where
   advertiser-near : bitN (advertisers net rows w) v ≡ 1 → bits rows w v ≡ 1
   advertiser-near h = omega (arith, advertisers-bit)
 
-  silent : bitN (advertisers net rows w) v ≡ 0 → (distances : List ℕ) (held : Route) → toldBy (decoded net rows distances) w v held ≡ none
+  silent : bitN (advertisers net rows w) v ≡ 0 → (distances : List ℕ) (held : Route) → heardFrom (decoded net rows distances) w v held ≡ none
   silent h distances held = go (eqb (bits rows w v) 1) refl
     where
-      go : (b : Bool) → eqb (bits rows w v) 1 ≡ b → toldBy (decoded net rows distances) w v held ≡ none
+      go : (b : Bool) → eqb (bits rows w v) 1 ≡ b → heardFrom (decoded net rows distances) w v held ≡ none
       go true e =
           let near : bits rows w v ≡ 1 = eqb-true _ 1 e in
           let unlisted : bitN (net .listed) v ≡ 0 = omega (arith, advertisers-bit) in
           let client : bitN (net .reflectors) v ≡ 0 = omega (arith, advertisers-bit) in
-          told-neighbour (decoded net rows distances) w v held e
-          ∙ advertises-client (decoded net rows distances) v held w (ap (λ b. eqb b 1) unlisted) (ap (λ b. eqb b 1) client)
-      go false e = told-stranger (decoded net rows distances) w v held e
+          from-neighbour (decoded net rows distances) w v held e
+          ∙ ap (heard (decoded net rows distances) w)
+          (advertises-client (decoded net rows distances) v held w (ap (λ b. eqb b 1) unlisted) (ap (λ b. eqb b 1) client))
+          ∙ heard-nothing (decoded net rows distances) w
+      go false e = from-stranger (decoded net rows distances) w v held e
 
   -- what is kept does not change at any other router
   heard-silent : (distances : List ℕ) (view : ℕ → Route) → bitN (advertisers net rows w) v ≡ 0

@@ -14,10 +14,10 @@ use Rattle.routing.specs.Preference.{prefers}
 use Rattle.routing.specs.Activation.{reflects, advertises, hears, choose}
 use Rattle.activation.specs.TableBytes.{RouteBelow, readRoute}
 use Rattle.routing.specs.RouterBytes.{RouterBelow}
-use Rattle.activation.specs.OnePass.{toldBy, keepRoute, keepHeard, kept, keptHeard}
+use Rattle.activation.specs.OnePass.{heard, heardFrom, HasWay, keepRoute, keepHeard, kept, keptHeard}
 use Rattle.activation.proofs.TableBytes.{read-via}
 use Rattle.routing.proofs.Preference.{prefers-order}
-use Rattle.routing.proofs.Routes.{isRouter-same, isRouter-some, ChoiceIs, choice-unique, choose-is, advertises-listed, advertises-client, advertises-reflector}
+use Rattle.routing.proofs.Routes.{isRouter-same, isRouter-some, hears-way, ChoiceIs, choice-unique, choose-is, advertises-listed, advertises-client, advertises-reflector}
 
 -- a router is not none
 router-not-none : {A : Type 0} (o : Option ℕ) (e : ℕ) → o ≡ some e → o ≡ none → A
@@ -167,41 +167,86 @@ module _ (I : Instance) where
       go false p true r = rw (advertises-reflector I v x w p r) (reflects-below x w b)
       go false p false r = rw (advertises-client I v x w p r) tt
 
-  pub told-neighbour : (w v : ℕ) (x : Route) → I .neighbour w v ≡ true → toldBy I w v x ≡ advertises I v x w
-  unfolding toldBy
-  told-neighbour w v x p = cc
+  -- what w hears of what is advertised to it
+  pub heard-nothing : (w : ℕ) → heard I w none ≡ none
+  unfolding heard
+  heard-nothing w = refl
 
-  pub told-stranger : (w v : ℕ) (x : Route) → I .neighbour w v ≡ false → toldBy I w v x ≡ none
-  unfolding toldBy
-  told-stranger w v x p = cc
+  pub heard-way : (w e : ℕ) → I .way w e ≡ true → heard I w (some e) ≡ some e
+  unfolding heard
+  heard-way w e h = cc
 
-  told-below : (w v : ℕ) (x : Route) → v < I .n → RouteBelow (I .n) x → RouterBelow (I .n) (toldBy I w v x)
-  told-below w v x l b = go (I .neighbour w v) refl
+  pub heard-no-way : (w e : ℕ) → I .way w e ≡ false → heard I w (some e) ≡ none
+  unfolding heard
+  heard-no-way w e h = cc
+
+  -- it is what is advertised, and there is a way to it
+  heard-is : (w e : ℕ) (o : Option ℕ) → isRouter e (heard I w o) ≡ (isRouter e o && I .way w e)
+  heard-is w e none = ap (isRouter e) (heard-nothing w)
+  heard-is w e (some f) = go (I .way w f) refl (eqb f e) refl
     where
-      go : (p : Bool) → I .neighbour w v ≡ p → RouterBelow (I .n) (toldBy I w v x)
-      go true p = rw (told-neighbour w v x p) (advertises-below v x w l b)
-      go false p = rw (told-stranger w v x p) tt
+      go : (a : Bool) → I .way w f ≡ a → (b : Bool) → eqb f e ≡ b → isRouter e (heard I w (some f)) ≡ (eqb f e && I .way w e)
+      go true p true q = ap (isRouter e) (heard-way w f p) ∙ q ∙ cc (ap (I .way w) (eqb-true f e q))
+      go true p false q = ap (isRouter e) (heard-way w f p) ∙ cc
+      go false p true q = ap (isRouter e) (heard-no-way w f p) ∙ cc (ap (I .way w) (eqb-true f e q))
+      go false p false q = ap (isRouter e) (heard-no-way w f p) ∙ cc
 
-  hears-is : (view : ℕ → Route) (w v e : ℕ) → hears I view w v e ≡ isRouter e (toldBy I w v (view v))
-  unfolding hears toldBy
+  heard-router : (w : ℕ) (o : Option ℕ) → RouterBelow (I .n) o → RouterBelow (I .n) (heard I w o)
+  heard-router w none b = rw (heard-nothing w) tt
+  heard-router w (some e) b = go (I .way w e) refl
+    where
+      go : (a : Bool) → I .way w e ≡ a → RouterBelow (I .n) (heard I w (some e))
+      go true p = rw (heard-way w e p) b
+      go false p = rw (heard-no-way w e p) tt
+
+  pub from-neighbour : (w v : ℕ) (x : Route) → I .neighbour w v ≡ true → heardFrom I w v x ≡ heard I w (advertises I v x w)
+  unfolding heardFrom
+  from-neighbour w v x p = cc
+
+  pub from-stranger : (w v : ℕ) (x : Route) → I .neighbour w v ≡ false → heardFrom I w v x ≡ none
+  unfolding heardFrom
+  from-stranger w v x p = cc
+
+  from-below : (w v : ℕ) (x : Route) → v < I .n → RouteBelow (I .n) x → RouterBelow (I .n) (heardFrom I w v x)
+  from-below w v x l b = go (I .neighbour w v) refl
+    where
+      go : (p : Bool) → I .neighbour w v ≡ p → RouterBelow (I .n) (heardFrom I w v x)
+      go true p = rw (from-neighbour w v x p) (heard-router w _ (advertises-below v x w l b))
+      go false p = rw (from-stranger w v x p) tt
+
+  hears-is : (view : ℕ → Route) (w v e : ℕ) → hears I view w v e ≡ isRouter e (heardFrom I w v (view v))
+  unfolding hears
   hears-is view w v e = go (I .neighbour w v) refl
     where
-      go : (p : Bool) → I .neighbour w v ≡ p → hears I view w v e ≡ isRouter e (toldBy I w v (view v))
-      go true p = cc
-      go false p = cc
+      go : (p : Bool) → I .neighbour w v ≡ p → hears I view w v e ≡ isRouter e (heardFrom I w v (view v))
+      go true p = cc (heard-is w e (advertises I v (view v) w), from-neighbour w v (view v) p)
+      go false p = cc (from-stranger w v (view v) p)
 
   -- what is kept of a view whose routes name routers below n
   module _ (w : ℕ) (view : ℕ → Route) (b : (v : ℕ) → v < I .n → RouteBelow (I .n) (view v)) where
     pub heard-below : (i : ℕ) → i ≤ I .n → RouteBelow (I .n) (keptHeard I w view i)
     unfolding keptHeard
-    heard-below = kept-below (prefers I w) (prefers-order I w) (λ v. toldBy I w v (view v)) (I .n) (λ v l. told-below w v (view v) l (b v l))
+    heard-below =
+        kept-below (prefers I w) (prefers-order I w) (λ v. heardFrom I w v (view v)) (I .n) (λ v l. from-below w v (view v) l (b v l))
+
+    -- w has a way to what is kept
+    pub heard-ways : (i : ℕ) → i ≤ I .n → HasWay I w (keptHeard I w view i)
+    unfolding keptHeard
+    heard-ways i l =
+        go (keptHeard I w view i)
+        (kept-is (prefers I w) (prefers-order I w) (λ v. heardFrom I w v (view v)) (I .n) (λ v l. from-below w v (view v) l (b v l)) i l)
+      where
+        go : (x : Route) → KeptIs (prefers I w) (prefers-order I w) (λ v. heardFrom I w v (view v)) (I .n) i x → HasWay I w x
+        go nothing k = tt
+        go (via e s) k =
+            hears-way I view w s e (hears-is view w s e ∙ ap (isRouter e) (k .tells) ∙ isRouter-some e)
 
     -- one pass finds what an activation leaves
     pub heard-choice : I .listed w ≡ false → keptHeard I w view (I .n) ≡ choose I w view
     unfolding keptHeard
     heard-choice p =
         choice-unique (prefers I w) (hears I view w) (I .n) (prefers-order I w) (keptHeard I w view (I .n)) (choose I w view)
-        (kept-choice (prefers I w) (prefers-order I w) (λ v. toldBy I w v (view v)) (I .n) (λ v l. told-below w v (view v) l (b v l))
+        (kept-choice (prefers I w) (prefers-order I w) (λ v. heardFrom I w v (view v)) (I .n) (λ v l. from-below w v (view v) l (b v l))
         (hears I view w) (hears-is view w))
         (choose-is I w view p)
 

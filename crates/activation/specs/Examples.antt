@@ -17,6 +17,7 @@ threeRouters =
       reflector = λ v. eqb v 0;
       neighbour = λ w v. not (eqb w v) && (eqb w 0 || eqb v 0);
       dist = λ u e. 0;
+      way = λ u e. true;
       listed = λ v. eqb v 1;
     }
 

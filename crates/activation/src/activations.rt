@@ -8,14 +8,14 @@ ghost use mathlib.Core.List.{List};
 ghost use Prim.Native.Nat.{ℕ, _*_, _≤_, _<_};
 ghost use lib.ListN.{length};
 ghost use Rattle.base.specs.Bits.{bits};
-ghost use Rattle.bodies.specs.Distances.{distanceIn};
 ghost use Rattle.routing.specs.Instance.{Instance};
 ghost use Rattle.routing.specs.Preference.{prefers};
 ghost use Rattle.routing.specs.Activation.{reflects, advertises};
 ghost use Rattle.network.specs.Decoded.{decoded, instance};
 ghost use Rattle.activation.specs.TableBytes.{RouteBelow, RoutesIn, TableIn, routeAt, routeOf, activateBytes};
 ghost use Rattle.routing.specs.RouterBytes.{asRouter, RouterBelow};
-ghost use Rattle.activation.specs.OnePass.{keepRoute, keepHeard, keptHeard};
+ghost use Rattle.activation.specs.OnePass.{heard, HasWay, keepRoute, keepHeard, keptHeard};
+ghost use Rattle.network.specs.Measured.{Measured};
 ghost use Rattle.network.specs.WellFormed.{WellFormed};
 
 // What an unlisted reflector that holds a route passes on to w; NO_ROUTER is nothing.
@@ -54,31 +54,36 @@ fn advertised(net: Network, v: usize, route: RouteBytes, w: usize) -> u8
     NO_ROUTER
 }
 
-// Of the route kept so far and the egress that router v tells, which w keeps.
+// Of the route kept so far and the egress that router v tells, which w keeps. There is a way to the one kept, and no way is farther
+// than any way: only the first egress is asked for one.
 fn keep(distances: &[u8], n: usize, w: usize, v: usize, told: u8, kept: RouteBytes) -> RouteBytes
     requires { ⌜ (w < n) × (v < n) × (n ≤ 64) × (2 * (n * n) ≤ length (now distances))
         × RouterBelow n (asRouter told) × RouteBelow n (routeOf kept) ⌝ }
-    ensures { λ r. ⌜ ((I : Instance) → I .dist ≡ distanceIn (now (distances .entry)) n
-        → routeOf r ≡ keepRoute (prefers I w) v (asRouter told) (routeOf kept)) ⌝ }
+    ensures { λ r. ⌜ ((I : Instance) → Measured I (now (distances .entry)) n → HasWay I w (routeOf kept)
+        → routeOf r ≡ keepRoute (prefers I w) v (heard I w (asRouter told)) (routeOf kept)) ⌝ }
 {
     if told == NO_ROUTER {
         return kept;
     }
+    let egress = base::wide(told);
     let offered = RouteBytes {
         egress: told,
         sender: v as u8,
     };
     let old = kept.egress;
     if old == NO_ROUTER {
-        return offered;
-    }
-    if told == old {
-        if base::wide(told) == v {
+        if bodies::distances::has_way(distances, n, w, egress) {
             return offered;
         }
         return kept;
     }
-    if network::comparison::prefers(distances, n, w, base::wide(told), base::wide(old)) {
+    if told == old {
+        if egress == v {
+            return offered;
+        }
+        return kept;
+    }
+    if network::comparison::prefers(distances, n, w, egress, base::wide(old)) {
         return offered;
     }
     kept
@@ -95,7 +100,7 @@ fn hear(
 ) -> RouteBytes
     requires { ⌜ (net .n ≤ 64) × (w < net .n) × (v < net .n) × (2 * (net .n * net .n) ≤ length (now distances))
         × RouteBelow (net .n) (routeOf entry) × RouteBelow (net .n) (routeOf kept) ⌝ }
-    ensures { λ r. ⌜ ((rows : List ℕ) → bits rows w v ≡ 1
+    ensures { λ r. ⌜ ((rows : List ℕ) → bits rows w v ≡ 1 → HasWay (decoded net rows (now (distances .entry))) w (routeOf kept)
         → routeOf r ≡ keepHeard (decoded net rows (now (distances .entry))) w v (routeOf entry) (routeOf kept)) ⌝ }
 {
     keep(distances, net.n, w, v, advertised(net, v, entry, w), kept)

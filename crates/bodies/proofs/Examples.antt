@@ -3,13 +3,13 @@ use mathlib.Core.Path.{refl}
 use Rattle.base.specs.Below.{allBelow}
 use Rattle.bodies.specs.Routers.{routerOk, routersOk}
 use Rattle.bodies.specs.Sessions.{sessionOk, sessionsOk}
-use Rattle.bodies.specs.Distances.{distanceOk, distanceRowOk, distancesOk}
+use Rattle.bodies.specs.Distances.{distancesOk}
 use Rattle.bodies.specs.Lists.{listPlace, memberOk, listAtOk, listOk, eachListOk, listsOk}
 use Rattle.bodies.specs.Examples.{BodiesExamples}
 
 pub bodies-examples : BodiesExamples
 unfolding
-    routerOk routersOk sessionOk sessionsOk distanceOk distanceRowOk distancesOk
+    routerOk routersOk sessionOk sessionsOk distancesOk
     listPlace memberOk listAtOk listOk eachListOk listsOk allBelow
 bodies-examples =
     record {
@@ -26,9 +26,12 @@ bodies-examples =
       noSession = refl;
       highByte = refl;
       rowThenColumn = refl;
-      most = refl;
-      oneMore = refl;
+      farthest = refl;
+      noWay = refl;
+      wayBack = refl;
+      cutOff = refl;
       diagonal = refl;
+      cutOffFromItself = refl;
       secondList = refl;
       itsNumber = refl;
       lastNumber = refl;

@@ -13,7 +13,7 @@ use Rattle.base.proofs.Numbers.{facts, both, eq-or-ne, leb-iff}
 use Rattle.bodies.specs.Rising.{risesAt}
 use Rattle.bodies.specs.Routers.{role, identifier, identifierBefore, routerOk, routersOk}
 use Rattle.bodies.specs.Sessions.{sessionCount, sessionFirst, sessionSecond, sessionBefore, sessionOk, sessionsOk}
-use Rattle.bodies.specs.Distances.{distanceIn, distanceOk, distanceRowOk, distancesOk}
+use Rattle.bodies.specs.Distances.{diagonalOk, distancesOk}
 use Rattle.bodies.specs.Lists.{listCountIn, listPlace, memberCount, member, memberBefore, memberOk, listAtOk, listOk, eachListOk, listsOk}
 use Rattle.bodies.specs.Passed.{Routers, Sessions, Distances, ListAt, Lists}
 use Rattle.bodies.proofs.Rising.{numbers-rise, numbers-step, pairs-rise, pairs-step}
@@ -74,32 +74,13 @@ module _ (s : List ℕ) where
 
 -- row 6
 module _ (s : List ℕ) (n : ℕ) where
-  abbrev DistanceAt : ℕ → ℕ → Type 0
-  DistanceAt u e = (distanceIn s n u e ≤ 65534) × (u ≡ e → distanceIn s n u e ≡ 0)
-
-  distance-fact : (u e : ℕ) → distanceOk s n u e ≡ true → DistanceAt u e
-  unfolding distanceOk
-  distance-fact u e h =
-      let parts : (distanceIn s n u e ≤ 65534) × ((not (eqb u e) || eqb (distanceIn s n u e) 0) ≡ true) = simp facts at h in
-      (parts .0, λ same. eqb-true _ _ (rw (eq-eqb u e same) at (parts .1)))
-
-  distance-test : (u e : ℕ) → DistanceAt u e → distanceOk s n u e ≡ true
-  unfolding distanceOk
-  distance-test u e d =
-      both _ _ (leb-iff _ _ .1 (d .0))
-      (⊎-elim (λ same. rw (eq-eqb _ 0 (d .1 same)) (or-true (not (eqb u e)))) (λ (other : u ≡ e → ⊥). rw (ne-eqb u e other)) (eq-or-ne u e))
-
   pub distances-facts : distancesOk s n ≡ true → Distances s n
-  unfolding distancesOk distanceRowOk
-  distances-facts h =
-      let each : (u e : ℕ) → u < n → e < n → DistanceAt u e = λ u e l m. distance-fact u e (all-at _ n (all-at _ n h u l) e m) in
-      record { most = λ u e l m. each u e l m .0; diagonal = λ u l. each u u l l .1 refl }
+  unfolding distancesOk
+  distances-facts h = record { diagonal = λ u l. eqb-true _ 0 (all-at (diagonalOk s n) n h u l) }
 
   pub distances-holds : Distances s n → distancesOk s n ≡ true
-  unfolding distancesOk distanceRowOk
-  distances-holds f =
-      all-intro _ n
-      (λ u l. all-intro _ n (λ e m. distance-test u e (f .most u e l m, λ same. rw (← same) (f .diagonal u l))))
+  unfolding distancesOk
+  distances-holds f = all-intro (diagonalOk s n) n (λ u l. eq-eqb _ 0 (f .diagonal u l))
 
 -- row 7
 module _ (s : List ℕ) (n : ℕ) where

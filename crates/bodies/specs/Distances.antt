@@ -1,8 +1,8 @@
--- Document 01, "Kind 3, distances". `s` is the body of kind 3, of n rows of n distances.
+-- Document 01, "Kind 3, distances", and document 02, "Cut-off routers". `s` is the body of kind 3, of n rows of n distances.
 use Prim.Native.Nat.{ℕ, _+_, _*_}
 use mathlib.Core.List.{List}
-use mathlib.Core.Bool.{Bool, _&&_, _||_, not}
-use lib.Dec.{leb, eqb}
+use mathlib.Core.Bool.{Bool, not}
+use lib.Dec.{eqb}
 use Rattle.base.specs.Below.{allBelow}
 use Rattle.base.specs.Bytes.{littleEndian}
 
@@ -10,13 +10,15 @@ use Rattle.base.specs.Bytes.{littleEndian}
 abbrev pub distanceIn : List ℕ → ℕ → ℕ → ℕ → ℕ
 distanceIn s n u e = littleEndian 2 s (2 * (u * n + e))
 
--- "0 to 65,534 .. The diagonal is 0."
-unfoldable pub distanceOk : List ℕ → ℕ → ℕ → ℕ → Bool
-distanceOk s n u e = leb (distanceIn s n u e) 65534 && (not (eqb u e) || eqb (distanceIn s n u e) 0)
+-- "The distance 65,535 off the diagonal now means 'no way'": u has a way to e
+abbrev pub wayIn : List ℕ → ℕ → ℕ → ℕ → Bool
+wayIn s n u e = not (eqb (distanceIn s n u e) 65535)
 
-unfoldable pub distanceRowOk : List ℕ → ℕ → ℕ → Bool
-distanceRowOk s n u = allBelow (distanceOk s n u) n
+-- "The diagonal is 0."
+abbrev pub diagonalOk : List ℕ → ℕ → ℕ → Bool
+diagonalOk s n u = eqb (distanceIn s n u u) 0
 
--- Row 6 refuses "a distance breaks kind 3".
+-- Row 6 refuses "a distance breaks kind 3": "refusal 6 covers 65,535 on the diagonal only", and every other number there but 0.
+-- Off the diagonal any two bytes are a distance or no way.
 unfoldable pub distancesOk : List ℕ → ℕ → Bool
-distancesOk s n = allBelow (distanceRowOk s n) n
+distancesOk s n = allBelow (diagonalOk s n) n

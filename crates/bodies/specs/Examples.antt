@@ -5,7 +5,7 @@ use mathlib.Core.Bool.{true, false}
 use mathlib.Core.List.{[], _∷_}
 use Rattle.bodies.specs.Routers.{identifier, routersOk}
 use Rattle.bodies.specs.Sessions.{sessionsOk}
-use Rattle.bodies.specs.Distances.{distanceIn, distancesOk}
+use Rattle.bodies.specs.Distances.{distanceIn, wayIn, distancesOk}
 use Rattle.bodies.specs.Lists.{listsOk, listPlace, member}
 
 pub record BodiesExamples : Type 0 where
@@ -26,10 +26,14 @@ pub record BodiesExamples : Type 0 where
   -- "row u, column e is the distance from u to e", two bytes, low byte first
   pub highByte : distanceIn (0 ∷ 0 ∷ 2 ∷ 1 ∷ 7 ∷ 0 ∷ 0 ∷ 0 ∷ []) 2 0 1 ≡ 258  -- by the low byte: 2
   pub rowThenColumn : distanceIn (0 ∷ 0 ∷ 2 ∷ 1 ∷ 7 ∷ 0 ∷ 0 ∷ 0 ∷ []) 2 1 0 ≡ 7  -- column, then row: 258
-  -- "0 to 65,534 .. The diagonal is 0."
-  pub most : distancesOk (0 ∷ 0 ∷ 254 ∷ 255 ∷ 7 ∷ 0 ∷ 0 ∷ 0 ∷ []) 2 ≡ true  -- below 65,534: false
-  pub oneMore : distancesOk (0 ∷ 0 ∷ 255 ∷ 255 ∷ 7 ∷ 0 ∷ 0 ∷ 0 ∷ []) 2 ≡ false  -- any two bytes: true
+  -- "0 to 65,534"; "The distance 65,535 off the diagonal now means 'no way'"
+  pub farthest : wayIn (0 ∷ 0 ∷ 254 ∷ 255 ∷ 7 ∷ 0 ∷ 0 ∷ 0 ∷ []) 2 0 1 ≡ true  -- below 65,534: false
+  pub noWay : wayIn (0 ∷ 0 ∷ 255 ∷ 255 ∷ 7 ∷ 0 ∷ 0 ∷ 0 ∷ []) 2 0 1 ≡ false  -- a very long way: true
+  pub wayBack : wayIn (0 ∷ 0 ∷ 255 ∷ 255 ∷ 7 ∷ 0 ∷ 0 ∷ 0 ∷ []) 2 1 0 ≡ true  -- cut off both ways: false
+  pub cutOff : distancesOk (0 ∷ 0 ∷ 255 ∷ 255 ∷ 7 ∷ 0 ∷ 0 ∷ 0 ∷ []) 2 ≡ true  -- 65,535 refused: false
+  -- "The diagonal is 0."; "refusal 6 covers 65,535 on the diagonal only"
   pub diagonal : distancesOk (0 ∷ 0 ∷ 2 ∷ 1 ∷ 7 ∷ 0 ∷ 0 ∷ 1 ∷ []) 2 ≡ false  -- by the low byte: true
+  pub cutOffFromItself : distancesOk (0 ∷ 0 ∷ 2 ∷ 1 ∷ 7 ∷ 0 ∷ 255 ∷ 255 ∷ []) 2 ≡ false  -- 65,535 anywhere: true
   -- "one byte m, 1 to 64, then m lists, each a count byte c from 1 to n and c router numbers below n, rising strictly"
   pub secondList : listPlace (2 ∷ 2 ∷ 0 ∷ 1 ∷ 1 ∷ 3 ∷ []) 1 ≡ 4  -- by lists of one number: 3
   pub itsNumber : member (2 ∷ 2 ∷ 0 ∷ 1 ∷ 1 ∷ 3 ∷ []) 4 0 ≡ 3  -- the count byte: 1

@@ -1,4 +1,4 @@
--- What the four bodies of a plan that is not refused are, in plain facts: document 01, "The plan's bytes".
+-- What the four bodies of a plan that is not refused are, in plain facts: document 01, "The plan's bytes", and of row 6 document 02.
 -- `..-facts` and `..-holds` say that the check of a row passes exactly if its facts hold.
 use Prim.Native.Nat.{ℕ, _+_, _≤_, _<_}
 use mathlib.Core.List.{List}
@@ -22,9 +22,8 @@ pub record Sessions (s : List ℕ) (n : ℕ) : Type 0 where
   pub ordered : (j : ℕ) → j < sessionCount s → sessionFirst s j < sessionSecond s j
   pub rising : (i j : ℕ) → i < j → j < sessionCount s → PairBefore (sessionFirst s) (sessionSecond s) i j
 
--- row 6: every distance at most 65,534, and 0 on the diagonal
+-- row 6: the distance of every router to itself is 0
 pub record Distances (s : List ℕ) (n : ℕ) : Type 0 where
-  pub most : (u e : ℕ) → u < n → e < n → distanceIn s n u e ≤ 65534
   pub diagonal : (u : ℕ) → u < n → distanceIn s n u u ≡ 0
 
 -- one list, its count byte at `place`: 1 to n numbers below n, strictly rising, within the body

@@ -3,7 +3,10 @@
 ghost use mathlib.Core.Path.{_≡_};
 ghost use Prim.Native.Nat.{_*_, _≤_, _<_};
 ghost use lib.ListN.{length};
-ghost use Rattle.bodies.specs.Distances.{distanceIn, distanceOk, distanceRowOk, distancesOk};
+ghost use Rattle.bodies.specs.Distances.{distanceIn, wayIn, diagonalOk, distancesOk};
+
+// The distance that stands for no way.
+const NO_WAY: usize = 65535;
 
 // The distance from u to e.
 pub fn distance(s: &[u8], n: usize, u: usize, e: usize) -> usize
@@ -13,32 +16,20 @@ pub fn distance(s: &[u8], n: usize, u: usize, e: usize) -> usize
     base::read2(s, 2 * (u * n + e))
 }
 
-fn distance_ok(s: &[u8], n: usize, u: usize, e: usize) -> bool
+// Whether u has a way to e.
+pub fn has_way(s: &[u8], n: usize, u: usize, e: usize) -> bool
     requires { ⌜ (u < n) × (e < n) × (n ≤ 64) × (2 * (n * n) ≤ length (now s)) ⌝ }
-    ensures { λ r. ⌜ r ≡ distanceOk (now (s .entry)) n u e ⌝ }
+    ensures { λ r. ⌜ r ≡ wayIn (now (s .entry)) n u e ⌝ }
 {
-    let d = distance(s, n, u, e);
-    if 65534 < d {
-        return false;
-    }
-    if u != e {
-        return true;
-    }
-    d == 0
+    distance(s, n, u, e) != NO_WAY
 }
 
-fn distance_row_ok(s: &[u8], n: usize, u: usize) -> bool
+// Whether the distance of u to itself is 0.
+fn diagonal_ok(s: &[u8], n: usize, u: usize) -> bool
     requires { ⌜ (u < n) × (n ≤ 64) × (2 * (n * n) ≤ length (now s)) ⌝ }
-    ensures { λ r. ⌜ r ≡ distanceRowOk (now (s .entry)) n u ⌝ }
+    ensures { λ r. ⌜ r ≡ diagonalOk (now (s .entry)) n u ⌝ }
 {
-    let mut e = 0;
-    while e < n {
-        if !distance_ok(s, n, u, e) {
-            return false;
-        }
-        e += 1;
-    }
-    true
+    distance(s, n, u, u) == 0
 }
 
 pub fn distances_ok(s: &[u8], n: usize) -> bool
@@ -47,7 +38,7 @@ pub fn distances_ok(s: &[u8], n: usize) -> bool
 {
     let mut u = 0;
     while u < n {
-        if !distance_row_ok(s, n, u) {
+        if !diagonal_ok(s, n, u) {
             return false;
         }
         u += 1;

@@ -25,7 +25,7 @@ pub fn compare(plan: &[u8], router: usize, first: usize, second: usize) {
         CompareAnswer::Refused(number) => text::number(wide(number)),
         CompareAnswer::First => text::word(b"first"),
         CompareAnswer::Second => text::word(b"second"),
-        CompareAnswer::Same => text::word(b"same"),
+        CompareAnswer::Neither => text::word(b"neither"),
     }
 }
 

@@ -7,14 +7,14 @@ use Rattle.contents.specs.Header.{headerOk, routerCountOk}
 use Rattle.contents.specs.Contents.{kindsOk, placesOk, sizesOk, contentsOk}
 use Rattle.bodies.specs.Routers.{routerOk, routersOk}
 use Rattle.bodies.specs.Sessions.{sessionOk, sessionsOk}
-use Rattle.bodies.specs.Distances.{distanceOk, distanceRowOk, distancesOk}
+use Rattle.bodies.specs.Distances.{distancesOk}
 use Rattle.bodies.specs.Lists.{listPlace, memberOk, listAtOk, listOk, eachListOk, listsOk}
 use Rattle.plan.specs.Refusal.{refuse, bodyChecks, planChecks, planRefusal}
 use Rattle.links.specs.Sheet.{linkOk, sheetOk}
 use Rattle.links.specs.Sums.{direct, summing}
 use Rattle.links.specs.Distances.{sumsOk, distancesRefusal, rowOf, bodyOf, distancesBody, distancesAfter}
 use Rattle.network.specs.FromPlan.{pairs, inSession, named}
-use Rattle.routing.specs.Preference.{prefers}
+use Rattle.routing.specs.Preference.{prefers, better}
 use Rattle.routing.specs.Reliance.{listedClientOf, bestClient, offer, betterOffer, relies}
 use Rattle.routing.specs.Activation.{reflects, advertises, hears, senderOf, routeTo, choice, choose, entryOk, tableOk}
 use Rattle.routing.specs.Rounds.{acted, roundsFrom, rounds}
@@ -26,7 +26,7 @@ use Rattle.settling.specs.Settled.{chooseAll, chosenAfter, settledTable}
 use Rattle.activation.specs.TableBytes.{readRoute, tableOf, tableBytes, activateBytes, runBytes}
 use Rattle.refusals.specs.Refusals.{egressListRefusal, compareRefusal, reliesRefusal, buffersOk, verdictRefusal}
 use Rattle.refusals.specs.Refusals.{tableChecks, sequenceOk, activateRefusal, runRefusal}
-use Rattle.queries.specs.Compare.{better}
+use Rattle.queries.specs.Compare.{whichBetter}
 use Rattle.running.specs.Activate.{activateTable}
 use Rattle.checker.specs.Verdict.{isStable, labelsOf, ranksOf, highestOf, settledBytes, cycleOf, sizeOf}
 use Rattle.checker.specs.Verdict.{labelsAfter, ranksAfter, tableAfter, cycleAfter}
@@ -35,14 +35,14 @@ use Rattle.exports.specs.Examples.{plan, ExportExamples}
 
 pub export-examples : ExportExamples
 unfolding
-    plan egressListRefusal compareRefusal reliesRefusal better
+    plan egressListRefusal compareRefusal reliesRefusal whichBetter
     isStable labelsOf ranksOf highestOf settledBytes cycleOf sizeOf buffersOk verdictRefusal labelsAfter ranksAfter tableAfter cycleAfter
     tableChecks sequenceOk activateRefusal activateTable runRefusal runApplied runRounds runExhausted runTable
     readRoute tableOf tableBytes activateBytes runBytes chooseAll chosenAfter settledTable start next walk second first lap cycleIn cycle
     rankOver rankRounds rank together label stable grouped closing acted roundsFrom rounds
-    reflects advertises hears senderOf routeTo choice choose entryOk tableOk listedClientOf bestClient offer betterOffer relies prefers
+    reflects advertises hears senderOf routeTo choice choose entryOk tableOk listedClientOf bestClient offer betterOffer relies prefers better
     pairs inSession named refuse bodyChecks planChecks planRefusal
-    headerOk routerCountOk kindsOk placesOk sizesOk contentsOk routerOk routersOk sessionOk sessionsOk distanceOk distanceRowOk distancesOk
+    headerOk routerCountOk kindsOk placesOk sizesOk contentsOk routerOk routersOk sessionOk sessionsOk distancesOk
     linkOk sheetOk direct summing sumsOk distancesRefusal rowOf bodyOf distancesBody distancesAfter joined
     listPlace memberOk listAtOk listOk eachListOk listsOk allBelow anyBelow keepBest best seek highest tab
 export-examples =
@@ -68,4 +68,5 @@ export-examples =
       refusedRun = λ r t a n x e. (e .numbered, e .bytes, e .acted, e .whole, e .cut);
       distances = λ r o e. (e .number, e .bytes);
       refusedDistances = λ r o e. (e .number, e .bytes);
+      noWayBack = λ r o e. (e .number, e .bytes);
     }

@@ -114,5 +114,8 @@ pub record ExportExamples : Type 0 where
   -- distances 0 1 3, 262 0 2 and 260 261 0, in two bytes each
   pub distances : (r : ℕ) (out : List ℕ) → DistancesCall 3 links r nineteen out
       → (r ≡ 0) × (out ≡ 0 ∷ 0 ∷ 1 ∷ 0 ∷ 3 ∷ 0 ∷ 6 ∷ 1 ∷ 0 ∷ 0 ∷ 2 ∷ 0 ∷ 4 ∷ 1 ∷ 5 ∷ 1 ∷ 0 ∷ 0 ∷ 9 ∷ [])
-  -- router 3 has no link: number 12, also where the buffer is short, and the buffer is left as it was
-  pub refusedDistances : (r : ℕ) (out : List ℕ) → DistancesCall 4 links r nineteen out → (r ≡ 12) × (out ≡ nineteen)
+  -- from 0 to 1 it is 65,535, too far: number 12, also where the buffer is short, and the buffer is left as it was
+  pub refusedDistances : (r : ℕ) (out : List ℕ) → DistancesCall 4 (0 ∷ 1 ∷ 255 ∷ 255 ∷ []) r nineteen out → (r ≡ 12) × (out ≡ nineteen)
+  -- from 1 to 0 there is no walk: 65,535, no way
+  pub noWayBack : (r : ℕ) (out : List ℕ) → DistancesCall 2 (0 ∷ 1 ∷ 7 ∷ 0 ∷ []) r nineteen out
+      → (r ≡ 0) × (out ≡ 0 ∷ 0 ∷ 7 ∷ 0 ∷ 255 ∷ 255 ∷ 0 ∷ 0 ∷ 9 ∷ 9 ∷ 9 ∷ 9 ∷ 9 ∷ 9 ∷ 9 ∷ 9 ∷ 9 ∷ 9 ∷ 9 ∷ [])

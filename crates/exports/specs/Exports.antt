@@ -12,7 +12,7 @@ use Rattle.routing.specs.Reliance.{relies}
 use Rattle.network.specs.FromPlan.{instanceOf}
 use Rattle.plan.specs.Refused.{unlessRefused}
 use Rattle.refusals.specs.Refusals.{egressListRefusal, compareRefusal, reliesRefusal, verdictRefusal, runRefusal}
-use Rattle.queries.specs.Compare.{better}
+use Rattle.queries.specs.Compare.{whichBetter}
 use Rattle.checker.specs.Verdict.{isStable, sizeOf, labelsAfter, ranksAfter, tableAfter, cycleAfter}
 use Rattle.running.specs.Run.{runApplied, runRounds, runExhausted, runTable}
 
@@ -32,10 +32,10 @@ pub record ListExport (plan : List ℕ) (k r : ℕ) (start count : Lent ℕ) : T
   pub started : Holds (egressListRefusal plan k) start (listStart plan k)
   pub counted : Holds (egressListRefusal plan k) count (listSize plan k)
 
--- rrp_compare: 1 if at w the first, e, is better, 2 if the second, f, is, 0 if they are the same
+-- rrp_compare: 1 if at w the first, e, is better, 2 if the second, f, is, 0 if neither is
 pub record CompareExport (plan : List ℕ) (w e f r : ℕ) (preferred : Lent ℕ) : Type 0 where
   pub number : r ≡ compareRefusal plan w e f
-  pub compared : Holds (compareRefusal plan w e f) preferred (better plan w e f)
+  pub compared : Holds (compareRefusal plan w e f) preferred (whichBetter plan w e f)
 
 -- rrp_relies: 1 if w relies on v for list k, else 0
 pub record ReliesExport (plan : List ℕ) (k w v r : ℕ) (relied : Lent ℕ) : Type 0 where

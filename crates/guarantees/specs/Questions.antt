@@ -14,7 +14,7 @@ use Rattle.checker.specs.declared.verdict.VerdictAnswer.{VerdictAnswer}
 use Rattle.plan.specs.Refused.{unlessRefused, field}
 use Rattle.queries.specs.Size.{sizeRouters, sizeLists}
 use Rattle.queries.specs.EgressList.{egressListStart, egressListSize}
-use Rattle.queries.specs.Compare.{better, compared}
+use Rattle.queries.specs.Compare.{whichBetter, compared}
 use Rattle.queries.specs.Relies.{relied}
 use Rattle.checker.specs.Verdict.{verdictAnswer, labelsAfter, ranksAfter, tableAfter, cycleAfter}
 use Rattle.running.specs.Activate.{activateTable}
@@ -50,7 +50,7 @@ answerTo plan (listAsked k) =
     listIs (egressListRefusal plan k) (egressListStart plan k) (take (egressListSize plan k) (drop (egressListStart plan k) plan))
 answerTo plan (compareAsked w e f) =
     let number = compareRefusal plan w e f in
-    compareIs (unlessRefused number (compares.Refused number) (compared plan w e f)) (field number (better plan w e f))
+    compareIs (unlessRefused number (compares.Refused number) (compared plan w e f)) (field number (whichBetter plan w e f))
 answerTo plan (reliesAsked k w v) =
     let number = reliesRefusal plan k w v in
     reliesIs (unlessRefused number (relying.Refused number) (relied plan k w v))
@@ -65,7 +65,7 @@ answerTo plan (runAsked k acts limit table) =
     runIs number (runApplied number acts limit) (runRounds number plan acts limit) (runExhausted number acts limit)
     (runTable plan k acts limit table)
 
--- a plan, a question and the answer that document 01 gives
+-- a plan, a question and the answer that the papers give
 pub data Example : Type 0 where
   example : (plan : List ℕ) (question : Question) (answer : Answer) → Example
 

@@ -4,7 +4,7 @@ use Prim.Native.Nat.{ℕ}
 use mathlib.Core.Bool.{true, false}
 use mathlib.Core.List.{List, [], _∷_, _++_}
 use lib.ListN.{replicate}
-use Rattle.queries.specs.declared.compare.CompareAnswer.the-variants.{First, Second, Same}
+use Rattle.queries.specs.declared.compare.CompareAnswer.the-variants.{First, Second, Neither}
 use Rattle.queries.specs.declared.relies.ReliesAnswer.the-variants.{Yes, No}
 use Rattle.checker.specs.declared.verdict.VerdictAnswer.the-variants.{Suspect}
 use Rattle.guarantees.specs.Questions.{checkAsked, sizeAsked, listAsked, compareAsked, reliesAsked}
@@ -113,7 +113,7 @@ firstIsBetter = example six (compareAsked 1 5 4) (compareIs First 1)
 
 -- .. and of a router with itself. Misread as one of the two: Second.
 abbrev pub sameRouterTwice : Example
-sameRouterTwice = example six (compareAsked 1 5 5) (compareIs Same 0)
+sameRouterTwice = example six (compareAsked 1 5 5) (compareIs Neither 0)
 
 -- "Scaling distances": 19 and 11. Misread in tens, they are equal and 3 is the lower number: First.
 abbrev pub distancesAsTheyAre : Example

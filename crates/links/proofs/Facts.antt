@@ -4,16 +4,16 @@ use native.Mathlib.Omega.{arith}
 use mathlib.Core.Path.{_≡_, refl, _∙_, sym, ap}
 use mathlib.Core.Bool.{Bool, true, false, _&&_, and-true}
 use mathlib.Core.List.{List}
-use mathlib.Core.Logic.{_⊎_, inl, inr, ⊎-elim, _↔_}
+use mathlib.Core.Logic.{_↔_}
 use mathlib.Core.Option.{Option, none, some}
-use borrow.Author.Tests.{leb-true, leb-false}
+use borrow.Author.Tests.{le-leb, leb-true, leb-false}
 use lib.ListN.{length, getD}
 use Rattle.base.specs.Below.{allBelow}
 use Rattle.base.proofs.Below.{all-at, all-intro, all-none, all-suc}
-use Rattle.base.proofs.Numbers.{facts, not-both, true-or-false}
+use Rattle.base.proofs.Numbers.{facts, not-both}
 use Rattle.bodies.specs.Rising.{risesAt}
 use Rattle.bodies.proofs.Rising.{pairs-rise, pairs-step}
-use Rattle.links.specs.Sheet.{linkCount, linkFrom, linkTo, linkWeight, linkBefore, linkOk, sheetOk}
+use Rattle.links.specs.Sheet.{linksMost, linkCount, linkFrom, linkTo, linkWeight, linkBefore, linkOk, sheetOk}
 use Rattle.links.specs.Walks.{Walk, Least, LeastIs}
 use Rattle.links.specs.Sums.{cell, leastSums}
 use Rattle.links.specs.Distances.{fits, sumsOk}
@@ -32,7 +32,7 @@ module _ (s : List ℕ) (n : ℕ) where
   pub sheet-facts : sheetOk s n ≡ true → Sheet s n
   unfolding sheetOk
   sheet-facts h =
-      let f : ((length s % 4 ≡ 0) × (linkCount s ≤ 512)) × (allBelow (linkOk s n) (linkCount s) ≡ true) = simp facts at h in
+      let f : ((length s % 4 ≡ 0) × (linkCount s ≤ linksMost)) × (allBelow (linkOk s n) (linkCount s) ≡ true) = simp facts at h in
       let each : (k : ℕ) → k < linkCount s → LinkAt k = λ k l. link-iff k .0 (all-at _ _ (f .1) k l) in
       record {
         whole = f .0 .0;
@@ -79,6 +79,10 @@ all-failing p (suc n) h = go (p n) refl (all-failing p n)
 pub least-unique : (s : List ℕ) (i j d e : ℕ) → Least s i j d → Least s i j e → d ≡ e
 least-unique s i j d e p q = omega (arith, p .has, q .has, p .least (q .walk), q .least (p .walk))
 
+-- the least sum of a pair that is near if it has a walk
+pub near-most : (s : List ℕ) (u e d : ℕ) → Least s u e d → (Walk s u e → Near s u e) → d ≤ 65534
+near-most s u e d l h = let p = h (l .walk) in omega (arith, least-unique s u e d (p .distance) l (p .least), p .most)
+
 module _ (s : List ℕ) (n : ℕ) (f : Sheet s n) where
   abbrev computed : ℕ → ℕ → Option ℕ
   computed = cell (leastSums s n)
@@ -86,19 +90,23 @@ module _ (s : List ℕ) (n : ℕ) (f : Sheet s n) where
   pub computed-least : (u e : ℕ) → u < n → e < n → LeastIs s u e (computed u e)
   computed-least = least-sums s n (f .froms) (f .tos)
 
-  near : (u e : ℕ) (x : Option ℕ) → LeastIs s u e x → fits x ≡ true → Near s u e
+  near : (u e : ℕ) (x : Option ℕ) → LeastIs s u e x → fits x ≡ true → Walk s u e → Near s u e
   unfolding LeastIs
-  near u e none l h = not-both false h refl
-  near u e (some d) l h = record { distance = d; least = l; most = leb-true d 65534 h }
+  near u e none l h w = absurd (l w)
+  near u e (some d) l h w = record { distance = d; least = l; most = leb-true d 65534 h }
 
-  far : (u e : ℕ) (x : Option ℕ) → LeastIs s u e x → fits x ≡ false → (Walk s u e → ⊥) ⊎ Above s u e
+  far : (u e : ℕ) (x : Option ℕ) → LeastIs s u e x → fits x ≡ false → Above s u e
   unfolding LeastIs
-  far u e none l h = inl l
-  far u e (some d) l h = inr (record { distance = d; least = l; above = leb-false d 65534 h })
+  far u e none l h = not-both true refl h
+  far u e (some d) l h = record { distance = d; least = l; above = leb-false d 65534 h }
 
-  not-far : (u e : ℕ) → Near s u e → (Walk s u e → ⊥) ⊎ Above s u e → ⊥
-  not-far u e p (inl q) = q (p .least .walk)
-  not-far u e p (inr q) = omega (arith, least-unique s u e (p .distance) (q .distance) (p .least) (q .least), p .most, q .above)
+  not-far : (u e : ℕ) → (Walk s u e → Near s u e) → Above s u e → ⊥
+  not-far u e h q = omega (arith, near-most s u e (q .distance) (q .least) h, q .above)
+
+  sum-fits : (u e : ℕ) (x : Option ℕ) → LeastIs s u e x → (Walk s u e → Near s u e) → fits x ≡ true
+  unfolding LeastIs
+  sum-fits u e none l h = refl
+  sum-fits u e (some d) l h = le-leb d 65534 (near-most s u e d l h)
 
   pub sums-facts : sumsOk computed n ≡ true → AllNear s n
   unfolding sumsOk
@@ -107,12 +115,7 @@ module _ (s : List ℕ) (n : ℕ) (f : Sheet s n) where
   pub sums-holds : AllNear s n → sumsOk computed n ≡ true
   unfolding sumsOk
   sums-holds h =
-      all-intro _ n
-      (λ u l.
-      all-intro _ n
-      (λ e m.
-      ⊎-elim (λ t. t) (λ (t : fits (computed u e) ≡ false). absurd (not-far u e (h u e l m) (far u e (computed u e) (computed-least u e l m) t)))
-      (true-or-false (fits (computed u e)))))
+      all-intro _ n (λ u l. all-intro _ n (λ e m. sum-fits u e (computed u e) (computed-least u e l m) (h u e l m)))
 
   pub sums-far : sumsOk computed n ≡ false → SomeFar s n
   unfolding sumsOk

@@ -127,7 +127,7 @@ Sound : List ℕ → Sums → ℕ → Type 0
 Sound s D n = (i j d : ℕ) → i < n → j < n → D i j ≡ some d → HasWalk s i j d
 
 -- one walk after another
-walk-on : {s : List ℕ} {i k j d : ℕ} (w : Walk s i k) → HasWalk s k j d → HasWalk s i j (sum w + d)
+pub walk-on : {s : List ℕ} {i k j d : ℕ} (w : Walk s i k) → HasWalk s k j d → HasWalk s i j (sum w + d)
 unfolding sum
 walk-on {s} {i} {k} {j} {d} (stay e) h = let g : HasWalk s i j d = rw e h in rw zero-add g
 walk-on {s} {d = d} (along l b e w) h =

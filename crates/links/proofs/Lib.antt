@@ -3,7 +3,10 @@ pub mod LeastSums
 pub mod KindThree
 pub mod Words
 pub mod Facts
+pub mod NearWords
+pub mod Reached
 pub mod InOrder
 pub mod Loops
 pub mod Returns
+pub mod SheetSizeExamples
 pub mod Meaning

@@ -7,17 +7,17 @@ use mathlib.Core.Bool.{Bool, true, false, cond, _&&_}
 use mathlib.Core.List.{List, _++_}
 use mathlib.Core.Logic.{⊎-elim}
 use mathlib.Core.Option.{Option, none, some}
-use borrow.Author.Tests.{eq-eqb, ne-eqb, eqb-true, le-leb, lt-leb, leb-true}
+use borrow.Author.Tests.{eq-eqb, ne-eqb, eqb-true, le-leb, leb-true}
 use lib.Dec.{leb, eqb}
 use lib.ListN.{length, getD, set, drop, replicate, length-set, length-replicate, getD-replicate}
 use lib.Seq.{getD-set-same, getD-set-other}
 use Rattle.base.specs.Tab.{tab}
 use Rattle.base.proofs.Tab.{getD-written}
-use Rattle.base.proofs.Below.{all-at, all-cong}
-use Rattle.base.proofs.Numbers.{both-left, both-right, not-both, eq-or-ne, lt-or-le}
+use Rattle.base.proofs.Below.{all-at, all-intro}
+use Rattle.base.proofs.Numbers.{both-left, both-right, eq-or-ne}
 use Rattle.links.specs.Sheet.{linkCount, linkFrom, linkTo, linkWeight}
 use Rattle.links.specs.Sums.{Sums, lesser, plus, nowhere, staying, linked, direct, through, cell, summing}
-use Rattle.links.specs.Words.{word, capped, wordAt, Holds, RowLowered, RowsLowered, rowFits, wordsFit}
+use Rattle.links.specs.Words.{word, capped, wordAt, Holds, RowLowered, RowsLowered, near, rowFits, wordsFit}
 use Rattle.links.specs.Distances.{fits, sumsOk, bodyOf, distanceOf}
 use Rattle.links.specs.Passed.{Sheet}
 use Rattle.links.proofs.LeastSums.{stage-none, stage-more}
@@ -220,22 +220,22 @@ module _ (s : List ℕ) (n : ℕ) where
       (holds-same (through (cell (summing s n k)) k) (cell (summing s n (suc k))) n after (λ i j l o. sym (stage-more s n k i j l o))
       (holds-through (cell (summing s n k)) n k t after u h r))
 
--- the words of sums that are distances
-word-fits : (x : Option ℕ) → leb (word x) 65534 ≡ fits x
-word-fits none = refl
-word-fits (some d) =
-    ⊎-elim (λ (l : 65534 < d). lt-leb (min d 65535) 65534 (omega arith) ∙ sym (lt-leb d 65534 l))
-    (λ (l : d ≤ 65534). le-leb (min d 65535) 65534 (omega arith) ∙ sym (le-leb d 65534 l))
-    (lt-or-le 65534 d)
+-- the words of sums that are distances, and of no walk
+word-fits : (x : Option ℕ) → leb (word x) 65534 ≡ true → fits x ≡ true
+word-fits none h = refl
+word-fits (some d) h = le-leb d 65534 (omega (arith, leb-true (min d 65535) 65534 h))
 
 word-distance : (x : Option ℕ) → fits x ≡ true → word x ≡ distanceOf x
-word-distance none h = not-both false h refl
+word-distance none h = refl
 word-distance (some d) h = omega (arith, leb-true d 65534 h)
 
 module _ (D : Sums) (n : ℕ) (t : List ℕ) (h : Holds D n t) where
-  pub words-fit : wordsFit t n ≡ sumsOk D n
+  pub near-fits : (u e : ℕ) → u < n → e < n → near t u e ≡ true → fits (D u e) ≡ true
+  near-fits u e l o b = word-fits (D u e) (ap (λ x. leb x 65534) (sym (h .are u e l o)) ∙ b)
+
+  pub words-fit : wordsFit t n ≡ true → sumsOk D n ≡ true
   unfolding wordsFit rowFits sumsOk
-  words-fit = all-cong _ _ n (λ u l. all-cong _ _ n (λ e o. ap (λ x. leb x 65534) (h .are u e l o) ∙ word-fits (D u e)))
+  words-fit ok = all-intro _ n (λ u l. all-intro _ n (λ e o. near-fits u e l o (all-at _ n (all-at _ n ok u l) e o)))
 
   pub words-body : sumsOk D n ≡ true → bodyOf (wordAt t) n ≡ bodyOf (λ u e. distanceOf (D u e)) n
   unfolding sumsOk

@@ -1,7 +1,7 @@
--- Document 02, "Distances from the link sheet": what the call returns and writes.
+-- Document 02, "Distances from the link sheet" and "Cut-off routers": what the call returns and writes.
 use Prim.Native.Nat.{ℕ, _*_, _/_, _%_}
 use mathlib.Core.Path.{_≡_}
-use mathlib.Core.Bool.{Bool, false}
+use mathlib.Core.Bool.{Bool, true}
 use mathlib.Core.List.{List, [], _∷_, _++_}
 use mathlib.Core.Option.{Option, none, some}
 use lib.Dec.{leb}
@@ -14,12 +14,12 @@ use Rattle.links.specs.Sheet.{sheetOk}
 use Rattle.plan.specs.Refused.{unlessRefused}
 use Rattle.links.specs.Sums.{Sums, cell, leastSums}
 
--- a least sum that a distance of two bytes can be
+-- "Slip 1 writes 65,535 for a pair with no walk, so 12 is left for sums that are too large.": a least sum is too large "above 65,534"
 abbrev pub fits : Option ℕ → Bool
-fits none = false
+fits none = true
 fits (some d) = leb d 65534
 
--- 12 is given "if some pair has no walk or a least sum above 65,534"
+-- 12 is given if some pair has a walk and a least sum that is too large
 unfoldable pub sumsOk : Sums → ℕ → Bool
 sumsOk D n = allBelow (λ u. allBelow (λ e. fits (D u e)) n) n
 
@@ -42,9 +42,9 @@ rowOf distance n = joined (λ e. wordOf (distance e)) n
 unfoldable pub bodyOf : (ℕ → ℕ → ℕ) → ℕ → List ℕ
 bodyOf distance n = joined (λ u. rowOf (distance u) n) n
 
--- "each entry is the least sum of weights over all walks"
+-- "each entry is the least sum of weights over all walks", "65,535 for a pair with no walk"
 abbrev pub distanceOf : Option ℕ → ℕ
-distanceOf none = 0
+distanceOf none = 65535
 distanceOf (some d) = d
 
 unfoldable pub distancesBody : List ℕ → ℕ → List ℕ

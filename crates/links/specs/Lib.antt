@@ -5,3 +5,4 @@ pub mod Words
 pub mod Distances
 pub mod Passed
 pub mod Examples
+pub mod SheetSizeExamples

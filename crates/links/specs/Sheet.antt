@@ -30,6 +30,10 @@ unfoldable pub linkOk : List ℕ → ℕ → ℕ → Bool
 linkOk s n k =
     ltb (linkFrom s k) n && ltb (linkTo s k) n && leb 1 (linkWeight s k) && risesAt (linkBefore s) k
 
+-- "up to 512 links"
+abbrev pub linksMost : ℕ
+linksMost = 512
+
 -- 11 is given "if a link breaks these rules, the links' bytes are no multiple of four or there are more than 512 links"
 unfoldable pub sheetOk : List ℕ → ℕ → Bool
-sheetOk s n = eqb (length s % 4) 0 && leb (linkCount s) 512 && allBelow (linkOk s n) (linkCount s)
+sheetOk s n = eqb (length s % 4) 0 && leb (linkCount s) linksMost && allBelow (linkOk s n) (linkCount s)

@@ -5,36 +5,7 @@ ghost use mathlib.Core.List.{_++_};
 ghost use Prim.Native.Nat.{_+_, _*_, _≤_, _<_};
 ghost use lib.ListN.{length, take, drop};
 ghost use Rattle.links.specs.Distances.{rowOf, bodyOf};
-ghost use Rattle.links.specs.Words.{wordAt, rowFits, wordsFit};
-
-fn row_fits(words: &[u16], n: usize, u: usize) -> bool
-    requires { ⌜ (n ≤ 64) × (u < n) × (64 * n ≤ length (now words)) ⌝ }
-    ensures { λ r. ⌜ r ≡ rowFits (now (words .entry)) n u ⌝ }
-{
-    let mut e = 0;
-    while e < n {
-        if 65534 < words[64 * u + e] {
-            return false;
-        }
-        e += 1;
-    }
-    true
-}
-
-// Whether every word is at most 65,534.
-pub fn words_fit(words: &[u16], n: usize) -> bool
-    requires { ⌜ (n ≤ 64) × (64 * n ≤ length (now words)) ⌝ }
-    ensures { λ r. ⌜ r ≡ wordsFit (now (words .entry)) n ⌝ }
-{
-    let mut u = 0;
-    while u < n {
-        if !row_fits(words, n, u) {
-            return false;
-        }
-        u += 1;
-    }
-    true
-}
+ghost use Rattle.links.specs.Words.{wordAt};
 
 // Writes row u from `at` on, each word in two bytes, low byte first.
 fn write_row(words: &[u16], n: usize, u: usize, out: &mut [u8], at: usize)

@@ -1,6 +1,7 @@
 // Distances from a sheet of weighted links: the body of kind 3 for a plan.
 
 mod body;
+mod fits;
 mod sheet;
 mod sums;
 
@@ -19,7 +20,7 @@ fn least_body(n: usize, links: &[u8], words: &mut [u16], out: &mut [u8]) -> u8
     ensures { λ r. ⌜ DistancesCall n (now (links .entry)) r (now (out .entry)) (now (out .exit)) ⌝ }
 {
     sums::least_sums(links, n, words);
-    if !body::words_fit(words, n) {
+    if !fits::sums_fit(links, n, words) {
         return 12;
     }
     if out.len() < 2 * (n * n) {
@@ -29,7 +30,8 @@ fn least_body(n: usize, links: &[u8], words: &mut [u16], out: &mut [u8]) -> u8
     0
 }
 
-// Writes the least sum of weights over all walks from each router to each, two bytes each, row by row. Returns the refusal, 0 for none.
+// Writes the least sum of weights over all walks from each router to each, 65,535 where there is no walk, two bytes each, row by row.
+// Returns the refusal, 0 for none.
 pub fn distances(n: usize, links: &[u8], out: &mut [u8]) -> u8
     ensures { λ r. ⌜ DistancesCall n (now (links .entry)) r (now (out .entry)) (now (out .exit)) ⌝ }
 {

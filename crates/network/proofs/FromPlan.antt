@@ -2,7 +2,7 @@
 use Prim.Native.Nat.{ℕ, _+_, _-_, _*_, _<_}
 use native.Mathlib.Omega.{arith}
 use mathlib.Core.Path.{_≡_, refl, _∙_, sym, ap, ap₂, fun-ext}
-use mathlib.Core.Bool.{Bool, true, false, _&&_, _||_, and-comm, or-comm}
+use mathlib.Core.Bool.{Bool, true, false, not, _&&_, _||_, and-comm, or-comm}
 use mathlib.Core.List.{List}
 use mathlib.Core.Logic.{_⊎_, inl, inr, ⊎-elim}
 use borrow.Author.Tests.{eq-eqb, ne-eqb, eqb-true}
@@ -16,7 +16,7 @@ use Rattle.contents.specs.Header.{routerCount}
 use Rattle.contents.specs.Contents.{routersBody, sessionsBody, distancesBody}
 use Rattle.bodies.specs.Routers.{role}
 use Rattle.bodies.specs.Sessions.{sessionCount, sessionFirst, sessionSecond}
-use Rattle.bodies.specs.Distances.{distanceIn}
+use Rattle.bodies.specs.Distances.{distanceIn, wayIn}
 use Rattle.plan.specs.EgressLists.{listCount, listSize, listNumbers, SpanOf}
 use Rattle.plan.specs.Refusal.{planRefusal}
 use Rattle.plan.specs.Passed.{Passed}
@@ -58,6 +58,7 @@ read-same plan k net rows count roles sessions numbers =
       reflector = λ v. roles v i;
       neighbour = λ w v. sessions w v i;
       dist = distanceIn (distancesBody plan) (count i);
+      way = wayIn (distancesBody plan) (count i);
       listed = λ v. numbers v i;
     }
 
@@ -127,8 +128,8 @@ trusted plan k accepted l =
       apart = neighbour-apart plan p;
       neighbourBelow = λ w v h. neighbour-bounds plan p w v h .1;
       listedBelow = listed-below plan p k l;
-      distanceMost = p .distances .most;
       distanceOwn = p .distances .diagonal;
+      wayOwn = λ u l. ap (λ d. not (eqb d 65535)) (p .distances .diagonal u l);
       roles = roles plan p;
     }
 

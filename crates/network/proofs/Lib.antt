@@ -1,3 +1,4 @@
 pub mod Examples
 pub mod FromPlan
+pub mod Measured
 pub mod Marks

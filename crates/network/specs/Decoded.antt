@@ -5,7 +5,7 @@ use mathlib.Core.List.{List}
 use lib.Dec.{eqb}
 use denote.Ref.{RefT, now}
 use Rattle.base.specs.Bits.{bitN, bits}
-use Rattle.bodies.specs.Distances.{distanceIn}
+use Rattle.bodies.specs.Distances.{distanceIn, wayIn}
 use Rattle.network.specs.declared.Network.{Network}
 use Rattle.routing.specs.Instance.{Instance}
 
@@ -16,6 +16,7 @@ decoded net rows distances =
       reflector = λ v. eqb (bitN (net .reflectors) v) 1;
       neighbour = λ w v. eqb (bits rows w v) 1;
       dist = distanceIn distances (net .n);
+      way = wayIn distances (net .n);
       listed = λ v. eqb (bitN (net .listed) v) 1;
     }
 

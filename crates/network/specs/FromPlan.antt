@@ -1,4 +1,4 @@
--- The network of a plan with one of its lists (document 01, "The plan's bytes").
+-- The network of a plan with one of its lists (document 01, "The plan's bytes"; document 02, "Cut-off routers").
 use Prim.Native.Nat.{ℕ, _≤_, _<_}
 use mathlib.Core.Path.{_≡_}
 use mathlib.Core.Bool.{Bool, true, false, _&&_, _||_}
@@ -11,7 +11,7 @@ use Rattle.contents.specs.Header.{routerCount}
 use Rattle.contents.specs.Contents.{routersBody, sessionsBody, distancesBody}
 use Rattle.bodies.specs.Routers.{role}
 use Rattle.bodies.specs.Sessions.{sessionCount, sessionFirst, sessionSecond}
-use Rattle.bodies.specs.Distances.{distanceIn}
+use Rattle.bodies.specs.Distances.{distanceIn, wayIn}
 use Rattle.plan.specs.EgressLists.{listNumbers}
 use Rattle.network.specs.declared.Network.{Network}
 use Rattle.routing.specs.Instance.{Instance}
@@ -41,6 +41,8 @@ instanceOf plan k =
       neighbour = inSession (sessionsBody plan);
       -- "row u, column e is the distance from u to e"
       dist = distanceIn (distancesBody plan) (routerCount plan);
+      -- "The distance 65,535 off the diagonal now means 'no way'"
+      way = wayIn (distancesBody plan) (routerCount plan);
       -- "c router numbers": those of list k
       listed = named (listNumbers plan k);
     }
@@ -59,9 +61,9 @@ pub record Trusted (plan : List ℕ) (I : Instance) : Type 0 where
   -- "router numbers, one byte each and below n", of sessions and of lists
   pub neighbourBelow : (w v : ℕ) → I .neighbour w v ≡ true → v < I .n
   pub listedBelow : (v : ℕ) → I .listed v ≡ true → v < I .n
-  -- "0 to 65,534 .. The diagonal is 0."
-  pub distanceMost : (u e : ℕ) → u < I .n → e < I .n → I .dist u e ≤ 65534
+  -- "The diagonal is 0.": every router has a way to itself
   pub distanceOwn : (u : ℕ) → u < I .n → I .dist u u ≡ 0
+  pub wayOwn : (u : ℕ) → u < I .n → I .way u u ≡ true
   -- "role (1 reflector, 2 client)": a router is the one or the other
   pub roles : (v : ℕ) → v < I .n
       → ((I .reflector v ≡ true) × (role (routersBody plan) v ≡ 1)) ⊎ ((I .reflector v ≡ false) × (role (routersBody plan) v ≡ 2))

@@ -1,3 +1,4 @@
+pub mod Measured
 pub mod Decoded
 pub mod FromPlan
 pub mod WellFormed

@@ -7,26 +7,26 @@ use Rattle.contents.specs.Header.{headerOk, routerCountOk}
 use Rattle.contents.specs.Contents.{kindsOk, placesOk, sizesOk, contentsOk}
 use Rattle.bodies.specs.Routers.{routerOk, routersOk}
 use Rattle.bodies.specs.Sessions.{sessionOk, sessionsOk}
-use Rattle.bodies.specs.Distances.{distanceOk, distanceRowOk, distancesOk}
+use Rattle.bodies.specs.Distances.{distancesOk}
 use Rattle.bodies.specs.Lists.{listPlace, memberOk, listAtOk, listOk, eachListOk, listsOk}
 use Rattle.plan.specs.Refusal.{refuse, bodyChecks, planChecks, planRefusal}
 use Rattle.network.specs.FromPlan.{pairs, inSession, named}
 use Rattle.network.specs.Examples.{threeRouters}
-use Rattle.routing.specs.Preference.{prefers}
+use Rattle.routing.specs.Preference.{prefers, better}
 use Rattle.routing.specs.Reliance.{listedClientOf, bestClient, offer, betterOffer, relies}
 use Rattle.refusals.specs.Refusals.{egressListRefusal}
 use Rattle.queries.specs.Size.{sizeRouters, sizeLists}
 use Rattle.queries.specs.EgressList.{egressListStart, egressListSize}
-use Rattle.queries.specs.Compare.{better, compared}
+use Rattle.queries.specs.Compare.{whichBetter, compared}
 use Rattle.queries.specs.Relies.{relied}
 use Rattle.queries.specs.Examples.{QueryExamples}
 
 pub query-examples : QueryExamples
 unfolding
-    threeRouters sizeRouters sizeLists egressListStart egressListSize better compared relied egressListRefusal
-    listedClientOf bestClient offer betterOffer relies prefers
+    threeRouters sizeRouters sizeLists egressListStart egressListSize whichBetter compared relied egressListRefusal
+    listedClientOf bestClient offer betterOffer relies prefers better
     pairs inSession named refuse bodyChecks planChecks planRefusal
-    headerOk routerCountOk kindsOk placesOk sizesOk contentsOk routerOk routersOk sessionOk sessionsOk distanceOk distanceRowOk distancesOk
+    headerOk routerCountOk kindsOk placesOk sizesOk contentsOk routerOk routersOk sessionOk sessionsOk distancesOk
     listPlace memberOk listAtOk listOk eachListOk listsOk allBelow anyBelow keepBest best tab
 query-examples =
     record {

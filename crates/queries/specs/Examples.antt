@@ -3,11 +3,11 @@
 use mathlib.Core.Path.{_≡_}
 use mathlib.Core.Bool.{true}
 use Rattle.network.specs.Examples.{threeRouters}
-use Rattle.queries.specs.declared.compare.CompareAnswer.the-variants.{First, Second, Same}
+use Rattle.queries.specs.declared.compare.CompareAnswer.the-variants.{First, Second, Neither}
 use Rattle.queries.specs.declared.relies.ReliesAnswer.the-variants.{Yes, No}
 use Rattle.queries.specs.Size.{sizeRouters, sizeLists}
 use Rattle.queries.specs.EgressList.{egressListStart, egressListSize}
-use Rattle.queries.specs.Compare.{better, compared, compareBetter}
+use Rattle.queries.specs.Compare.{whichBetter, compared, compareBetter}
 use Rattle.queries.specs.Relies.{relied, reliesFlag}
 
 pub record QueryExamples : Type 0 where
@@ -21,10 +21,10 @@ pub record QueryExamples : Type 0 where
   -- "(the first is better, the second, or neither if they are the same)": 1, 2, 0. From 0 it is 5 to 1 and 258 to 2
   pub firstIsBetter : compared threeRouters 0 1 2 ≡ First  -- exchanged: Second
   pub secondIsBetter : compared threeRouters 0 2 1 ≡ Second  -- exchanged: First
-  pub neither : compared threeRouters 0 2 2 ≡ Same  -- as one of the two: Second
-  pub firstIs1 : better threeRouters 0 1 2 ≡ 1
-  pub secondIs2 : better threeRouters 0 2 1 ≡ 2
-  pub neitherIs0 : better threeRouters 0 2 2 ≡ 0
+  pub neither : compared threeRouters 0 2 2 ≡ Neither  -- as one of the two: Second
+  pub firstIs1 : whichBetter threeRouters 0 1 2 ≡ 1
+  pub secondIs2 : whichBetter threeRouters 0 2 1 ≡ 2
+  pub neitherIs0 : whichBetter threeRouters 0 2 2 ≡ 0
   pub numberOfSecond : compareBetter Second ≡ 2
   pub numberOfFirst : compareBetter First ≡ 1
   -- "the reliance of one router on another answered": 0 relies on 1, and 1 is listed

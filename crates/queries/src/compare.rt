@@ -4,15 +4,16 @@ use contents::entries::DISTANCES;
 use contents::header::ROUTER_COUNT;
 ghost use Rattle.queries.specs.Compare.{Compares};
 
-// What a comparison says: its refusal number, or which of the two is preferred; the same router twice is neither.
+// What a comparison says: its refusal number, or which of the two is better. Neither is of a router and itself, nor of two that there
+// is no way to.
 pub enum CompareAnswer {
     Refused(u8),
     First,
     Second,
-    Same,
+    Neither,
 }
 
-// Which of two egress routers a router prefers.
+// Which of two egress routers is better at a router.
 pub fn compare(plan: &[u8], router: usize, first: usize, second: usize) -> CompareAnswer
     ensures { λ r. ⌜ Compares (now (plan .entry)) router first second r ⌝ }
 {
@@ -20,13 +21,13 @@ pub fn compare(plan: &[u8], router: usize, first: usize, second: usize) -> Compa
     if refused != 0 {
         return CompareAnswer::Refused(refused);
     }
-    if first == second {
-        return CompareAnswer::Same;
-    }
     let n = plan[ROUTER_COUNT] as usize;
     let distances = plan::parts::part(plan, DISTANCES);
-    if network::comparison::prefers(distances, n, router, first, second) {
+    if network::comparison::better(distances, n, router, first, second) {
         return CompareAnswer::First;
     }
-    CompareAnswer::Second
+    if network::comparison::better(distances, n, router, second, first) {
+        return CompareAnswer::Second;
+    }
+    CompareAnswer::Neither
 }

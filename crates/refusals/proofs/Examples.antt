@@ -6,7 +6,7 @@ use Rattle.contents.specs.Header.{headerOk, routerCountOk}
 use Rattle.contents.specs.Contents.{kindsOk, placesOk, sizesOk, contentsOk}
 use Rattle.bodies.specs.Routers.{routerOk, routersOk}
 use Rattle.bodies.specs.Sessions.{sessionOk, sessionsOk}
-use Rattle.bodies.specs.Distances.{distanceOk, distanceRowOk, distancesOk}
+use Rattle.bodies.specs.Distances.{distancesOk}
 use Rattle.bodies.specs.Lists.{listPlace, memberOk, listAtOk, listOk, eachListOk, listsOk}
 use Rattle.plan.specs.Refusal.{refuse, bodyChecks, planChecks}
 use Rattle.network.specs.FromPlan.{pairs, inSession, named}
@@ -21,7 +21,7 @@ unfolding
     threeRouters lent broken short three two
     sequenceOk egressListRefusal compareRefusal reliesRefusal buffersOk verdictRefusal tableChecks activateRefusal runRefusal
     readRoute tableOf entryOk tableOk pairs inSession named refuse bodyChecks planChecks
-    headerOk routerCountOk kindsOk placesOk sizesOk contentsOk routerOk routersOk sessionOk sessionsOk distanceOk distanceRowOk distancesOk
+    headerOk routerCountOk kindsOk placesOk sizesOk contentsOk routerOk routersOk sessionOk sessionsOk distancesOk
     listPlace memberOk listAtOk listOk eachListOk listsOk allBelow anyBelow tab
 refusals-examples =
     record {

@@ -3,38 +3,39 @@
 use network::NO_ROUTER;
 use network::Network;
 ghost use mathlib.Core.Path.{_≡_};
-ghost use mathlib.Core.Bool.{true, cond};
+ghost use mathlib.Core.Bool.{cond};
 ghost use mathlib.Core.List.{List};
 ghost use Prim.Native.Nat.{ℕ, _*_, _≤_, _<_, _^_};
 ghost use lib.Bits.{bitOr};
-ghost use lib.Dec.{eqb};
 ghost use lib.ListN.{length, getD};
 ghost use Rattle.base.specs.Best.{keepBest};
-ghost use Rattle.base.specs.Bits.{bitN};
-ghost use Rattle.bodies.specs.Distances.{distanceIn};
 ghost use Rattle.routing.specs.Instance.{Instance};
 ghost use Rattle.routing.specs.Preference.{prefers};
-ghost use Rattle.routing.specs.Reliance.{listedClientOf, bestClient, offer, betterOffer, relies};
-ghost use Rattle.reliance.specs.OwnClient.{OwnClient, OwnClients, UnlistedReflector};
+ghost use Rattle.routing.specs.Reliance.{bestClient, offer, betterOffer, relies};
+ghost use Rattle.reliance.specs.OwnClient.{ListedClients, OwnClient, OwnClients, UnlistedReflector};
 ghost use Rattle.reliance.specs.RelianceRows.{Candidates, RelianceRow, RelianceRows};
 ghost use Rattle.network.specs.Decoded.{decoded, instance};
 ghost use Rattle.routing.specs.RouterBytes.{asRouter, RouterBelow};
+ghost use Rattle.network.specs.Measured.{Measured};
 ghost use Rattle.network.specs.WellFormed.{WellFormed};
 
-// The listed clients that v neighbours, as bits.
+// The listed clients that v neighbours, as bits; v may have no way to one.
 fn listed_clients(net: Network, rows: &[u64; 64], v: usize) -> u64
     requires { ⌜ v < 64 ⌝ }
-    ensures { λ r. ⌜ ((distances : List ℕ) (e : ℕ) → eqb (bitN r e) 1 ≡ listedClientOf (decoded net (now (rows .entry)) distances) v e) ⌝ }
+    ensures { λ r. ⌜ ((distances : List ℕ) → ListedClients (decoded net (now (rows .entry)) distances) v r) ⌝ }
 {
     base::bits::without(rows[v] & net.listed, net.reflectors)
 }
 
-// Of the best client so far and e, another.
+// Of the best client so far and e, another, to which there may be no way.
 fn keep_client(distances: &[u8], n: usize, v: usize, e: usize, best: u8) -> u8
     requires { ⌜ (v < n) × (e < n) × (n ≤ 64) × (2 * (n * n) ≤ length (now distances)) × RouterBelow n (asRouter best) ⌝ }
-    ensures { λ r. ⌜ ((I : Instance) → I .dist ≡ distanceIn (now (distances .entry)) n
-        → asRouter r ≡ keepBest (prefers I v) true e (asRouter best)) ⌝ }
+    ensures { λ r. ⌜ ((I : Instance) → Measured I (now (distances .entry)) n
+        → asRouter r ≡ keepBest (prefers I v) (I .way v e) e (asRouter best)) ⌝ }
 {
+    if !bodies::distances::has_way(distances, n, v, e) {
+        return best;
+    }
     if best == NO_ROUTER {
         return e as u8;
     }
@@ -85,18 +86,20 @@ fn offered(net: Network, v: usize, own: u8) -> u8
 fn better_offer(distances: &[u8], n: usize, w: usize, offer: u8, own: u8) -> bool
     requires { ⌜ (w < n) × (n ≤ 64) × (2 * (n * n) ≤ length (now distances))
         × RouterBelow n (asRouter offer) × RouterBelow n (asRouter own) ⌝ }
-    ensures { λ r. ⌜ ((I : Instance) → I .dist ≡ distanceIn (now (distances .entry)) n
+    ensures { λ r. ⌜ ((I : Instance) → Measured I (now (distances .entry)) n
         → r ≡ betterOffer I w (asRouter offer) (asRouter own)) ⌝ }
 {
     if offer == NO_ROUTER {
         return false;
     }
+    let first = base::wide(offer);
+    if !bodies::distances::has_way(distances, n, w, first) {
+        return false;
+    }
     if own == NO_ROUTER {
         return true;
     }
-    let first = base::wide(offer);
-    let second = base::wide(own);
-    network::comparison::prefers(distances, n, w, first, second)
+    network::comparison::prefers(distances, n, w, first, base::wide(own))
 }
 
 // Rule 3, where `own` and `other` are the best clients of w and, if it is a reflector, of v.

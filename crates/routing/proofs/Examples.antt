@@ -2,17 +2,17 @@
 use mathlib.Core.Path.{refl}
 use Rattle.base.specs.Below.{allBelow, anyBelow}
 use Rattle.base.specs.Best.{keepBest, best}
-use Rattle.routing.specs.Preference.{prefers}
+use Rattle.routing.specs.Preference.{prefers, better}
 use Rattle.routing.specs.Activation.{reflects, advertises, hears, senderOf, routeTo, choice, choose, entryOk, tableOk, activate, runActs}
 use Rattle.routing.specs.Rounds.{acted, roundsFrom, rounds, tallyAct, tallyActs}
 use Rattle.routing.specs.Reliance.{listedClientOf, bestClient, offer, betterOffer, relies}
 use Rattle.routing.specs.RouterBytes.{asRouter}
-use Rattle.routing.specs.Examples.{among, neighbours, distances, six, start, RoutingExamples}
+use Rattle.routing.specs.Examples.{among, neighbours, distances, sixWith, start, RoutingExamples}
 
 pub routing-examples : RoutingExamples
 unfolding
-    among neighbours distances six start
-    prefers reflects advertises hears senderOf routeTo choice choose entryOk tableOk activate runActs
+    among neighbours distances sixWith start
+    prefers better reflects advertises hears senderOf routeTo choice choose entryOk tableOk activate runActs
     acted roundsFrom rounds tallyAct tallyActs listedClientOf bestClient offer betterOffer relies asRouter
     allBelow anyBelow keepBest best
 routing-examples =
@@ -22,6 +22,10 @@ routing-examples =
       distancesAsTheyAre = refl;
       tieToTheLower = refl;
       tieNotToTheHigher = refl;
+      wayBeatsNone = refl;
+      noneBeatsNoWay = refl;
+      neitherHasAWay = refl;
+      bothHaveAWay = refl;
       notBackToItsClient = refl;
       clientsRouteToAReflector = refl;
       notFromAThird = refl;
@@ -29,11 +33,18 @@ routing-examples =
       listedAnnouncesItself = refl;
       clientAnnouncesNothing = refl;
       notFromAStranger = refl;
+      noWayNotHeard = refl;
+      wayBackIsNotAsked = refl;
+      listedReflectorNotHeard = refl;
+      listedClientNotHeard = refl;
       egressItselfIsTheSender = refl;
       lowestIsTheSender = refl;
       listedHoldsItsOwn = refl;
       bestIsHeld = refl;
       nothingIsHeld = refl;
+      onlyRouteWithoutAWay = refl;
+      nextBestIsHeld = refl;
+      ownRouteIsHeld = refl;
       neighbourAsSender = refl;
       strangerAsSender = refl;
       egressAtN = refl;
@@ -49,19 +60,30 @@ routing-examples =
       tallyOfTwoRounds = refl;
       bestByItsOwnDistances = refl;
       reflectorIsNoClient = refl;
+      bestWithAWay = refl;
+      onlyClientWithoutAWay = refl;
+      wayBackFromAClient = refl;
+      nothingIsOffered = refl;
       listedOffersItself = refl;
       unlistedOffersItsClient = refl;
       sharedClientIsNotBetter = refl;
       anyOfferIsBetter = refl;
+      offerWithoutAWay = refl;
+      onlyOfferWithoutAWay = refl;
       rule1 = refl;
       rule2Reflector = refl;
       rule2ListedClient = refl;
       rule2UnlistedClient = refl;
+      rule2WithoutAWay = refl;
+      rule2WithoutAWayToAReflector = refl;
+      rule2WithoutAWayToAListedReflector = refl;
       rule3BestClient = refl;
       rule3Tie = refl;
       rule3SharedClient = refl;
       rule3OfferByItsOwnDistances = refl;
       rule3ListedReflector = refl;
+      rule3WithoutAWay = refl;
+      rule3ListedReflectorWithoutAWay = refl;
       noRouter = refl;
       lastRouterByte = refl;
     }

@@ -2,14 +2,14 @@
 use Prim.Native.Nat.{ℕ, _<_, _≤_}
 use native.Mathlib.Omega.{arith}
 use mathlib.Core.Path.{_≡_, refl, _∙_, sym, ap}
-use mathlib.Core.Bool.{true, false, not}
-use mathlib.Core.Logic.{⊎-elim}
+use mathlib.Core.Bool.{Bool, true, false, not}
+use mathlib.Core.Logic.{_⊎_, inl, inr, ⊎-elim}
 use lib.Dec.{ltb}
 use borrow.Author.Tests.{lt-ltb, le-ltb, eq-eqb, ne-eqb}
 use Rattle.base.proofs.Numbers.{lt-or-le, eq-or-ne, not-both}
-use Rattle.base.proofs.Best.{StrictOrder, ltb-order}
+use Rattle.base.proofs.Best.{StrictOrder, order-same, ltb-order}
 use Rattle.routing.specs.Instance.{Instance}
-use Rattle.routing.specs.Preference.{prefers}
+use Rattle.routing.specs.Preference.{prefers, better, Comparing}
 
 module _ (I : Instance) (w : ℕ) where
   pub prefers-nearer : (e f : ℕ) → I .dist w e < I .dist w f → prefers I w e f ≡ true
@@ -65,4 +65,50 @@ module _ (I : Instance) (w : ℕ) where
         irreflexive = λ a. prefers-tie a a refl ∙ ltb-order .irreflexive a;
         transitive = prefers-trans;
         exactlyOne = prefers-one;
+      }
+
+-- a comparison where there may be no way, case by case
+module _ (I : Instance) (w e f : ℕ) where
+  pub better-both-ways : I .way w e ≡ true → I .way w f ≡ true → better I w e f ≡ prefers I w e f
+  unfolding better
+  better-both-ways p q = cc
+
+  pub better-one-way : I .way w e ≡ true → I .way w f ≡ false → better I w e f ≡ true
+  unfolding better
+  better-one-way p q = cc
+
+  pub better-without : I .way w e ≡ false → better I w e f ≡ false
+  unfolding better
+  better-without p = cc
+
+module _ (I : Instance) (w : ℕ) where
+  better-itself : (e : ℕ) → better I w e e ≡ false
+  better-itself e = go (I .way w e) refl
+    where
+      go : (b : Bool) → I .way w e ≡ b → better I w e e ≡ false
+      go true p = better-both-ways I w e e p p ∙ prefers-order I w .irreflexive e
+      go false p = better-without I w e e p
+
+  -- where neither is better
+  neither-better : (e f : ℕ) → better I w e f ≡ false → better I w f e ≡ false → (e ≡ f) ⊎ ((I .way w e ≡ false) × (I .way w f ≡ false))
+  neither-better e f h k = go (I .way w e) refl (I .way w f) refl
+    where
+      go : (a : Bool) → I .way w e ≡ a → (b : Bool) → I .way w f ≡ b → (e ≡ f) ⊎ ((I .way w e ≡ false) × (I .way w f ≡ false))
+      go true p true q =
+          inl (order-same (prefers I w) (prefers-order I w) e f (sym (better-both-ways I w e f p q) ∙ h) (sym (better-both-ways I w f e q p) ∙ k))
+      go true p false q = not-both (better I w e f) (better-one-way I w e f p q) h
+      go false p true q = not-both (better I w f e) (better-one-way I w f e q p) k
+      go false p false q = inr (p, q)
+
+  pub comparing : (e f : ℕ) → Comparing I w e f
+  comparing e f =
+      record {
+        both = better-both-ways I w e f;
+        one = better-one-way I w e f;
+        without = better-without I w e f;
+        neither = (
+          λ h. neither-better e f (h .0) (h .1),
+          ⊎-elim (λ (q : e ≡ f). rw q (better-itself f, better-itself f))
+              (λ (h : (I .way w e ≡ false) × (I .way w f ≡ false)). (better-without I w e f (h .0), better-without I w f e (h .1))),
+        );
       }

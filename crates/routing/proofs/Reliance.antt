@@ -23,19 +23,27 @@ module _ (I : Instance) where
   -- a listed client neighbour, part by part
   pub client-no-reflector : (v e : ℕ) → listedClientOf I v e ≡ true → I .reflector e ≡ false
   unfolding listedClientOf
-  client-no-reflector v e h = not-true (I .reflector e) (both-right (I .neighbour v e && I .listed e) (not (I .reflector e)) h)
+  client-no-reflector v e h =
+      not-true (I .reflector e) (both-right (I .neighbour v e && I .listed e) (not (I .reflector e)) (both-left _ (I .way v e) h))
 
   pub client-neighbour : (v e : ℕ) → listedClientOf I v e ≡ true → I .neighbour v e ≡ true
   unfolding listedClientOf
-  client-neighbour v e h = both-left (I .neighbour v e) (I .listed e) (both-left (I .neighbour v e && I .listed e) _ h)
+  client-neighbour v e h =
+      both-left (I .neighbour v e) (I .listed e) (both-left (I .neighbour v e && I .listed e) _ (both-left _ (I .way v e) h))
 
   pub client-listed : (v e : ℕ) → listedClientOf I v e ≡ true → I .listed e ≡ true
   unfolding listedClientOf
-  client-listed v e h = both-right (I .neighbour v e) (I .listed e) (both-left (I .neighbour v e && I .listed e) _ h)
+  client-listed v e h =
+      both-right (I .neighbour v e) (I .listed e) (both-left (I .neighbour v e && I .listed e) _ (both-left _ (I .way v e) h))
 
-  pub client-intro : (v e : ℕ) → I .neighbour v e ≡ true → I .listed e ≡ true → I .reflector e ≡ false → listedClientOf I v e ≡ true
+  pub client-way : (v e : ℕ) → listedClientOf I v e ≡ true → I .way v e ≡ true
   unfolding listedClientOf
-  client-intro v e p q r = cc
+  client-way v e h = both-right (I .neighbour v e && I .listed e && not (I .reflector e)) (I .way v e) h
+
+  pub client-intro : (v e : ℕ) → I .neighbour v e ≡ true → I .listed e ≡ true → I .reflector e ≡ false → I .way v e ≡ true
+      → listedClientOf I v e ≡ true
+  unfolding listedClientOf
+  client-intro v e p q r m = cc
 
   -- a listed router offers itself, another its best client
   pub offer-listed : (v : ℕ) → I .listed v ≡ true → offer I v ≡ some v
@@ -77,7 +85,7 @@ module _ (I : Instance) where
   own-no-better : (w : ℕ) (b : Option ℕ) → betterOffer I w b b ≡ false
   unfolding betterOffer
   own-no-better w none = refl
-  own-no-better w (some c) = prefers-order I w .irreflexive c
+  own-no-better w (some c) = cc (prefers-order I w .irreflexive c, and-false (I .way w c))
 
   -- no router relies on itself
   pub relies-other : (w : ℕ) → relies I w w ≡ false
@@ -88,30 +96,22 @@ module _ (I : Instance) where
       go false p true q = relies-offer w w p q q ∙ cc (offer-unlisted w p, own-no-better w (bestClient I w), and-false (I .neighbour w w))
       go false p false q = relies-client w w p q ∙ cc (and-false (I .neighbour w w))
 
-  -- a listed client neighbour, as its three tests come one after the other
-  pub client-stranger : (v e : ℕ) → I .neighbour v e ≡ false → listedClientOf I v e ≡ false
-  unfolding listedClientOf
-  client-stranger v e p = cc
-
-  pub client-unlisted : (v e : ℕ) → I .listed e ≡ false → listedClientOf I v e ≡ false
-  unfolding listedClientOf
-  client-unlisted v e p = cc (and-false (I .neighbour v e))
-
-  pub client-role : (v e : ℕ) → I .neighbour v e ≡ true → I .listed e ≡ true → listedClientOf I v e ≡ not (I .reflector e)
-  unfolding listedClientOf
-  client-role v e p q = cc
-
   pub better-none : (w : ℕ) (b : Option ℕ) → betterOffer I w none b ≡ false
   unfolding betterOffer
   better-none w b = refl
 
-  pub better-any : (w e : ℕ) → betterOffer I w (some e) none ≡ true
+  pub better-no-way : (w e : ℕ) (b : Option ℕ) → I .way w e ≡ false → betterOffer I w (some e) b ≡ false
   unfolding betterOffer
-  better-any w e = refl
+  better-no-way w e none h = h
+  better-no-way w e (some c) h = cc
 
-  pub better-both : (w e c : ℕ) → betterOffer I w (some e) (some c) ≡ prefers I w e c
+  pub better-any : (w e : ℕ) → I .way w e ≡ true → betterOffer I w (some e) none ≡ true
   unfolding betterOffer
-  better-both w e c = refl
+  better-any w e h = h
+
+  pub better-both : (w e c : ℕ) → I .way w e ≡ true → betterOffer I w (some e) (some c) ≡ prefers I w e c
+  unfolding betterOffer
+  better-both w e c h = cc
 
   -- the best client and the offer of a router are routers
   pub clients-below : (v k : ℕ) → k ≤ I .n → RouterBelow (I .n) (best (prefers I v) (listedClientOf I v) k)

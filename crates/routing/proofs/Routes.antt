@@ -2,7 +2,7 @@
 use Prim.Native.Nat.{ℕ, _<_, _≤_}
 use native.Mathlib.Omega.{arith}
 use mathlib.Core.Path.{_≡_, refl, _∙_, sym, ap}
-use mathlib.Core.Bool.{Bool, true, false, cond}
+use mathlib.Core.Bool.{Bool, true, false, cond, _&&_}
 use mathlib.Core.Option.{Option, none, some}
 use mathlib.Core.List.{List, [], _∷_, _++_, foldl-append}
 use mathlib.Core.Logic.{_⊎_, inl, inr}
@@ -96,15 +96,19 @@ module _ (I : Instance) where
   module _ (view : ℕ → Route) (w v e : ℕ) where
     pub hears-neighbour : hears I view w v e ≡ true → I .neighbour w v ≡ true
     unfolding hears
-    hears-neighbour h = both-left (I .neighbour w v) _ h
+    hears-neighbour h = both-left (I .neighbour w v) _ (both-left _ (I .way w e) h)
 
     pub hears-told : hears I view w v e ≡ true → advertises I v (view v) w ≡ some e
     unfolding hears
-    hears-told h = isRouter-same e (advertises I v (view v) w) (both-right (I .neighbour w v) _ h)
+    hears-told h = isRouter-same e (advertises I v (view v) w) (both-right (I .neighbour w v) _ (both-left _ (I .way w e) h))
 
-    pub hears-intro : I .neighbour w v ≡ true → advertises I v (view v) w ≡ some e → hears I view w v e ≡ true
+    pub hears-way : hears I view w v e ≡ true → I .way w e ≡ true
     unfolding hears
-    hears-intro h q = cc (isRouter-some e)
+    hears-way h = both-right (I .neighbour w v && isRouter e (advertises I v (view v) w)) (I .way w e) h
+
+    pub hears-intro : I .neighbour w v ≡ true → advertises I v (view v) w ≡ some e → I .way w e ≡ true → hears I view w v e ≡ true
+    unfolding hears
+    hears-intro h q m = cc (isRouter-some e)
 
 -- `tells v e`: the router v tells e. All routers are below n.
 module _ (prefer : ℕ → ℕ → Bool) (tells : ℕ → ℕ → Bool) (n : ℕ) where

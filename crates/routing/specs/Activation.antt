@@ -1,5 +1,5 @@
 -- What a router advertises, and what an activation leaves (document 01, "Choosing and announcing"; there the words are "announces" and
--- "act").
+-- "act"; document 02, "Cut-off routers").
 use Prim.Native.Nat.{ℕ}
 use mathlib.Core.Path.{_≡_}
 use mathlib.Core.Bool.{Bool, true, false, not, cond, _&&_}
@@ -47,8 +47,9 @@ pub record Advertising (I : Instance) (v : ℕ) : Type 0 where
       I .reflector s ≡ true → I .reflector w ≡ true → advertises I v (via e s) w ≡ none
 
 -- w hears e from its neighbour v, where `view v` is what w sees v hold. The view need not be the table of one moment.
+-- "A route whose egress the hearer has no way to is not heard".
 unfoldable pub hears : Instance → (ℕ → Route) → ℕ → ℕ → ℕ → Bool
-hears I view w v e = I .neighbour w v && isRouter e (advertises I v (view v) w)
+hears I view w v e = I .neighbour w v && isRouter e (advertises I v (view v) w) && I .way w e
 
 -- "If one egress is heard from several neighbours, the egress router itself is the sender if it is one of them, else the lowest number."
 -- `tells v e` says that v tells e.
@@ -70,6 +71,7 @@ unfoldable pub choice : (ℕ → ℕ → Bool) → (ℕ → ℕ → Bool) → �
 choice prefer tells n = routeTo tells n (best prefer (λ e. anyBelow (λ v. tells v e) n) n)
 
 -- "An act of a listed router leaves its own route. An act of another leaves the best route announced to it, or nothing if there is none."
+-- "A router's own route is unaffected": no way is asked for.
 unfoldable pub choose : Instance → ℕ → (ℕ → Route) → Route
 choose I w view = cond (I .listed w) (via w w) (choice (prefers I w) (hears I view w) (I .n))
 

@@ -1,14 +1,14 @@
--- Examples that tell each rule of document 01 from a misreading of it, over one network given by literal lists. Beside each stands
+-- Examples that tell each rule of documents 01 and 02 from a misreading of it, over one network given by literal lists. Beside each stands
 -- what a misreading gives.
 use Prim.Native.Nat.{ℕ}
 use mathlib.Core.Path.{_≡_}
-use mathlib.Core.Bool.{Bool, true, false, _||_}
+use mathlib.Core.Bool.{Bool, true, false, not, _||_}
 use mathlib.Core.Option.{none, some}
 use mathlib.Core.List.{List, [], _∷_}
 use lib.Dec.{eqb}
 use lib.ListN.{getD}
 use Rattle.routing.specs.Instance.{Instance, Route, nothing, via}
-use Rattle.routing.specs.Preference.{prefers}
+use Rattle.routing.specs.Preference.{prefers, better}
 use Rattle.routing.specs.Activation.{reflects, advertises, hears, senderOf, choose, held, entryOk, tableOk, activate, runActs}
 use Rattle.routing.specs.Rounds.{rounds, freshTally, tallyActs}
 use Rattle.routing.specs.Reliance.{bestClient, offer, betterOffer, relies}
@@ -41,16 +41,25 @@ distances =
     ∷ (30 ∷ 30 ∷ 30 ∷ 30 ∷ 30 ∷ 0 ∷ [])
     ∷ []
 
--- reflectors 0, 1, 2 and clients 3, 4, 5, with the given routers listed
-unfoldable pub six : (listed : List ℕ) → Instance
-six listed =
+-- reflectors 0, 1, 2 and clients 3, 4, 5, with the given routers listed; `cut` has for each router those that it has no way to
+unfoldable pub sixWith : (cut : List (List ℕ)) (listed : List ℕ) → Instance
+sixWith cut listed =
     record {
       n = 6;
       reflector = among (0 ∷ 1 ∷ 2 ∷ []);
       neighbour = λ w v. among (getD neighbours w []) v;
       dist = λ w e. getD (getD distances w []) e 0;
+      way = λ w e. not (among (getD cut w []) e);
       listed = among listed;
     }
+
+abbrev pub six : (listed : List ℕ) → Instance
+six = sixWith []
+
+-- reflector 1 has no way to client 5, the nearest to it, nor 0 to 4, nor reflector 2 to 0, nor client 4 back to 2, nor 5 to any router,
+-- not even itself
+abbrev pub cutSix : (listed : List ℕ) → Instance
+cutSix = sixWith ((4 ∷ []) ∷ (5 ∷ []) ∷ (0 ∷ []) ∷ [] ∷ (2 ∷ []) ∷ (0 ∷ 1 ∷ 2 ∷ 3 ∷ 4 ∷ 5 ∷ []) ∷ [])
 
 -- its lists
 abbrev pub clients34 : Instance
@@ -79,6 +88,11 @@ pub record RoutingExamples : Type 0 where
   pub distancesAsTheyAre : prefers clients34 0 3 4 ≡ false  -- in tens, where 19 and 11 are equal: true
   pub tieToTheLower : prefers clients34 1 3 4 ≡ true  -- a tie as no preference: false
   pub tieNotToTheHigher : prefers clients34 1 4 3 ≡ false  -- a tie as either: true
+  -- "In a comparison a way beats none, and of two without a way neither is better."
+  pub wayBeatsNone : better (cutSix (3 ∷ [])) 1 4 5 ≡ true  -- no way as a distance: false
+  pub noneBeatsNoWay : better (cutSix (3 ∷ [])) 1 5 4 ≡ false  -- no way as a distance: true
+  pub neitherHasAWay : better (cutSix (3 ∷ [])) 5 3 4 ≡ false  -- by the number: true
+  pub bothHaveAWay : better (cutSix (3 ∷ [])) 1 3 4 ≡ true  -- a tie as no preference: false
   -- "one heard from a client to all neighbours but that client"
   pub notBackToItsClient : reflects client4 (via 4 5) 5 ≡ none  -- to that client too: some 4
   pub clientsRouteToAReflector : reflects client4 (via 4 5) 0 ≡ some 4  -- to clients only: none
@@ -90,6 +104,11 @@ pub record RoutingExamples : Type 0 where
   pub clientAnnouncesNothing : advertises client4 5 (via 4 3) 1 ≡ none  -- as a reflector does: some 4
   -- "announced to it": a neighbour's alone
   pub notFromAStranger : hears client4 (held start) 0 4 4 ≡ false  -- from any router: true
+  -- "A route whose egress the hearer has no way to is not heard"
+  pub noWayNotHeard : hears (cutSix (4 ∷ [])) (held start) 0 1 4 ≡ false  -- as a long way: true
+  pub wayBackIsNotAsked : hears (cutSix (5 ∷ [])) (held start) 3 5 5 ≡ true  -- by the sender's ways: false
+  pub listedReflectorNotHeard : hears (cutSix (0 ∷ [])) (held start) 2 0 0 ≡ false  -- a listed router always heard: true
+  pub listedClientNotHeard : hears (cutSix (3 ∷ [])) (held start) 5 3 3 ≡ false  -- a listed router always heard: true
   -- "the egress router itself is the sender if it is one of them, else the lowest number"
   pub egressItselfIsTheSender : senderOf (λ v e. among (1 ∷ 2 ∷ 4 ∷ []) v) 6 4 ≡ some 4  -- the lowest always: some 1
   pub lowestIsTheSender : senderOf (λ v e. among (1 ∷ 2 ∷ []) v) 6 4 ≡ some 1  -- the highest: some 2
@@ -98,6 +117,9 @@ pub record RoutingExamples : Type 0 where
   pub listedHoldsItsOwn : choose reflector1And34 1 (held start) ≡ via 1 1  -- as another does: via 4 4
   pub bestIsHeld : choose clients345 1 (held start) ≡ via 5 5  -- the lowest number: via 4 4
   pub nothingIsHeld : choose client4 3 (held start) ≡ nothing  -- what it held: via 4 5
+  pub onlyRouteWithoutAWay : choose (cutSix (4 ∷ [])) 0 (held start) ≡ nothing  -- no way as a very long way: via 4 1
+  pub nextBestIsHeld : choose (cutSix (3 ∷ 4 ∷ 5 ∷ [])) 1 (held start) ≡ via 4 4  -- no way as a distance: via 5 5
+  pub ownRouteIsHeld : choose (cutSix (5 ∷ [])) 5 (held start) ≡ via 5 5  -- a way asked for: nothing
   -- "A listed router's entry names itself twice. Any other entry is 255 255, or an egress below n with a neighbour as sender."
   pub neighbourAsSender : entryOk client4 0 (via 5 1) ≡ true  -- with a listed egress only: false
   pub strangerAsSender : entryOk client4 0 (via 4 5) ≡ false  -- with any router below n: true
@@ -118,18 +140,30 @@ pub record RoutingExamples : Type 0 where
   -- "The best client of a reflector is the best, at that reflector, of the listed clients it neighbours."
   pub bestByItsOwnDistances : bestClient clients345 1 ≡ some 5  -- at router 0: some 4
   pub reflectorIsNoClient : bestClient reflector0 1 ≡ none  -- of the listed routers: some 0
+  -- "A route whose egress the hearer has no way to .. is not a best client there"
+  pub bestWithAWay : bestClient (cutSix (3 ∷ 4 ∷ 5 ∷ [])) 1 ≡ some 4  -- no way as a distance: some 5
+  pub onlyClientWithoutAWay : bestClient (cutSix (5 ∷ [])) 1 ≡ none  -- no way as a very long way: some 5
+  pub wayBackFromAClient : bestClient (cutSix (4 ∷ [])) 2 ≡ some 4  -- by the client's ways: none
+  pub nothingIsOffered : offer (cutSix (5 ∷ [])) 1 ≡ none  -- no way as a very long way: some 5
   -- "A listed reflector offers itself; an unlisted one offers its best client, if any."
   pub listedOffersItself : offer reflector1And34 1 ≡ some 1  -- its best client always: some 4
   pub unlistedOffersItsClient : offer clients34 1 ≡ some 4  -- listed ones alone offer: none
   -- "better, at the relying one, than its own best client. With no best client, any offer counts as better."
   pub sharedClientIsNotBetter : betterOffer clients34 1 (some 4) (some 4) ≡ false  -- better than itself: true
   pub anyOfferIsBetter : betterOffer client4 0 (some 5) none ≡ true  -- no client as the best: false
+  -- ".. and does not make a reflector relied on"
+  pub offerWithoutAWay : betterOffer (cutSix (3 ∷ 4 ∷ [])) 0 (some 4) (some 3) ≡ false  -- no way as a distance: true
+  pub onlyOfferWithoutAWay : betterOffer (cutSix (4 ∷ [])) 0 (some 4) none ≡ false  -- any offer counts as better: true
   -- "1. A listed router relies on no one."
   pub rule1 : relies reflector1And34 1 4 ≡ false  -- as an unlisted one: true
   -- "2. An unlisted client relies on each neighbouring reflector and on each neighbouring listed client."
   pub rule2Reflector : relies clients34 5 1 ≡ true  -- on clients alone: false
   pub rule2ListedClient : relies clients34 5 3 ≡ true  -- on reflectors alone: false
   pub rule2UnlistedClient : relies client4 5 3 ≡ false  -- on every neighbour: true
+  -- "A router's own route is unaffected, and so is rule 2 of the reliances."
+  pub rule2WithoutAWay : relies (cutSix (3 ∷ [])) 5 3 ≡ true  -- rule 2 asks for a way: false
+  pub rule2WithoutAWayToAReflector : relies (cutSix (3 ∷ [])) 5 1 ≡ true  -- rule 2 asks for a way: false
+  pub rule2WithoutAWayToAListedReflector : relies (cutSix (1 ∷ [])) 5 1 ≡ true  -- a way asked for to listed ones: false
   -- "3. An unlisted reflector relies on its best client, and on each neighbouring reflector whose offer exists and is better, at the
   -- relying one, than its own best client."
   pub rule3BestClient : relies clients34 1 4 ≡ true  -- on reflectors alone: false
@@ -137,6 +171,8 @@ pub record RoutingExamples : Type 0 where
   pub rule3SharedClient : relies clients34 1 2 ≡ false  -- a shared client as better than itself: true
   pub rule3OfferByItsOwnDistances : relies clients345 0 1 ≡ false  -- the offer by the distances of 0: true
   pub rule3ListedReflector : relies reflector1And34 0 1 ≡ false  -- the client of 1 as its offer: true
+  pub rule3WithoutAWay : relies (cutSix (3 ∷ 4 ∷ [])) 0 1 ≡ false  -- no way as a distance: true
+  pub rule3ListedReflectorWithoutAWay : relies (cutSix (0 ∷ [])) 2 0 ≡ false  -- a listed reflector's offer always counts: true
   -- a router in a byte, 255 for none
   pub noRouter : asRouter 255 ≡ none
   pub lastRouterByte : asRouter 254 ≡ some 254

@@ -14,6 +14,8 @@ pub record Instance : Type 0 where
   pub neighbour : ℕ → ℕ → Bool
   -- the distance from the first to the second; "it need not equal the distance back"
   pub dist : ℕ → ℕ → ℕ
+  -- "some pairs have no path": the first has a way to the second; a distance counts only where there is one
+  pub way : ℕ → ℕ → Bool
   -- it is an egress router of the list
   pub listed : ℕ → Bool
 

@@ -1,4 +1,4 @@
--- Who relies on whom (document 01, "Reliance and verdict").
+-- Who relies on whom (document 01, "Reliance and verdict"; document 02, "Cut-off routers").
 use Prim.Native.Nat.{ℕ}
 use mathlib.Core.Bool.{Bool, true, false, not, cond, _&&_, _||_}
 use mathlib.Core.Option.{Option, none, some}
@@ -6,9 +6,9 @@ use Rattle.base.specs.Best.{best}
 use Rattle.routing.specs.Instance.{Instance, isRouter}
 use Rattle.routing.specs.Preference.{prefers}
 
--- a listed client that v neighbours
+-- a listed client that v neighbours, and has a way to: "a route whose egress the hearer has no way to .. is not a best client there"
 unfoldable pub listedClientOf : Instance → ℕ → ℕ → Bool
-listedClientOf I v e = I .neighbour v e && I .listed e && not (I .reflector e)
+listedClientOf I v e = I .neighbour v e && I .listed e && not (I .reflector e) && I .way v e
 
 -- "The best client of a reflector is the best, at that reflector, of the listed clients it neighbours."
 unfoldable pub bestClient : Instance → ℕ → Option ℕ
@@ -18,16 +18,18 @@ bestClient I v = best (prefers I v) (listedClientOf I v) (I .n)
 unfoldable pub offer : Instance → ℕ → Option ℕ
 offer I v = cond (I .listed v) (some v) (bestClient I v)
 
--- an offer exists and is better at w than w's own best client; "with no best client, any offer counts as better"
+-- an offer exists and is better at w than w's own best client; "with no best client, any offer counts as better". One that w has no way
+-- to "does not make a reflector relied on".
 unfoldable pub betterOffer : Instance → ℕ → Option ℕ → Option ℕ → Bool
 betterOffer I w none own = false
-betterOffer I w (some e) none = true
-betterOffer I w (some e) (some c) = prefers I w e c
+betterOffer I w (some e) none = I .way w e
+betterOffer I w (some e) (some c) = I .way w e && prefers I w e c
 
 -- "1. A listed router relies on no one."
 -- "2. An unlisted client relies on each neighbouring reflector and on each neighbouring listed client."
 -- "3. An unlisted reflector relies on its best client, and on each neighbouring reflector whose offer exists and is better, at the
 -- relying one, than its own best client."
+-- "A router's own route is unaffected, and so is rule 2 of the reliances": neither asks for a way.
 unfoldable pub relies : Instance → ℕ → ℕ → Bool
 relies I w v =
     cond (I .listed w) false

@@ -3,10 +3,9 @@ use Prim.Native.Nat.{ℕ}
 use mathlib.Core.Path.{_≡_, refl, _∙_, sym, ap}
 use mathlib.Core.Bool.{Bool, true, false, cond}
 use mathlib.Core.List.{List}
-use lib.Dec.{eqb}
 use Rattle.base.specs.Lent.{Lent}
 use Rattle.base.specs.Seek.{flag}
-use Rattle.routing.specs.Preference.{prefers}
+use Rattle.routing.specs.Preference.{better}
 use Rattle.routing.specs.Reliance.{relies}
 use Rattle.network.specs.FromPlan.{instanceOf}
 use Rattle.queries.specs.declared.compare.CompareAnswer.{CompareAnswer}
@@ -66,7 +65,7 @@ abbrev compareRefuses : CompareAnswer → ℕ
 compareRefuses (compares.Refused number) = 1
 compareRefuses compares.First = 0
 compareRefuses compares.Second = 0
-compareRefuses compares.Same = 0
+compareRefuses compares.Neither = 0
 
 cond-answers : {A : Type 0} (f : A → ℕ) (b : Bool) (x y : A) → f x ≡ 0 → f y ≡ 0 → f (cond b x y) ≡ 0
 cond-answers f true x y hx hy = hx
@@ -76,7 +75,8 @@ module _ (plan : List ℕ) (w e f : ℕ) (r : CompareAnswer) (call : Compares pl
   compared-answers : compareRefuses (compared plan w e f) ≡ 0
   unfolding compared
   compared-answers =
-      cond-answers compareRefuses (eqb e f) _ _ refl (cond-answers compareRefuses (prefers (instanceOf plan 0) w e f) _ _ refl refl)
+      cond-answers compareRefuses (better (instanceOf plan 0) w e f) _ _ refl
+      (cond-answers compareRefuses (better (instanceOf plan 0) w f e) _ _ refl refl)
 
   pub compare-refused : (number : ℕ) → r ≡ compares.Refused number → CompareExport plan w e f number (kept before)
   compare-refused number is =

@@ -68,7 +68,7 @@ pub extern "C" fn rrp_compare(
             *better = 2;
             return 0;
         }
-        CompareAnswer::Same => {
+        CompareAnswer::Neither => {
             *better = 0;
             return 0;
         }

@@ -10,8 +10,8 @@ use Rattle.routing.specs.Preference.{prefers}
 use Rattle.routing.specs.Reliance.{listedClientOf, bestClient}
 use Rattle.routing.specs.Activation.{advertises, hears, choose}
 use Rattle.routing.proofs.Preference.{prefers-order}
-use Rattle.routing.proofs.Reliance.{bestClient-is, client-neighbour, client-listed, client-intro}
-use Rattle.routing.proofs.Routes.{advertises-listed, advertises-client, hears-neighbour, hears-told, hears-intro, IsChoice, choose-is}
+use Rattle.routing.proofs.Reliance.{bestClient-is, client-neighbour, client-listed, client-way, client-intro}
+use Rattle.routing.proofs.Routes.{advertises-listed, advertises-client, hears-neighbour, hears-told, hears-way, hears-intro, IsChoice, choose-is}
 
 -- where v is an unlisted reflector that holds e from a client, e is its best client
 abbrev pub CleanEntry : Instance → ℕ → Route → Type 0
@@ -19,9 +19,10 @@ CleanEntry I v x =
     (e s : ℕ) → x ≡ via e s → I .listed v ≡ false → I .reflector v ≡ true → I .reflector s ≡ false → bestClient I v ≡ some e
 
 module _ (I : Instance) where
-  -- a listed neighbour is heard, whatever the view
-  pub hears-listed : (view : ℕ → Route) (w v : ℕ) → I .neighbour w v ≡ true → I .listed v ≡ true → hears I view w v v ≡ true
-  hears-listed view w v a b = hears-intro I view w v v a (advertises-listed I v (view v) w b)
+  -- a listed client neighbour is heard where there is a way to it, whatever the view
+  pub hears-client : (view : ℕ → Route) (w v : ℕ) → listedClientOf I w v ≡ true → hears I view w v v ≡ true
+  hears-client view w v h =
+      hears-intro I view w v v (client-neighbour I w v h) (advertises-listed I v (view v) w (client-listed I w v h)) (client-way I w v h)
 
   -- a client tells nothing but its own route
   own-route : (view : ℕ → Route) (w s e : ℕ) → I .reflector s ≡ false → advertises I s (view s) w ≡ some e → (I .listed s ≡ true) × (s ≡ e)
@@ -44,11 +45,13 @@ module _ (I : Instance) where
       own : (I .listed s ≡ true) × (s ≡ e)
       own = own-route view v s e client (hears-told I view v s e (c .told))
 
+      way : I .way v s ≡ true
+      way = rw (own .1) (hears-way I view v s e (c .told))
+
       here : IsBest (prefers I v) (listedClientOf I v) (I .n) e
       here =
           record {
             below = c .egress;
-            among = rw (own .1) at (client-intro I v s (hears-neighbour I view v s e (c .told)) (own .0) client);
-            unbeaten =
-                λ i l h. c .unbeaten i i l l (hears-listed view v i (client-neighbour I v i h) (client-listed I v i h));
+            among = rw (← own .1) (client-intro I v s (hears-neighbour I view v s e (c .told)) (own .0) client way);
+            unbeaten = λ i l h. c .unbeaten i i l l (hears-client view v i h);
           }

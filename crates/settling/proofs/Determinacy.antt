@@ -12,10 +12,10 @@ use Rattle.routing.specs.Preference.{prefers}
 use Rattle.routing.specs.Reliance.{listedClientOf, bestClient, offer, betterOffer, relies}
 use Rattle.routing.specs.Activation.{advertises, hears, choose}
 use Rattle.routing.proofs.Preference.{prefers-order}
-use Rattle.routing.proofs.Reliance.{bestClient-is, client-neighbour, client-listed, offer-unlisted, relies-client, relies-offer}
+use Rattle.routing.proofs.Reliance.{bestClient-is, offer-unlisted, relies-client, relies-offer, better-any, better-both}
 use Rattle.routing.proofs.Routes.{advertises-listed, advertises-client, advertises-reflector, FromClient, reflects-client}
-use Rattle.routing.proofs.Routes.{hears-neighbour, hears-told, hears-intro, IsChoice, ChoiceIs, choice-unique, choose-listed, choose-is}
-use Rattle.settling.proofs.Clean.{CleanEntry, hears-listed}
+use Rattle.routing.proofs.Routes.{hears-neighbour, hears-told, hears-way, hears-intro, IsChoice, ChoiceIs, choice-unique, choose-listed, choose-is}
+use Rattle.settling.proofs.Clean.{CleanEntry, hears-client}
 
 -- an anchor exists, and f is not preferred to it
 record Beaten (prefer : ℕ → ℕ → Bool) (anchor : Option ℕ) (f : ℕ) : Type 0 where
@@ -113,11 +113,10 @@ module _ (I : Instance) (w : ℕ) (unlisted : I .listed w ≡ false) where
   module _ (t u : ℕ → Route) (v e : ℕ) (clean : CleanEntry I v (t v)) (agree : relies I w v ≡ true → t v ≡ u v) (h : hears I t w v e ≡ true) where
     -- v tells the same whatever it holds
     told-anyway : advertises I v (t v) w ≡ advertises I v (u v) w → hears I u w v e ≡ true
-    told-anyway q = hears-intro I u w v e (hears-neighbour I t w v e h) (sym q ∙ hears-told I t w v e h)
+    told-anyway q = hears-intro I u w v e (hears-neighbour I t w v e h) (sym q ∙ hears-told I t w v e h) (hears-way I t w v e h)
 
     -- a reflector's offer that w does not rely on
     offered : I .listed v ≡ false → I .reflector v ≡ true → I .reflector w ≡ true → relies I w v ≡ false → Beaten (prefers I w) (bestClient I w) e
-    unfolding betterOffer
     offered p r k q = go (bestClient I w) refl (sym same ∙ q)
       where
         f : FromClient I (t v) e
@@ -130,8 +129,10 @@ module _ (I : Instance) (w : ℕ) (unlisted : I .listed w ≡ false) where
         same = relies-offer I w v unlisted k r ∙ cc (offers, hears-neighbour I t w v e h)
 
         go : (b : Option ℕ) → bestClient I w ≡ b → betterOffer I w (some e) (bestClient I w) ≡ false → Beaten (prefers I w) (bestClient I w) e
-        go none b z = not-both (betterOffer I w (some e) (bestClient I w)) (ap (betterOffer I w (some e)) b) z
-        go (some c) b z = record { by = c; is = b; beaten = sym (ap (betterOffer I w (some e)) b) ∙ z }
+        go none b z =
+            not-both (betterOffer I w (some e) (bestClient I w)) (ap (betterOffer I w (some e)) b ∙ better-any I w e (hears-way I t w v e h)) z
+        go (some c) b z =
+            record { by = c; is = b; beaten = sym (ap (betterOffer I w (some e)) b ∙ better-both I w e c (hears-way I t w v e h)) ∙ z }
 
     covered : (hears I u w v e ≡ true) ⊎ Beaten (prefers I w) (bestClient I w) e
     covered = go (relies I w v) refl (I .listed v) refl (I .reflector v) refl (I .reflector w) refl
@@ -153,7 +154,7 @@ module _ (I : Instance) (w : ℕ) (unlisted : I .listed w ≡ false) where
       let b : IsBest (prefers I w) (listedClientOf I w) (I .n) c = rw q at (bestClient-is I w) in
       record {
         below = b .below;
-        told = hears-listed I t w c (client-neighbour I w c (b .among)) (client-listed I w c (b .among));
+        told = hears-client I t w c (b .among);
       }
 
 module _ (I : Instance) (w : ℕ) (t u : ℕ → Route) where

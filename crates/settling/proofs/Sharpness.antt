@@ -31,6 +31,7 @@ network =
       reflector = λ v. ltb v 2;
       neighbour = λ w v. session 0 1 w v || session 0 2 w v || session 1 3 w v;
       dist = λ w e. 0;
+      way = λ w e. true;
       listed = λ v. eqb v 4;
     }
 

@@ -70,7 +70,8 @@ pub trait Checker {
 
     fn list(&mut self, plan: &[u8], list: usize, fields: &mut ListFields) -> u8;
 
-    /// `better` becomes 0 if both are the same, 1 for the first, 2 for the second.
+    /// `better` becomes 1 for the first, 2 for the second, 0 for neither: both are
+    /// the same, or there is a way to neither.
     fn compare(&mut self, plan: &[u8], router: usize, pair: (usize, usize), better: &mut u8) -> u8;
 
     fn relies(&mut self, plan: &[u8], list: usize, pair: (usize, usize), relies: &mut u8) -> u8;

@@ -5,6 +5,7 @@ use crate::harness::generate::all_pairs;
 use crate::harness::random::Random;
 use crate::harness::sheets::Sheet;
 use crate::oracle::links::MOST_LINKS;
+use crate::oracle::plan::NO_WAY;
 use crate::oracle::verdict_lines;
 use std::collections::{BTreeMap, BTreeSet};
 
@@ -19,12 +20,14 @@ pub struct Shape {
     reach: usize,
     parents: usize,
     all_sessions: bool,
+    /// So many of a hundred pairs have no way.
+    cut: usize,
 }
 
 impl Shape {
     /// A quarter reflectors, all in a mesh; clients with two parents.
     pub fn mesh(n: usize) -> Self {
-        Shape { n, reflectors: (n / 4).max(2), reach: n, parents: 2, all_sessions: false }
+        Shape { n, reflectors: (n / 4).max(2), reach: n, parents: 2, all_sessions: false, cut: 0 }
     }
 
     /// A mesh; half reflectors in a mesh, and clients with four parents (for four
@@ -43,6 +46,15 @@ impl Shape {
     /// parents. From 32 routers on, a router's neighbours are as many whatever n is.
     pub fn same_degree(n: usize) -> Self {
         Shape { reach: 3, ..Shape::mesh(n) }
+    }
+
+    /// A mesh in which a fifth of the pairs have no way.
+    pub fn fifth_cut(n: usize) -> Self {
+        Shape { cut: 20, ..Shape::mesh(n) }
+    }
+
+    pub fn name(&self) -> String {
+        format!("n = {}, {} sessions", self.n, self.sessions().len())
     }
 
     fn sessions(&self) -> BTreeSet<(usize, usize)> {
@@ -72,6 +84,7 @@ impl Shape {
         let n = self.n;
         let mut distance = |from: usize, to: usize| match (from == to, one_order) {
             (true, _) => 0,
+            _ if self.cut > 0 && random.chance(self.cut) => NO_WAY,
             (_, true) => 10 + 3 * to as u16 + random.below(3) as u16,
             _ => random.between(1, 1000) as u16,
         };
@@ -98,6 +111,14 @@ pub fn full_sheet(random: &mut Random, n: usize) -> Sheet {
     let each = (MOST_LINKS / n).min(n - 1);
     let onward = |from: usize| (1..=each).map(move |step| (from, (from + step) % n));
     Sheet { n, weights: weighted(random, (0..n).flat_map(onward)) }
+}
+
+/// The ring and chords without the links between the lower half of the routers and
+/// the upper.
+pub fn two_parts(random: &mut Random, n: usize) -> Sheet {
+    let mut sheet = ring_and_chords(random, n);
+    sheet.weights.retain(|(from, to), _| (*from < n / 2) == (*to < n / 2));
+    sheet
 }
 
 fn weighted(random: &mut Random, links: impl Iterator<Item = (usize, usize)>) -> BTreeMap<(usize, usize), u16> {

@@ -3,12 +3,13 @@
 //! the turns, so that a machine that is slower for a while slows both sides.
 
 use super::plain::Plain;
-use super::shapes::{full_sheet, ring_and_chords, Shape, SIZES};
+use super::shapes::{full_sheet, ring_and_chords, two_parts, Shape, SIZES};
 use super::tight::Tight;
 use crate::harness::arguments;
 use crate::harness::draft::Draft;
 use crate::harness::generate;
 use crate::harness::random::Random;
+use crate::harness::sheets::Sheet;
 use crate::interface::{Acts, Checker, Flag, ListFields, RunFields, SizeFields, VerdictBuffers, VerdictFields};
 use crate::library::Library;
 use crate::oracle::plan;
@@ -174,15 +175,11 @@ impl Run {
     }
 }
 
-fn name_of(draft: &Draft) -> String {
-    format!("n = {}, {} sessions", draft.reflector.len(), draft.sessions.len())
-}
-
 /// The calls that do little but check the plan.
 fn time_checks(bench: &Bench, random: &mut Random) {
     for n in SIZES {
-        let draft = Shape::mesh(n).draft(random, false);
-        let (plan, shape) = (draft.bytes(), name_of(&draft));
+        let mesh = Shape::mesh(n);
+        let (plan, shape) = (mesh.draft(random, false).bytes(), mesh.name());
         bench.line(&format!("check, {shape}"), 1, |checker| check(checker, &plan));
         bench.line(&format!("size, {shape}"), 1, |checker| size(checker, &plan));
         bench.line(&format!("list, {shape}"), 1, |checker| list(checker, &plan));
@@ -193,36 +190,42 @@ fn time_checks(bench: &Bench, random: &mut Random) {
     bench.line("verdict, largest plan", 1, |checker| _ = verdict(checker, &largest));
 }
 
-/// The calls that use the network, by routers and sessions.
+/// The calls that use the network, on plans of one shape.
+fn time_shape(bench: &Bench, random: &mut Random, shape: &Shape, name: &str) {
+    let draft = shape.draft(random, false);
+    let run = Run::new(random, &draft, ACTS);
+    bench.line(&format!("relies, {name}"), 1, |checker| relies(checker, &run.plan));
+    bench.line(&format!("activation, {name}"), 1, |checker| activate(checker, &run.plan, &run.table));
+    bench.line(&format!("run, {name}"), ACTS, |checker| run.by(checker));
+    let stable = shape.draft(random, true).bytes();
+    bench.line(&format!("verdict stable, {name}"), 1, |checker| assert!(verdict(checker, &stable)));
+    if let Some(draft) = shape.draft_suspect(random) {
+        let suspect = draft.bytes();
+        bench.line(&format!("verdict suspect, {name}"), 1, |checker| assert!(!verdict(checker, &suspect)));
+    }
+}
+
+/// .. by routers and sessions.
 fn time_network(bench: &Bench, random: &mut Random) {
     for shape in SIZES.into_iter().flat_map(Shape::of_size) {
-        let draft = shape.draft(random, false);
-        let run = Run::new(random, &draft, ACTS);
-        let name = name_of(&draft);
-        bench.line(&format!("relies, {name}"), 1, |checker| relies(checker, &run.plan));
-        bench.line(&format!("activation, {name}"), 1, |checker| activate(checker, &run.plan, &run.table));
-        bench.line(&format!("run, {name}"), ACTS, |checker| run.by(checker));
-        let stable = shape.draft(random, true).bytes();
-        bench.line(&format!("verdict stable, {name}"), 1, |checker| assert!(verdict(checker, &stable)));
-        if let Some(draft) = shape.draft_suspect(random) {
-            let suspect = draft.bytes();
-            bench.line(&format!("verdict suspect, {name}"), 1, |checker| assert!(!verdict(checker, &suspect)));
-        }
+        time_shape(bench, random, &shape, &shape.name());
     }
 }
 
 /// An activation costs the same in longer runs, and in networks that are larger
 /// while their routers have as many neighbours.
 fn time_growth(bench: &Bench, random: &mut Random) {
-    let draft = Shape::mesh(64).draft(random, false);
+    let mesh = Shape::mesh(64);
+    let draft = mesh.draft(random, false);
     for acts in [ACTS / 10, ACTS, 10 * ACTS] {
         let run = Run::new(random, &draft, acts);
-        bench.line(&format!("run of {acts}, {}", name_of(&draft)), acts, |checker| run.by(checker));
+        bench.line(&format!("run of {acts}, {}", mesh.name()), acts, |checker| run.by(checker));
     }
     let [small, large] = [32, 64].map(|n| {
-        let draft = Shape::same_degree(n).draft(random, false);
+        let shape = Shape::same_degree(n);
+        let draft = shape.draft(random, false);
         let run = Run::new(random, &draft, ACTS);
-        bench.line(&format!("run, same degree, {}", name_of(&draft)), ACTS, |checker| run.by(checker));
+        bench.line(&format!("run, same degree, {}", shape.name()), ACTS, |checker| run.by(checker));
         run
     });
     bench.growth("run, same degree, n = 64 over n = 32", &small, &large);
@@ -231,10 +234,20 @@ fn time_growth(bench: &Bench, random: &mut Random) {
 /// Distances from sheets of few links and of the most that there may be.
 fn time_sheets(bench: &Bench, random: &mut Random) {
     for sheet in SIZES.into_iter().flat_map(|n| [ring_and_chords(random, n), full_sheet(random, n)]) {
-        let (n, links, mut out) = (sheet.n, sheet.bytes(), vec![0; 2 * sheet.n * sheet.n]);
-        let name = format!("distances, n = {n}, {} links", sheet.weights.len());
-        bench.line(&name, 1, |checker| distances(checker, n, &links, &mut out));
+        time_sheet(bench, &sheet, "distances");
     }
+}
+
+fn time_sheet(bench: &Bench, sheet: &Sheet, what: &str) {
+    let (n, links, mut out) = (sheet.n, sheet.bytes(), vec![0; 2 * sheet.n * sheet.n]);
+    let name = format!("{what}, n = {n}, {} links", sheet.weights.len());
+    bench.line(&name, 1, |checker| distances(checker, n, &links, &mut out));
+}
+
+/// Plans and sheets with cut-off routers.
+fn time_cuts(bench: &Bench, random: &mut Random) {
+    time_shape(bench, random, &Shape::fifth_cut(64), "a fifth cut, n = 64");
+    time_sheet(bench, &two_parts(random, 64), "distances, two parts");
 }
 
 /// Prints the lines whose names have the word.
@@ -247,4 +260,5 @@ pub fn bench(word: &str) {
     time_network(&bench, &mut random);
     time_growth(&bench, &mut random);
     time_sheets(&bench, &mut random);
+    time_cuts(&bench, &mut random);
 }

@@ -68,7 +68,7 @@ fn compare(options: &Options) -> Result<bool, Box<dyn Error>> {
 fn test_self(options: &Options) -> Result<bool, Box<dyn Error>> {
     println!("seed {}", options.seed);
     small_plans::test()?;
-    println!("small plans M1 to M9, bounds, example output, rank of the deepest plan: as stated");
+    println!("small plans M1 to M9, bounds, cuts, example output, rank of the deepest plan: as stated");
     small_sheets::test()?;
     println!("small sheets of links, their refusals in order: as stated");
     self_test::aimed_damage()?;
@@ -78,6 +78,7 @@ fn test_self(options: &Options) -> Result<bool, Box<dyn Error>> {
     let without_a_walk = self_test::least_sums(options.seed, options.plans)?;
     println!("least sums on {} sheets: as due, {without_a_walk} pairs without a walk", options.plans);
     let counts = self_test::consistency(options.seed, options.plans)?;
+    println!("starts on plans with cuts {}", counts.starts_with_cuts);
     println!(
         "second self: {} plans, {} lists, {} suspect, {} starts settled",
         options.plans, counts.lists, counts.suspect, counts.starts

@@ -2,6 +2,7 @@
 //! short, exact and longer, routing tables sound and broken, sequences.
 
 use super::random::Random;
+use crate::oracle::plan::Plan;
 use crate::oracle::rules::Case;
 use crate::oracle::tables::NONE;
 
@@ -74,10 +75,19 @@ pub fn table(random: &mut Random, case: Case) -> Vec<u8> {
         } else if neighbours.is_empty() || random.chance(empty) {
             [NONE, NONE]
         } else {
-            [random.below(case.plan.n) as u8, random.pick(&neighbours) as u8]
+            [left_over(random, case.plan, router) as u8, random.pick(&neighbours) as u8]
         }
     };
     (0..case.plan.n).flat_map(entry).collect()
+}
+
+/// The egress of a left-over route: any router, often one without a way.
+fn left_over(random: &mut Random, plan: &Plan, router: usize) -> usize {
+    let without_way: Vec<usize> = (0..plan.n).filter(|&egress| !plan.has_way(router, egress)).collect();
+    if !without_way.is_empty() && random.chance(30) {
+        return random.pick(&without_way);
+    }
+    random.below(plan.n)
 }
 
 /// A routing table with bytes after it that are no part of it.

@@ -16,6 +16,8 @@ use std::ops::Range;
 pub struct Counts {
     pub plans: u64,
     pub sound_plans: u64,
+    /// Sound plans in which some router has no way to some other.
+    pub plans_with_cuts: u64,
     pub lists: u64,
     pub suspect_lists: u64,
     pub sheets: u64,
@@ -24,6 +26,7 @@ pub struct Counts {
     pub refusals: [u64; 13],
     pub calls: u64,
     pub series: u64,
+    pub series_with_cuts: u64,
     pub acts_in_series: u64,
     pub highest_rank: u64,
     pub longest_cycle: u64,
@@ -35,6 +38,7 @@ pub struct Counts {
 impl fmt::Display for Counts {
     fn fmt(&self, out: &mut fmt::Formatter) -> fmt::Result {
         writeln!(out, "sound plans {}, calls not refused {}", self.sound_plans, self.refusals[0])?;
+        writeln!(out, "plans with cuts {}, series on these {}", self.plans_with_cuts, self.series_with_cuts)?;
         writeln!(out, "sheets with distances {}", self.sheets_with_distances)?;
         writeln!(out, "highest rank {} longest cycle {}", self.highest_rank, self.longest_cycle)?;
         writeln!(out, "cycles without the lowest router of their group {}", self.entered_cycles)?;

@@ -2,7 +2,7 @@
 
 use super::draft::{Bodies, Draft};
 use super::random::Random;
-use crate::oracle::plan::{FIRST_BODY, LONGEST_PLAN};
+use crate::oracle::plan::{FIRST_BODY, LONGEST_PLAN, NO_WAY};
 
 /// A plan whose damage is aimed at the given refusal number, 1 to 7.
 pub fn aimed(random: &mut Random, draft: &Draft, refusal: u8) -> Vec<u8> {
@@ -22,7 +22,7 @@ pub fn aimed(random: &mut Random, draft: &Draft, refusal: u8) -> Vec<u8> {
 /// Damage of any kind, at times none that counts.
 pub fn any(random: &mut Random, draft: &Draft) -> Vec<u8> {
     let mut plan = draft.bytes();
-    match random.below(8) {
+    match random.below(9) {
         0 => flip_bits(random, &mut plan, 1),
         1 => {
             let flips = random.between(2, 5);
@@ -35,6 +35,11 @@ pub fn any(random: &mut Random, draft: &Draft) -> Vec<u8> {
         }
         4 => junk(random, &mut plan),
         5 => overwrite(random, &mut plan),
+        6 => {
+            let mut bodies = draft.bodies();
+            cut(random, &mut bodies);
+            return bodies.bytes();
+        }
         _ => return two_at_once(random, draft),
     }
     plan
@@ -78,10 +83,11 @@ fn two_at_once(random: &mut Random, draft: &Draft) -> Vec<u8> {
 }
 
 fn damage_body(random: &mut Random, bodies: &mut Bodies) {
-    match random.below(4) {
+    match random.below(5) {
         0 => routers(random, bodies),
         1 => sessions(random, bodies),
         2 => distances(random, bodies),
+        3 => cut(random, bodies),
         _ => lists(random, bodies),
     }
 }
@@ -198,16 +204,31 @@ fn trim_to_longest(bodies: &mut Bodies) {
     bodies.lists.truncate(bodies.lists.len() - excess);
 }
 
+/// The distance of a router to itself is not 0, or there is no way to itself.
 fn distances(random: &mut Random, bodies: &mut Bodies) {
     let n = usize::from(bodies.n);
-    let distances = &mut bodies.distances;
+    let anywhere = random.below(n);
+    let router = random.pick(&[0, n - 1, n / 2, anywhere]);
     if random.chance(50) {
-        let at = 2 * random.below(n * n);
-        distances[at..at + 2].fill(255);
+        set_distance(bodies, router, router, NO_WAY);
     } else {
-        let router = random.pick(&[0, n - 1, n / 2]);
-        distances[2 * (router * n + router) + random.below(2)] = random.pick(&[1, 128, 255]);
+        let number = random.pick(&[1, 128, 255]) << random.pick(&[0, 8]);
+        set_distance(bodies, router, router, number);
     }
+}
+
+/// No way from one router to another, which is legal.
+fn cut(random: &mut Random, bodies: &mut Bodies) {
+    let n = usize::from(bodies.n);
+    let (from, to) = (random.below(n), random.below(n));
+    if from != to {
+        set_distance(bodies, from, to, NO_WAY);
+    }
+}
+
+fn set_distance(bodies: &mut Bodies, from: usize, to: usize, distance: u16) {
+    let at = 2 * (from * usize::from(bodies.n) + to);
+    bodies.distances[at..at + 2].copy_from_slice(&distance.to_le_bytes());
 }
 
 fn lists(random: &mut Random, bodies: &mut Bodies) {

@@ -1,6 +1,7 @@
 //! Plans, sound and damaged: random ones of several shapes, the largest and
 //! the deepest.
 
+use super::cuts;
 use super::damage;
 use super::draft::Draft;
 use super::random::Random;
@@ -38,7 +39,8 @@ pub fn sound(random: &mut Random) -> Draft {
 /// A random sound plan with `n` routers.
 pub fn sound_of(random: &mut Random, n: usize) -> Draft {
     let topology = topology(random, n);
-    let distances = distances(random, &topology);
+    let mut distances = distances(random, &topology);
+    cuts::cut(random, &topology, &mut distances);
     let (reflector, sessions) = topology;
     let lists = lists(random, &reflector);
     Draft { identifiers: identifiers(random, n), reflector, sessions, distances, lists }
@@ -119,7 +121,8 @@ pub fn all_pairs(n: usize) -> impl Iterator<Item = (Router, Router)> {
     (0..n).flat_map(move |one| (one + 1..n).map(move |other| (one, other)))
 }
 
-type Topology = (Vec<bool>, BTreeSet<(Router, Router)>);
+/// Which routers are reflectors, and the sessions.
+pub type Topology = (Vec<bool>, BTreeSet<(Router, Router)>);
 
 fn topology(random: &mut Random, n: usize) -> Topology {
     match random.below(16) {
@@ -141,7 +144,7 @@ fn scattered(random: &mut Random, n: usize, percent: usize) -> Topology {
     (reflector, all_pairs(n).filter(|_| random.chance(percent)).collect())
 }
 
-fn ordered(one: Router, other: Router) -> (Router, Router) {
+pub fn ordered(one: Router, other: Router) -> (Router, Router) {
     (one.min(other), one.max(other))
 }
 

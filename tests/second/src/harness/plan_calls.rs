@@ -54,6 +54,7 @@ fn loose_calls(random: &mut Random) -> [Call; 6] {
 
 fn sound(comparison: &mut Comparison, random: &mut Random, bytes: &[u8], plan: &Plan) -> Outcome {
     comparison.counts.sound_plans += 1;
+    comparison.counts.plans_with_cuts += u64::from(plan.has_cuts());
     comparisons(comparison, random, bytes, plan)?;
     past_the_lists(comparison, random, bytes, plan)?;
     let verdicts = verdicts_of_lists(comparison, random, bytes, plan)?;

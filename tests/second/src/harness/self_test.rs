@@ -4,10 +4,11 @@
 use super::arguments;
 use super::comparison::compare;
 use super::damage;
-use super::faults::{Careless, Misread, MISREADINGS, SLIPS};
 use super::generate;
+use super::misreadings::{Misread, MISREADINGS};
 use super::random::Random;
 use super::sheets::{self, Sheet, DAMAGES};
+use super::slips::{Careless, SLIPS};
 use crate::interface::Checker;
 use crate::oracle::links::{self, Sums};
 use crate::oracle::plan::{self, Router};
@@ -114,6 +115,8 @@ pub struct Consistency {
     pub lists: u64,
     pub suspect: u64,
     pub starts: u64,
+    /// Of these, those on plans in which some router has no way to some other.
+    pub starts_with_cuts: u64,
 }
 
 /// Groups, ranks, cycles and settling on random plans.
@@ -147,6 +150,7 @@ fn consistent(random: &mut Random, case: Case, counts: &mut Consistency) -> Resu
             let settled = tables::bytes(&table, case.plan.n);
             for _ in 0..2 {
                 counts.starts += 1;
+                counts.starts_with_cuts += u64::from(case.plan.has_cuts());
                 settles(random, case, &settled, highest)?;
             }
             Ok(())

@@ -58,6 +58,7 @@ pub fn compare(
         series.step(comparison, random)?;
     }
     comparison.counts.series += 1;
+    comparison.counts.series_with_cuts += u64::from(plan.has_cuts());
     comparison.counts.acts_in_series += series.acts;
     Ok(())
 }

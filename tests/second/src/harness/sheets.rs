@@ -119,14 +119,14 @@ fn cut_off(random: &mut Random, n: usize) -> Sheet {
     sheet
 }
 
-/// A ring of which all links but one make up a sum at or near the bound, or twice
-/// that; and some links of the greatest weight.
+/// A ring, closed or open, of which all links but the last make up a sum at or near
+/// the bound, or twice that; and some links of the greatest weight.
 fn long_way(random: &mut Random, n: usize) -> Sheet {
     let order = shuffled(random, n);
     let sums = [FARTHEST - 1, FARTHEST, FARTHEST + 1, FARTHEST + 2, FARTHEST + 9, 2 * FARTHEST + 3];
     let mut left = random.pick(&sums) as usize;
     let mut weights: BTreeMap<(Router, Router), u16> = ring(&order).map(|pair| (pair, 1)).collect();
-    // The link that closes the ring keeps weight 1.
+    // The link that closes the ring keeps weight 1, or is taken out.
     for place in 1..n {
         let others = n - 1 - place;
         let most = left.saturating_sub(others).clamp(1, 65_535);
@@ -134,7 +134,12 @@ fn long_way(random: &mut Random, n: usize) -> Sheet {
         weights.insert((order[place - 1], order[place]), share as u16);
         left = left.saturating_sub(share);
     }
-    for _ in 0..random.below(n + 1) {
+    let closed = random.chance(60);
+    if !closed {
+        weights.remove(&(order[n - 1], order[0]));
+    }
+    let more = if closed || random.chance(50) { random.below(n + 1) } else { 0 };
+    for _ in 0..more {
         let pair = (random.below(n), random.below(n));
         weights.entry(pair).or_insert(65_535);
     }

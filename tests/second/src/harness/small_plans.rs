@@ -1,9 +1,11 @@
 //! What document 01 states of its small plans: M1 to M9, the bounds, the output
-//! of the verdict program; and the rank of the deepest plan.
+//! of the verdict program; what document 02 states of cut-off routers; and the
+//! rank of the deepest plan.
 
 use super::call::{perform, Answer, Call};
 use super::draft::Draft;
 use super::generate;
+use crate::oracle::plan::NO_WAY;
 use crate::oracle::{verdict_lines, Oracle};
 use std::collections::BTreeSet;
 use std::fmt::Debug;
@@ -26,6 +28,7 @@ pub fn test() -> Result<(), String> {
     verdicts()?;
     runs()?;
     bounds()?;
+    cuts()?;
     example()?;
     let deepest = "routers 64 lists 1\n0 stable 61\n".to_string();
     same("deepest plan", verdict_lines(&generate::deepest().bytes()), deepest)
@@ -100,9 +103,47 @@ fn bounds() -> Result<(), String> {
     same("64 routers", check(&lone_reflectors(64)), 0)?;
     same("65 routers", check(&lone_reflectors(65)), 2)?;
     same("distance 65534", check(&draft(65_534, 6, &[&[0]])), 0)?;
-    same("distance 65535", check(&draft(65_535, 6, &[&[0]])), 6)?;
+    same("distance 65535", check(&draft(65_535, 6, &[&[0]])), 0)?;
+    let mut to_itself = draft(6, 6, &[&[0]]);
+    to_itself.distances[2][2] = 65_535;
+    same("distance 65535 to itself", check(&to_itself), 6)?;
     let two_lists = draft(6, 6, &[&[2, 3], &[3]]);
     same("size", answer(&two_lists, &Call::Size), due(&[4, 2], &[]))
+}
+
+/// M3's plan with this list and no way between these pairs, from the first to the
+/// second.
+fn with_cuts(list: &[usize], cuts: &[(usize, usize)]) -> Draft {
+    let mut draft = draft(6, 6, &[list]);
+    cuts.iter().for_each(|&(from, to)| draft.distances[from][to] = NO_WAY);
+    draft
+}
+
+/// A route without a way is not heard, is no best client and makes no reflector
+/// relied on; own routes and what clients rely on are unaffected.
+fn cuts() -> Result<(), String> {
+    let both: &[usize] = &[2, 3];
+    let case = |cuts: &[(usize, usize)]| with_cuts(both, cuts);
+    stable("no way to the offer", &case(&[(0, 3)]), 2, [1, 2, 0, 0], [2, 2, 2, 0, 2, 2, 3, 3])?;
+    stable("no way to the client", &case(&[(0, 2)]), 2, [2, 1, 0, 0], [3, 1, 3, 3, 2, 2, 3, 3])?;
+    stable("no way to either", &case(&[(0, 2), (0, 3)]), 1, [0, 1, 0, 0], [255, 255, 3, 3, 2, 2, 3, 3])?;
+    let three = |cuts: &[(usize, usize)]| with_cuts(&[3], cuts);
+    stable("no client, no way", &three(&[(0, 3)]), 1, [0, 1, 1, 0], [255, 255, 3, 3, 255, 255, 3, 3])?;
+    stable("a client without a way", &three(&[(2, 3)]), 3, [2, 1, 3, 0], [3, 1, 3, 3, 255, 255, 3, 3])?;
+    stable("no way to the parent", &three(&[(2, 0)]), 3, [2, 1, 3, 0], [3, 1, 3, 3, 3, 0, 3, 3])?;
+    let zero = with_cuts(&[0], &[(1, 0), (0, 1), (0, 2), (0, 3)]);
+    stable("a listed reflector cut off", &zero, 1, [0, 0, 1, 1], [0, 0, 255, 255, 0, 0, 255, 255])?;
+    compared()
+}
+
+/// At router 0, 1 and 2 without a way and 3 with one.
+fn compared() -> Result<(), String> {
+    let plan = with_cuts(&[0], &[(0, 1), (0, 2)]);
+    for (first, second, better) in [(3, 2, 1), (1, 3, 2), (1, 2, 0), (2, 1, 0), (2, 2, 0), (0, 1, 1)] {
+        let call = Call::Compare { router: 0, first, second };
+        same(&format!("{first} compared with {second}"), answer(&plan, &call), due(&[better], &[]))?;
+    }
+    Ok(())
 }
 
 fn example() -> Result<(), String> {

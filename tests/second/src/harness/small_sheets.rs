@@ -48,6 +48,9 @@ fn written() -> Result<(), String> {
     writes("weight 65534", 2, &[(0, 1, 65_534), (1, 0, 1)], &[0, 0, 254, 255, 1, 0, 0, 0])?;
     let sum = [0, 0, 253, 255, 254, 255, 2, 0, 0, 0, 1, 0, 1, 0, 254, 255, 0, 0];
     writes("sum 65534", 3, &[(0, 1, 65_533), (1, 2, 1), (2, 0, 1)], &sum)?;
+    writes("no walk back", 2, &[(0, 1, 1)], &[0, 0, 1, 0, 255, 255, 0, 0])?;
+    writes("no links", 2, &[], &[0, 0, 255, 255, 255, 255, 0, 0])?;
+    writes("65534, and no walk back", 2, &[(0, 1, 65_534)], &[0, 0, 254, 255, 255, 255, 0, 0])?;
     let detour = [0, 0, 1, 0, 2, 0, 2, 0, 0, 0, 1, 0, 1, 0, 2, 0, 0, 0];
     writes("weight 65535 outdone", 3, &[(0, 1, 1), (0, 2, 65_535), (1, 2, 1), (2, 0, 1)], &detour)
 }
@@ -73,7 +76,7 @@ fn broken_links() -> Result<(), String> {
 
 fn too_far() -> Result<(), String> {
     let twelve = |what: &str, n: usize, links: Drawn| refuses(what, 12, n, &bytes(links), 2 * n * n);
-    twelve("no walk", 2, &[(0, 1, 1)])?;
+    twelve("a walk too far, and none", 3, &[(0, 1, 65_533), (1, 2, 2)])?;
     twelve("weight 65535", 2, &[(0, 1, 65_535), (1, 0, 1)])?;
     twelve("sum 65535", 3, &[(0, 1, 65_533), (1, 2, 2), (2, 0, 1)])?;
     twelve("sum 65536", 3, &[(0, 1, 65_535), (1, 2, 1), (2, 0, 1)])
@@ -84,7 +87,8 @@ fn in_order() -> Result<(), String> {
     for n in [0, 65, 256, 257, usize::MAX] {
         refuses("number of routers", 2, n, &[0], 0)?;
     }
-    refuses("broken, without a walk, short", 11, 2, &[0], 7)?;
-    refuses("without a walk, short", 12, 2, &[], 7)?;
+    refuses("broken, too far, short", 11, 2, &[0, 1, 255, 255, 0], 7)?;
+    refuses("too far, short", 12, 2, &[0, 1, 255, 255], 7)?;
+    refuses("without a walk, short", 9, 2, &[], 7)?;
     refuses("short", 9, 2, &bytes(&[(0, 1, 1), (1, 0, 1)]), 7)
 }

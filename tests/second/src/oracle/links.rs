@@ -1,7 +1,7 @@
-//! Distances from a sheet of links, written from document 02 (Slip 1): Dijkstra's
-//! search from each router; refusals 2, 11 and 12.
+//! Distances from a sheet of links, written from document 02 (Slips 1 and 2):
+//! Dijkstra's search from each router; refusals 2, 11 and 12.
 
-use super::plan::{Router, MOST_ROUTERS};
+use super::plan::{Router, MOST_ROUTERS, NO_WAY};
 use std::cmp::Reverse;
 use std::collections::{BTreeMap, BinaryHeap};
 
@@ -64,10 +64,10 @@ pub fn written(sums: &Sums) -> Result<Vec<u8>, u8> {
     Ok(distances?.into_iter().flat_map(u16::to_le_bytes).collect())
 }
 
-/// What is written for a least sum; refusal 12.
+/// What is written for a least sum, or for none; refusal 12.
 fn distance(sum: Option<u64>) -> Result<u16, u8> {
     match sum {
-        None => Err(12),
+        None => Ok(NO_WAY),
         Some(sum) if sum > FARTHEST => Err(12),
         Some(sum) => Ok(sum as u16),
     }

@@ -1,6 +1,6 @@
 //! Reads the bytes of a plan into sets; gives refusals 1 to 7.
 
-use std::collections::BTreeSet;
+use std::collections::{BTreeMap, BTreeSet};
 
 /// A router's number: its place in the plan, from 0.
 pub type Router = usize;
@@ -12,7 +12,9 @@ pub const LONGEST_PLAN: usize = 16_731;
 pub const FIRST_BODY: usize = 26;
 pub const MOST_ROUTERS: usize = 64;
 pub const MOST_LISTS: usize = 64;
-const NO_DISTANCE: u16 = 65_535;
+
+/// What stands for the distance to a router that there is no way to.
+pub const NO_WAY: u16 = 65_535;
 
 /// An egress list, and where in the plan its router numbers start.
 pub struct EgressList {
@@ -24,9 +26,10 @@ pub struct Plan {
     pub n: usize,
     pub reflectors: BTreeSet<Router>,
     pub neighbours: Vec<BTreeSet<Router>>,
-    pub distances: Vec<Vec<u16>>,
+    /// From each router to each; none if there is no way.
+    pub distances: Vec<Vec<Option<u16>>>,
     pub lists: Vec<EgressList>,
-    places: Vec<Vec<usize>>,
+    places: Vec<BTreeMap<Router, usize>>,
 }
 
 impl Plan {
@@ -35,9 +38,19 @@ impl Plan {
     }
 
     /// The place of an egress router in the order of preference at `at`: all
-    /// routers sorted by distance, then by number. Place 0 is the best.
-    pub fn place(&self, at: Router, egress: Router) -> usize {
-        self.places[at][egress]
+    /// routers that it has a way to, sorted by distance, then by number. Place 0
+    /// is the best.
+    pub fn place(&self, at: Router, egress: Router) -> Option<usize> {
+        self.places[at].get(&egress).copied()
+    }
+
+    pub fn has_way(&self, at: Router, egress: Router) -> bool {
+        self.place(at, egress).is_some()
+    }
+
+    /// Whether some router has no way to some other.
+    pub fn has_cuts(&self) -> bool {
+        self.places.iter().any(|places| places.len() < self.n)
     }
 }
 
@@ -113,11 +126,12 @@ fn read_sessions(body: &[u8], n: usize) -> Result<Vec<BTreeSet<Router>>, u8> {
     Ok(neighbours)
 }
 
-fn read_distances(body: &[u8], n: usize) -> Result<Vec<Vec<u16>>, u8> {
-    let all: Vec<u16> = body.chunks_exact(2).map(|pair| u16::from(pair[0]) + 256 * u16::from(pair[1])).collect();
-    let rows: Vec<Vec<u16>> = all.chunks_exact(n).map(<[u16]>::to_vec).collect();
-    let diagonal_is_zero = rows.iter().enumerate().all(|(router, row)| row[router] == 0);
-    (diagonal_is_zero && !all.contains(&NO_DISTANCE)).then_some(rows).ok_or(6)
+fn read_distances(body: &[u8], n: usize) -> Result<Vec<Vec<Option<u16>>>, u8> {
+    let numbers = body.chunks_exact(2).map(|pair| u16::from(pair[0]) + 256 * u16::from(pair[1]));
+    let all: Vec<Option<u16>> = numbers.map(|number| (number != NO_WAY).then_some(number)).collect();
+    let rows: Vec<Vec<Option<u16>>> = all.chunks_exact(n).map(<[_]>::to_vec).collect();
+    let diagonal_is_zero = rows.iter().enumerate().all(|(router, row)| row[router] == Some(0));
+    diagonal_is_zero.then_some(rows).ok_or(6)
 }
 
 fn read_lists(body: &[u8], body_start: usize, n: usize) -> Result<Vec<EgressList>, u8> {
@@ -147,12 +161,10 @@ fn read_listed(numbers: &[u8], n: usize) -> Result<Listed, u8> {
     (below && rises(numbers)).then_some(listed).ok_or(7)
 }
 
-/// For each egress router its place among all, by distance and then number.
-fn order_of_preference(row: &[u16]) -> Vec<usize> {
-    let order: BTreeSet<(u16, Router)> = row.iter().copied().zip(0..).collect();
-    let mut places = vec![0; row.len()];
-    for (place, (_, egress)) in order.into_iter().enumerate() {
-        places[egress] = place;
-    }
-    places
+/// For each egress router that there is a way to its place among these, by
+/// distance and then number.
+fn order_of_preference(row: &[Option<u16>]) -> BTreeMap<Router, usize> {
+    let with_way = row.iter().zip(0..).filter_map(|(distance, egress)| Some((distance.as_ref()?, egress)));
+    let order: BTreeSet<(&u16, Router)> = with_way.collect();
+    order.into_iter().map(|(_, egress)| egress).zip(0..).collect()
 }

@@ -16,6 +16,9 @@ pub struct Route {
 /// What the routers hold; a router that holds no route has no entry.
 pub type Table = BTreeMap<Router, Route>;
 
+/// What routes are compared by: the smaller is the better.
+pub type Value = (usize, usize);
+
 /// A plan together with the list asked for.
 #[derive(Clone, Copy)]
 pub struct Case<'a> {
@@ -32,25 +35,33 @@ impl Case<'_> {
         self.plan.neighbours[router].iter().copied().filter(|&other| self.plan.is_reflector(other))
     }
 
-    fn neighbouring_listed_clients(&self, router: Router) -> impl Iterator<Item = Router> + '_ {
+    pub fn neighbouring_listed_clients(&self, router: Router) -> impl Iterator<Item = Router> + '_ {
         let listed = self.plan.neighbours[router].intersection(self.listed).copied();
         listed.filter(|&other| !self.plan.is_reflector(other))
     }
 }
 
+/// A way beats none, and of two without a way neither is better.
+pub fn beats(first: Option<Value>, second: Option<Value>) -> bool {
+    first.is_some_and(|first| second.is_none_or(|second| first < second))
+}
+
 pub trait Rules {
-    /// How a router values an egress router; the smaller key is the better.
-    fn value(&self, plan: &Plan, at: Router, egress: Router) -> (usize, usize) {
-        (plan.place(at, egress), 0)
+    /// How a router values an egress router, none if it has no way to it; the
+    /// smaller key is the better.
+    fn value(&self, plan: &Plan, at: Router, egress: Router) -> Option<Value> {
+        plan.place(at, egress).map(|place| (place, 0))
     }
 
     fn is_better(&self, plan: &Plan, at: Router, first: Router, second: Router) -> bool {
-        self.value(plan, at, first) < self.value(plan, at, second)
+        beats(self.value(plan, at, first), self.value(plan, at, second))
     }
 
-    /// The best client of a reflector, by the distances of the router `at`.
+    /// The best client of a reflector, by the ways and distances of the router `at`.
     fn best_client_valued_at(&self, case: Case, reflector: Router, at: Router) -> Option<Router> {
-        case.neighbouring_listed_clients(reflector).min_by_key(|&client| self.value(case.plan, at, client))
+        let clients = case.neighbouring_listed_clients(reflector);
+        let valued = clients.filter_map(|client| Some((self.value(case.plan, at, client)?, client)));
+        valued.min().map(|(_, client)| client)
     }
 
     fn best_client(&self, case: Case, reflector: Router) -> Option<Router> {
@@ -66,9 +77,10 @@ pub trait Rules {
         }
     }
 
-    /// Whether an offer beats the reflector's own best client.
-    fn outdoes(&self, plan: &Plan, at: Router, offer: Router, own: Router) -> bool {
-        self.is_better(plan, at, offer, own)
+    /// Whether an offer makes a reflector relied on at `at`, whose best client is
+    /// `own`: there is a way to it, and it is better than that client, if any.
+    fn counts(&self, plan: &Plan, at: Router, offer: Router, own: Option<Router>) -> bool {
+        self.value(plan, at, offer).is_some() && own.is_none_or(|own| self.is_better(plan, at, offer, own))
     }
 
     fn relied_on(&self, case: Case, router: Router) -> BTreeSet<Router> {
@@ -87,7 +99,7 @@ pub trait Rules {
 
     fn relied_on_by_reflector(&self, case: Case, router: Router) -> BTreeSet<Router> {
         let own = self.best_client(case, router);
-        let counts = |offer: Router| own.is_none_or(|own| self.outdoes(case.plan, router, offer, own));
+        let counts = |offer: Router| self.counts(case.plan, router, offer, own);
         let offering =
             case.neighbouring_reflectors(router).filter(|&other| self.offer(case, other, router).is_some_and(counts));
         offering.chain(own).collect()
@@ -109,9 +121,11 @@ pub trait Rules {
     }
 
     /// How a router values a route it receives: the egress router first, then
-    /// the egress router as sender, then the sender with the lowest number.
-    fn value_received(&self, plan: &Plan, at: Router, route: Route) -> ((usize, usize), bool, Router) {
-        (self.value(plan, at, route.egress), route.sender != route.egress, route.sender)
+    /// the egress router as sender, then the sender with the lowest number. None
+    /// if the route is not heard: there is no way to its egress router.
+    fn value_received(&self, plan: &Plan, at: Router, route: Route) -> Option<(Value, bool, Router)> {
+        let value = self.value(plan, at, route.egress)?;
+        Some((value, route.sender != route.egress, route.sender))
     }
 
     /// What a router holds after its activation.
@@ -119,15 +133,16 @@ pub trait Rules {
         if case.is_listed(router) {
             return Some(Route { egress: router, sender: router });
         }
-        let received = case.plan.neighbours[router].iter().filter_map(|&sender| {
+        let heard = case.plan.neighbours[router].iter().filter_map(|&sender| {
             let egress = self.advertised(case, table, sender, router)?;
-            Some(Route { egress, sender })
+            let route = Route { egress, sender };
+            Some((self.value_received(case.plan, router, route)?, route))
         });
-        received.min_by_key(|&route| self.value_received(case.plan, router, route))
+        heard.min_by_key(|&(value, _)| value).map(|(_, route)| route)
     }
 }
 
-/// The rules as document 01 gives them.
+/// The rules as documents 01 and 02 give them.
 #[derive(Clone, Copy)]
 pub struct Right;
 

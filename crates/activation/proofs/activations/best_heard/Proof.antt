@@ -5,9 +5,9 @@ use borrow.Author.Needs.{needs}
 use Rattle.routing.specs.Instance.{Route}
 use Rattle.network.specs.Decoded.{decoded}
 use Rattle.activation.specs.TableBytes.{routeAt, routeOf}
-use Rattle.activation.specs.OnePass.{keepHeard, keptHeard}
+use Rattle.activation.specs.OnePass.{HasWay, keepHeard, keptHeard}
 use Rattle.activation.proofs.TableBytes.{read-nothing}
-use Rattle.activation.proofs.OnePass.{heard-below}
+use Rattle.activation.proofs.OnePass.{heard-below, heard-ways}
 use Rattle.activation.proofs.MayAdvertise.{Hearing, hearing-start, hearing-below, hearing-near, hearing-kept, hearing-more, hearing-done}
 use Rattle.activation.proofs.activations.best_heard.Statement.{statement}
 use Rattle.activation.proofs.activations.best_heard.Tie as tie
@@ -41,6 +41,13 @@ kept-there c =
     hearing-kept (d .args .net) (d .args .rows .now) (d .args .distances .now) (d .pre .0) (d .args .w) (view d) _ _ (c .before .before .loop .inv) _
     (c .lowest-bit .ensures .0)
 
+kept-way : (c : Visit) → let a = start c .args in
+    HasWay (decoded (a .net) (a .rows .now) (a .distances .now)) (a .w) (routeOf (c .before .before .loop .kept))
+kept-way c =
+    let d = start c in
+    let a = d .args in
+    rw (kept-there c) (heard-ways (decoded (a .net) (a .rows .now) (a .distances .now)) (a .w) (view d) (d .pre .2 .below) _ (omega (arith, below c)))
+
 route-at-requires : tie.Need-route-at-requires Inv-loop μ-loop
 route-at-requires c κs = omega (arith, below c, start c .pre .2 .long)
 
@@ -68,7 +75,7 @@ loop-again c =
     let inv = v .before .before .loop .inv in
     hearing-more (a .net) (a .rows .now) (a .distances .now) (d .pre .0) (a .w) (view d) _ _ inv _ low _ _
     (c .without-lowest .ensures .1 _ low)
-    (h .hear .ensures (a .rows .now) (hearing-near (a .net) (a .rows .now) (a .distances .now) (d .pre .0) (a .w) (view d) _ _ inv _ low)
+    (h .hear .ensures (a .rows .now) (hearing-near (a .net) (a .rows .now) (a .distances .now) (d .pre .0) (a .w) (view d) _ _ inv _ low) (kept-way v)
     ∙ ap (λ x. keepHeard (decoded (a .net) (a .rows .now) (a .distances .now)) (a .w) (v .lowest-bit .result) x (routeOf (v .before .before .loop .kept))) (h .before .route-at .ensures))
 
 returns : tie.Need-returns Inv-loop μ-loop

@@ -6,8 +6,8 @@ use Rattle.routing.specs.Instance.{Instance}
 use Rattle.routing.specs.Preference.{prefers}
 use Rattle.network.specs.Decoded.{decoded}
 use Rattle.activation.specs.TableBytes.{routeOf}
-use Rattle.activation.specs.OnePass.{keepRoute}
-use Rattle.activation.proofs.OnePass.{advertises-below, told-neighbour}
+use Rattle.activation.specs.OnePass.{heard, keepRoute}
+use Rattle.activation.proofs.OnePass.{advertises-below, from-neighbour}
 use Rattle.activation.proofs.activations.hear.Statement.{statement}
 use Rattle.activation.proofs.activations.hear.Tie as tie
 
@@ -25,12 +25,12 @@ keep-requires c κs =
     )
 
 returns : tie.Need-returns
-returns c = λ rows near.
+returns c = λ rows near way.
     let a = c .before .before .before .args in
     let I : Instance = decoded (a .net) rows (a .distances .now) in
-    c .keep .ensures I refl
+    c .keep .ensures I (record { dist = refl; way = refl }) way
     ∙ ap (λ t. keepRoute (prefers I (a .w)) (a .v) t (routeOf (a .kept)))
-    (c .before .advertised .ensures rows (a .distances .now) ∙ sym (told-neighbour I _ _ _ (eq-eqb _ 1 near)))
+    (ap (heard I (a .w)) (c .before .advertised .ensures rows (a .distances .now)) ∙ sym (from-neighbour I _ _ _ (eq-eqb _ 1 near)))
 
 pub hear-spec : {M : Type 1} → statement M
 hear-spec = tie.close (tie.spec (λ c κs. search needs) keep-requires returns)

@@ -2,24 +2,19 @@
 use native.Mathlib.Omega.{arith}
 use mathlib.Core.Path.{_≡_, _∙_, sym, ap}
 use borrow.Author.Needs.{needs}
-use Rattle.bodies.specs.Distances.{distanceIn}
 use Rattle.routing.specs.Instance.{Instance}
 use Rattle.routing.proofs.Preference.{prefers-nearer, prefers-farther, prefers-tie}
+use Rattle.network.specs.Measured.{Measured}
 use Rattle.network.proofs.comparison.prefers.Statement.{statement}
 use Rattle.network.proofs.comparison.prefers.Tie as tie
 
 -- the distances read are the instance's
-abbrev Measured : tie.After-distance2 → Instance → Type 0
-Measured c I =
-    let a = c .before .before .before .args in
-    I .dist ≡ distanceIn (a .distances .now) (a .n)
-
-module _ (c : tie.After-distance2) (I : Instance) (q : Measured c I) where
+module _ (c : tie.After-distance2) (I : Instance) (q : Measured I (c .before .before .before .args .distances .now) (c .before .before .before .args .n)) where
   first-is : let a = c .before .before .before .args in I .dist (a .w) (a .e) ≡ c .before .distance .result
-  first-is = let a = c .before .before .before .args in ap (λ d. d (a .w) (a .e)) q ∙ sym (c .before .distance .ensures .0)
+  first-is = let a = c .before .before .before .args in ap (λ d. d (a .w) (a .e)) (q .dist) ∙ sym (c .before .distance .ensures .0)
 
   second-is : let a = c .before .before .before .args in I .dist (a .w) (a .f) ≡ c .distance2 .result
-  second-is = let a = c .before .before .before .args in ap (λ d. d (a .w) (a .f)) q ∙ sym (c .distance2 .ensures .0)
+  second-is = let a = c .before .before .before .args in ap (λ d. d (a .w) (a .f)) (q .dist) ∙ sym (c .distance2 .ensures .0)
 
 returns : tie.Need-returns
 returns c I q = sym (prefers-farther I _ _ _ (omega (arith, first-is (c .before) I q, second-is (c .before) I q)))

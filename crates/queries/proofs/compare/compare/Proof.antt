@@ -1,16 +1,17 @@
+use Prim.Native.Nat.{_*_, _≤_}
 use native.Mathlib.Omega.{arith}
 use mathlib.Core.Path.{_≡_, _∙_, sym, ap}
 use borrow.Author.Needs.{needs}
 use lib.Dec.{lit<}
 use lib.ListN.{length}
 use Rattle.contents.specs.Header.{routerCount}
-use Rattle.bodies.specs.Distances.{distanceIn}
+use Rattle.bodies.specs.Distances.{distanceIn, wayIn}
 use Rattle.network.proofs.FromPlan.{distances-length}
 use Rattle.network.specs.FromPlan.{instanceOf}
-use Rattle.routing.specs.Preference.{prefers}
+use Rattle.network.specs.Measured.{Measured}
 use Rattle.refusals.specs.Refusals.{compareRefusal}
 use Rattle.refusals.proofs.Granted.{header-long, few-routers, CompareAsked, compare-asked}
-use Rattle.queries.proofs.Preferring.{compares-refused, compares-same, compares-first, compares-second}
+use Rattle.queries.proofs.Preferring.{compares-refused, compares-first, compares-second, compares-neither}
 use Rattle.queries.proofs.compare.compare.Statement.{statement}
 use Rattle.queries.proofs.compare.compare.Tie as tie
 
@@ -21,17 +22,28 @@ given c = sym (c .before .compare-refusal .ensures) ∙ c .if1 .left
 asked : (c : tie.Else1) → let a = c .before .before .before .args in CompareAsked (a .plan .now) (a .router) (a .first) (a .second)
 asked c = compare-asked _ _ _ _ (given c)
 
-prefers-requires : tie.Need-prefers-requires
-prefers-requires c κs =
-    let q = asked (c .before .before .before) in
-    (q .router, omega arith, omega arith, few-routers _ (q .planOk), omega (arith, distances-length _ (q .planOk), ap length (c .part .ensures)))
+-- the distances read are those of the plan's network
+measured : (c : tie.After-part) → let plan = c .before .before .before .before .before .args .plan .now in
+    Measured (instanceOf plan 0) (c .part .result .now) (routerCount plan)
+measured c =
+    let n = routerCount (c .before .before .before .before .before .args .plan .now) in
+    record { dist = ap (λ s. distanceIn s n) (sym (c .part .ensures)); way = ap (λ s. wayIn s n) (sym (c .part .ensures)) }
 
--- the preference found is that of the plan's network
-judged : (c : tie.After-prefers) → let a = c .before .before .before .before .before .before .before .args in
-    c .prefers .result ≡ prefers (instanceOf (a .plan .now) 0) (a .router) (a .first) (a .second)
-judged c =
-    let plan = c .before .before .before .before .before .before .before .args .plan .now in
-    c .prefers .ensures (instanceOf plan 0) (ap (λ s. distanceIn s (routerCount plan)) (sym (c .before .part .ensures)))
+-- .. and there is one for every pair
+long : (c : tie.After-part) → let n = routerCount (c .before .before .before .before .before .args .plan .now) in
+    2 * (n * n) ≤ length (c .part .result .now)
+long c = omega (arith, distances-length _ (asked (c .before .before) .planOk), ap length (c .part .ensures))
+
+better-requires : tie.Need-better-requires
+better-requires c κs =
+    let q = asked (c .before .before) in
+    (q .router, omega arith, omega arith, few-routers _ (q .planOk), long c)
+
+better-requires-2 : tie.Need-better-requires-2
+better-requires-2 c κs =
+    let d = c .before .before in
+    let q = asked (d .before .before) in
+    (q .router, omega arith, omega arith, few-routers _ (q .planOk), long d)
 
 pub compare-spec : {M : Type 1} → statement M
 compare-spec =
@@ -39,14 +51,21 @@ compare-spec =
     (tie.spec
     (λ c κs. search needs)
     (λ c. compares-refused _ _ _ _ _ (c .before .compare-refusal .ensures) (c .if1 .taken))
-    (λ c. compares-same _ _ _ _ (given (c .before)) (c .if2 .taken))
-    (λ c. omega (arith, header-long _ (asked (c .before .before) .planOk)))
-    (λ c. omega (arith, few-routers _ (asked (c .before .before) .planOk)))
-    (λ c κs. (asked (c .before .before) .planOk, lit< tt))
-    prefers-requires
+    (λ c. omega (arith, header-long _ (asked (c .before) .planOk)))
+    (λ c. omega (arith, few-routers _ (asked (c .before) .planOk)))
+    (λ c κs. (asked (c .before) .planOk, lit< tt))
+    better-requires
     (λ c.
-    let d = c .before .before .before .before in
-    compares-first _ _ _ _ (given (d .before)) (d .if2 .left) (sym (judged (c .before)) ∙ c .if3 .taken))
+    let d = c .before .before in
+    compares-first _ _ _ _ (given (d .before .before)) (sym (c .before .better .ensures _ (measured d)) ∙ c .if2 .taken))
+    better-requires-2
     (λ c.
-    let d = c .before .before .before .before in
-    compares-second _ _ _ _ (given (d .before)) (d .if2 .left) (sym (judged (c .before)) ∙ c .if3 .left)))
+    let e = c .before .before in
+    let d = e .before .before in
+    compares-second _ _ _ _ (given (d .before .before)) (sym (e .before .better .ensures _ (measured d)) ∙ e .if2 .left)
+    (sym (c .before .better2 .ensures _ (measured d)) ∙ c .if3 .taken))
+    (λ c.
+    let e = c .before .before in
+    let d = e .before .before in
+    compares-neither _ _ _ _ (given (d .before .before)) (sym (e .before .better .ensures _ (measured d)) ∙ e .if2 .left)
+    (sym (c .before .better2 .ensures _ (measured d)) ∙ c .if3 .left)))

@@ -1,11 +1,10 @@
-use mathlib.Core.Path.{refl, _∙_, sym}
+use mathlib.Core.Path.{refl}
 use borrow.Author.Needs.{needs}
-use borrow.Author.Tests.{eqb-true, eq-eqb}
+use borrow.Author.Tests.{eqb-true}
 use Rattle.routing.specs.Instance.{Instance}
 use Rattle.network.specs.Decoded.{decoded}
 use Rattle.routing.specs.RouterBytes.{asRouter}
 use Rattle.routing.proofs.RouterBytes.{router-none}
-use Rattle.routing.proofs.Reliance.{client-neighbour}
 use Rattle.reliance.proofs.Clients.{Seeking, seeking-start, seeking-below, seeking-router, seeking-more, seeking-done}
 use Rattle.reliance.proofs.reliances.best_client.Statement.{statement}
 use Rattle.reliance.proofs.reliances.best_client.Tie as tie
@@ -22,9 +21,9 @@ instance c = decoded (c .args .net) (c .args .rows .now) (c .args .distances .no
 loop-holds : tie.Need-loop-holds Inv-loop μ-loop
 loop-holds c =
     let d = c .before .before in
-    let marks = c .listed-clients .ensures (d .args .distances .now) in
-    seeking-start (instance d) (d .args .v) _ _ (router-none 255 refl) marks
-    (λ e set. d .pre .0 .neighbours (d .args .v) e (eqb-true _ 1 (client-neighbour (instance d) (d .args .v) e (sym (marks e) ∙ eq-eqb _ 1 set))))
+    let clients = c .listed-clients .ensures (d .args .distances .now) in
+    seeking-start (instance d) (d .args .v) _ _ (router-none 255 refl) (clients .marks)
+    (λ e set. d .pre .0 .neighbours (d .args .v) e (eqb-true _ 1 (clients .near e set)))
 
 keep-client-requires : tie.Need-keep-client-requires Inv-loop μ-loop
 keep-client-requires c κs =
@@ -39,7 +38,7 @@ loop-again c =
     let v = k .before in
     let d = v .before .before .before .before .before in
     let low = v .lowest-bit .ensures .0 in
-    seeking-more _ _ _ _ _ (v .before .before .loop .inv) _ low _ _ (c .without-lowest .ensures .1 _ low) (k .keep-client .ensures (instance d) refl)
+    seeking-more _ _ _ _ _ (v .before .before .loop .inv) _ low _ _ (c .without-lowest .ensures .1 _ low) (k .keep-client .ensures (instance d) (record { dist = refl; way = refl }))
 
 pub best-client-spec : {M : Type 1} → statement M
 best-client-spec =

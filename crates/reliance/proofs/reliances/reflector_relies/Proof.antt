@@ -56,7 +56,7 @@ returns-3 c =
     let g = c .before .before in
     let e = g .before .before .before in
     let d = e .before .before .before in
-    c .better-offer .ensures (instance d) refl
+    c .better-offer .ensures (instance d) (record { dist = refl; way = refl })
     ∙ ap₂ (betterOffer (instance d) (d .args .w)) (offer-is (c .before)) (d .pre .3 .client)
     ∙ sym (offer-neighbour (instance d) _ _ (d .pre .3 .unlisted) (d .pre .3 .reflector) (yes _ (e .before .has-bit .ensures) (e .if1 .left)) (yes _ (g .before .has-bit2 .ensures) (g .if2 .left)))
 

@@ -1,7 +1,7 @@
 //! Distances from a sheet of links: Floyd and Warshall's three loops.
 
 use super::reader::word;
-use super::MOST;
+use super::{MOST, NO_WAY};
 
 /// Above every sum of weights over a walk that passes no router twice; two of
 /// them can be added.
@@ -17,7 +17,7 @@ pub fn distances(n: usize, links: &[u8], out: &mut [u8]) -> Result<(), u8> {
     let sums = least_sums(links, n);
     for u in 0..n {
         for e in 0..n {
-            if sums[u][e] > 65_534 {
+            if sums[u][e] > 65_534 && sums[u][e] != NO_WALK {
                 return Err(12);
             }
         }
@@ -28,8 +28,9 @@ pub fn distances(n: usize, links: &[u8], out: &mut [u8]) -> Result<(), u8> {
     for u in 0..n {
         for e in 0..n {
             let at = 2 * (u * n + e);
-            out[at] = sums[u][e] as u8;
-            out[at + 1] = (sums[u][e] >> 8) as u8;
+            let distance = if sums[u][e] == NO_WALK { NO_WAY as u32 } else { sums[u][e] };
+            out[at] = distance as u8;
+            out[at + 1] = (distance >> 8) as u8;
         }
     }
     Ok(())

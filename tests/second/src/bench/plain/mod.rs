@@ -19,6 +19,9 @@ use verdict::verdict;
 const MOST: usize = 64;
 const NONE: u8 = 255;
 
+/// The distance to a router that there is no way to.
+const NO_WAY: usize = 65_535;
+
 type Matrix = [[bool; MOST]; MOST];
 
 fn run(bytes: &[u8], list: usize, acts: Acts, table: &mut [u8]) -> Result<RunFields, u8> {
@@ -69,12 +72,12 @@ impl Checker for Plain {
         let compare = || {
             let plan = check(plan)?;
             let (at, e, f) = (plan.router(router)?, plan.router(pair.0)?, plan.router(pair.1)?);
-            Ok(if e == f {
-                0
-            } else if plan.better(at, e, f) {
+            Ok(if plan.better(at, e, f) {
                 1
-            } else {
+            } else if plan.better(at, f, e) {
                 2
+            } else {
+                0
             })
         };
         store(compare(), better)

@@ -108,11 +108,8 @@ fn read_sessions(body: &[u8], n: usize, mut meet: impl FnMut(usize, usize)) -> R
 
 fn check_distances(body: &[u8], n: usize) -> Result<(), u8> {
     for u in 0..n {
-        for e in 0..n {
-            let distance = word(body, 2 * (u * n + e));
-            if distance == 65_535 || (u == e && distance != 0) {
-                return Err(6);
-            }
+        if word(body, 2 * (u * n + u)) != 0 {
+            return Err(6);
         }
     }
     Ok(())

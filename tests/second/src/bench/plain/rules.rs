@@ -1,16 +1,20 @@
 //! Choosing, advertising and reliance in array code.
 
 use super::reader::{word, Bodies, PlanView};
-use super::{MOST, NONE};
+use super::{MOST, NONE, NO_WAY};
 
 impl Bodies<'_> {
     fn distance(&self, u: usize, e: usize) -> usize {
         word(self.distances, 2 * (u * self.n + e))
     }
 
+    pub fn has_way(&self, u: usize, e: usize) -> bool {
+        self.distance(u, e) != NO_WAY
+    }
+
     pub fn better(&self, at: usize, e: usize, f: usize) -> bool {
         let (to_e, to_f) = (self.distance(at, e), self.distance(at, f));
-        to_e < to_f || (to_e == to_f && e < f)
+        to_e < to_f || (to_e == to_f && e < f && to_e != NO_WAY)
     }
 
     /// Start in the plan and count of a list.
@@ -51,6 +55,7 @@ impl PlanView<'_> {
             if self.neighbour[r][c]
                 && !self.reflector[c]
                 && listed[c]
+                && self.bodies.has_way(r, c)
                 && best.is_none_or(|b| self.bodies.better(r, c, b))
             {
                 best = Some(c);
@@ -84,7 +89,7 @@ impl PlanView<'_> {
         let offer = if listed[v] { Some(v) } else { other };
         match (offer, own) {
             (Some(offer), Some(own)) => self.bodies.better(u, offer, own),
-            (offer, None) => offer.is_some(),
+            (Some(offer), None) => self.bodies.has_way(u, offer),
             (None, _) => false,
         }
     }
@@ -119,6 +124,9 @@ impl PlanView<'_> {
                 continue;
             }
             let Some(egress) = self.advertised(listed, table, v, w) else { continue };
+            if !self.bodies.has_way(w, egress) {
+                continue;
+            }
             let takes = match best {
                 None => true,
                 Some((held, _)) if held == egress => v == egress,

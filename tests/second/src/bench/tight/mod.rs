@@ -12,7 +12,7 @@ use crate::interface::{
 };
 use links::distances;
 use reader::{check, read, Bodies};
-use rules::{key, Network};
+use rules::{key, Network, NO_WAY_KEY};
 use std::iter;
 use verdict::verdict;
 
@@ -47,7 +47,8 @@ fn compare(plan: &[u8], router: usize, pair: (usize, usize)) -> Result<u8, u8> {
     let plan = check(plan)?;
     let distances = plan.distances_from(plan.router(router)?);
     let [first, second] = [plan.router(pair.0)?, plan.router(pair.1)?].map(|egress| key(distances, egress));
-    Ok(u8::from(first < second) + 2 * u8::from(second < first))
+    let best = first.min(second);
+    Ok(if first == second || best >= NO_WAY_KEY { 0 } else { 1 + u8::from(best == second) })
 }
 
 fn relies(plan: &[u8], list: usize, pair: (usize, usize)) -> Result<u8, u8> {

@@ -92,10 +92,8 @@ fn read_sessions(pairs: &[Pair], n: usize, mut session: impl FnMut(usize, usize)
 }
 
 fn check_distances(distances: &[Pair], n: usize) -> Result<(), u8> {
-    for (u, row) in distances.chunks_exact(n).enumerate() {
-        if row[u] != [0, 0] || row.contains(&[255, 255]) {
-            return Err(6);
-        }
+    if distances.iter().step_by(n + 1).any(|&distance| distance != [0, 0]) {
+        return Err(6);
     }
     Ok(())
 }

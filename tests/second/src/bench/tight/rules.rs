@@ -11,6 +11,9 @@ pub struct Network<'a> {
     pub listed: u64,
 }
 
+/// A route without a way has this key or a greater one.
+pub const NO_WAY_KEY: u32 = 65_535 << 8;
+
 /// A route's key by distance and egress; the better route has the smaller.
 pub fn key(distances: &[Pair], egress: usize) -> u32 {
     u32::from(u16::from_le_bytes(distances[egress])) << 8 | egress as u32
@@ -25,7 +28,7 @@ impl Network<'_> {
         let distances = self.bodies.distances_from(reflector);
         let clients = self.rows[reflector] & self.listed & !self.bodies.reflectors;
         let best = bits(clients).map(|client| key(distances, client)).min();
-        best.map(|key| (key & 0xFF) as usize)
+        best.filter(|&key| key < NO_WAY_KEY).map(|key| (key & 0xFF) as usize)
     }
 
     /// The routers of a set that a router relies on, and its best client.
@@ -39,7 +42,7 @@ impl Network<'_> {
         }
         let distances = self.bodies.distances_from(router);
         let own = offer(router);
-        let least = own.map_or(u32::MAX, |client| key(distances, client));
+        let least = own.map_or(NO_WAY_KEY, |client| key(distances, client));
         let mut relied_on = own.map_or(0, |client| 1 << client);
         for reflector in bits(neighbours & self.bodies.reflectors) {
             let better = offer(reflector).is_some_and(|egress| key(distances, egress) < least);
@@ -88,10 +91,10 @@ impl Network<'_> {
     }
 }
 
-/// The entry of the route with this key.
+/// The entry of the route with this key, of none if it has no way.
 fn entry(key: u32) -> Pair {
     match key.to_le_bytes() {
-        [255, ..] => NONE,
+        [_, _, 255, 255] => NONE,
         [0, egress, ..] => [egress, egress],
         [preference, egress, ..] => [egress, preference - 1],
     }

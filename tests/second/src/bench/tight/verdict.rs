@@ -6,8 +6,8 @@ use crate::interface::{Flag, VerdictBuffers, VerdictFields};
 
 type Rows = [u64; MOST];
 
-/// Reaching by one or more reliances (Warshall).
-fn closure(n: usize, relies: &Rows) -> Rows {
+/// Reaching by one or more reliances, or links (Warshall).
+pub fn closure(n: usize, relies: &Rows) -> Rows {
     let mut reach = *relies;
     for via in 0..n {
         let through = reach[via];

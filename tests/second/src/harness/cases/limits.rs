@@ -1,10 +1,11 @@
 //! The limits of a plan: routers, distances, bytes.
 
 use super::line::line;
-use super::small;
+use super::{small, LISTS};
 use crate::harness::generate;
 use crate::harness::random::Random;
-use crate::harness::small_plans::lone_reflectors;
+use crate::harness::small_plans::{self, lone_reflectors};
+use crate::oracle::plan::NO_WAY;
 
 fn check(name: &str, plan: &[u8]) -> String {
     line(name, plan, |line| line.check())
@@ -16,6 +17,13 @@ fn distance(name: &str, distance: u16) -> String {
     check(name, &plan) + &line("compared-to-10", &plan, |line| line.compare(0, 2, 3))
 }
 
+/// The small plan with p = q = 14 and no way from a router to itself.
+fn diagonal(name: &str, router: usize) -> String {
+    let mut draft = small_plans::draft(14, 14, &LISTS);
+    draft.distances[router][router] = NO_WAY;
+    check(name, &draft.bytes())
+}
+
 pub fn lines() -> Vec<String> {
     let largest = generate::largest(&mut Random::new(0)).bytes();
     let longer = [&largest[..], &[0]].concat();
@@ -25,6 +33,8 @@ pub fn lines() -> Vec<String> {
         check("n=65", &lone_reflectors(65).bytes()),
         distance("distance-65534", 65_534),
         distance("distance-65535", 65_535),
+        diagonal("diagonal-65535", 0),
+        diagonal("last-diagonal-65535", 3),
         line("largest-bytes", &largest, |line| line.word(largest.len())),
         check("largest", &largest),
         line("largest-list-63", &largest, |line| line.list(63)),

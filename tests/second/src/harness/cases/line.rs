@@ -58,7 +58,7 @@ impl Line<'_> {
     }
 
     pub fn compare(&mut self, router: usize, first: usize, second: usize) {
-        self.choice(&Call::Compare { router, first, second }, &["same", "first", "second"]);
+        self.choice(&Call::Compare { router, first, second }, &["neither", "first", "second"]);
     }
 
     pub fn relies(&mut self, list: usize, router: usize, other: usize) {

@@ -2,6 +2,7 @@
 //! written here anew, and the oracle's answers.
 
 mod asked;
+mod cuts;
 mod damaged;
 mod limits;
 mod line;
@@ -23,5 +24,6 @@ fn small(p: u16, q: u16) -> Vec<u8> {
 
 /// All lines of the program.
 pub fn lines() -> String {
-    [limits::lines(), damaged::lines(), asked::lines(), misread::lines(), runs::lines()].concat().concat()
+    let parts = [limits::lines(), damaged::lines(), asked::lines(), misread::lines(), runs::lines(), cuts::lines()];
+    parts.concat().concat()
 }

@@ -1,0 +1,10 @@
+-- An instance with the distances and ways of a body of kind 3, whatever its roles, sessions and list.
+use Prim.Native.Nat.{ℕ}
+use mathlib.Core.List.{List}
+use mathlib.Core.Path.{_≡_}
+use Rattle.bodies.specs.Distances.{distanceIn, wayIn}
+use Rattle.routing.specs.Instance.{Instance}
+
+pub record Measured (I : Instance) (distances : List ℕ) (n : ℕ) : Type 0 where
+  pub dist : I .dist ≡ distanceIn distances n
+  pub way : I .way ≡ wayIn distances n
