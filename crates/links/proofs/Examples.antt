@@ -24,7 +24,6 @@ links-examples =
       loop = (refl, refl);
       loopBesides = (refl, refl);
       noRouter = (refl, refl);
-      sixtyFour = (refl, refl);
       sixtyFive = (refl, refl);
       fromAtN = (refl, refl);
       toAtN = (refl, refl);

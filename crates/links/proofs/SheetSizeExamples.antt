@@ -3,13 +3,13 @@ use Prim.Native.Nat.{ℕ, _+_, _*_, _/_, _%_, _≤_, _<_}
 use native.Mathlib.Omega.{arith}
 use mathlib.Core.Path.{_≡_, refl, _∙_, ap}
 use mathlib.Core.Bool.{Bool, true, false}
-use mathlib.Core.List.{List, [], _∷_}
-use mathlib.Core.Logic.{_⊎_, inl, inr, ⊎-elim}
+use mathlib.Core.List.{[], _∷_}
+use mathlib.Core.Logic.{inl, inr, ⊎-elim}
 use lib.ListN.{length, getD}
 use Rattle.base.proofs.Joined.{length-joined, getD-joined}
 use Rattle.base.proofs.Numbers.{lt-or-le}
 use Rattle.bodies.specs.Rising.{PairBefore}
-use Rattle.links.specs.Sheet.{linkCount, linkFrom, linkTo, linkWeight, sheetOk}
+use Rattle.links.specs.Sheet.{linkFrom, linkTo, linkWeight, sheetOk}
 use Rattle.links.specs.Passed.{Sheet}
 use Rattle.links.specs.SheetSizeExamples.{firstLinks, SheetSizeExamples}
 use Rattle.links.proofs.Facts.{sheet-facts, sheet-holds}

@@ -45,7 +45,6 @@ pub record LinksExamples : Type 0 where
   pub loopBesides : Gives 2 (0 ∷ 0 ∷ 5 ∷ 0 ∷ 0 ∷ 1 ∷ 7 ∷ 0 ∷ 1 ∷ 0 ∷ 9 ∷ 0 ∷ []) eight 0 (0 ∷ 0 ∷ 7 ∷ 0 ∷ 9 ∷ 0 ∷ 0 ∷ 0 ∷ [])
   -- "An n outside 1 to 64 gives refusal 2."
   pub noRouter : Gives 0 [] eight 2 eight  -- from 0: 0
-  pub sixtyFour : Gives 64 (0 ∷ 1 ∷ 7 ∷ []) eight 11 eight  -- below 64: 2
   pub sixtyFive : Gives 65 (0 ∷ 1 ∷ 7 ∷ []) eight 2 eight  -- to 65, or 2 after 11: 11
   -- "each from, to (a byte each, below n) and weight (two bytes, 1 to 65,535), rising strictly by from and then to"
   pub fromAtN : Gives 1 (1 ∷ 0 ∷ 7 ∷ 0 ∷ []) eight 11 eight  -- at most n: 0

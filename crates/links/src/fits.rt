@@ -97,8 +97,8 @@ fn links_within(links: &[u8], near: &[u64; 64]) -> bool
     true
 }
 
-// Whether every least sum is at most 65,534. Where a pair has a walk and a word of 65,535, some link of the walk leads from a router
-// that has a word of at most 65,534 to one that has 65,535.
+// Whether every least sum is at most 65,534. A walk between two routers with a word of 65,535 goes along some link that starts at a
+// word of at most 65,534, counted from where the walk starts, and ends at one of 65,535.
 pub fn sums_fit(links: &[u8], n: usize, words: &[u16]) -> bool
     requires { ⌜ (n ≤ 64) × (sheetOk (now links) n ≡ true) × Holds (cell (leastSums (now links) n)) n (now words) ⌝ }
     ensures { λ r. ⌜ r ≡ sumsOk (cell (leastSums (now (links .entry)) n)) n ⌝ }
