@@ -1,11 +1,10 @@
 -- The neighbours of w that may advertise a route to it: listed routers and reflectors.
 use Prim.Native.Nat.{ℕ, suc, _<_, min, max}
 use native.Mathlib.Omega.{arith}
-use mathlib.Core.Path.{_≡_, refl, _∙_, sym, ap}
+use mathlib.Core.Path.{_≡_, refl, _∙_, sym, ap, ap₂}
 use mathlib.Core.Bool.{Bool, true, false}
 use mathlib.Core.List.{List}
-use mathlib.Core.Option.{none}
-use borrow.Author.Tests.{eqb-true}
+use borrow.Author.Tests.{eqb-true, eq-eqb}
 use lib.Bits.{bitAnd, bitOr}
 use lib.Dec.{eqb}
 use lib.ListN.{getD}
@@ -13,14 +12,14 @@ use Rattle.base.specs.Bits.{bitN, bits}
 use Rattle.base.specs.BitWalk.{fromBit, LowestBit, BitWalk}
 use Rattle.base.proofs.BitWalk.{walk-start, walk-set, walk-within, walk-visit, walk-more, walk-done}
 use Rattle.base.proofs.BitLaws.{bit-and, bit-or}
-use Rattle.routing.specs.Instance.{Route, nothing}
-use Rattle.routing.specs.Preference.{prefers}
+use Rattle.routing.specs.Instance.{Route}
+use Rattle.routing.specs.Activation.{advertises}
 use Rattle.routing.proofs.Routes.{advertises-client}
 use Rattle.network.specs.declared.Network.{Network}
 use Rattle.network.specs.Decoded.{decoded}
 use Rattle.network.specs.WellFormed.{WellFormed}
-use Rattle.activation.specs.OnePass.{heard, heardFrom, keepRoute, keepHeard, keptHeard}
-use Rattle.activation.proofs.OnePass.{heard-nothing, from-neighbour, from-stranger, heard-none, heard-more, keep-untold}
+use Rattle.activation.specs.OnePass.{noKey, toldKey, advertisedKey, leastKey}
+use Rattle.activation.proofs.OnePass.{told-nothing, from-neighbour, from-stranger, least-none, least-more, least-none-le}
 
 abbrev pub advertisers : Network → List ℕ → ℕ → ℕ
 advertisers net rows w = bitAnd (getD rows w 0) (bitOr (net .listed) (net .reflectors))
@@ -34,42 +33,44 @@ module _ (net : Network) (rows : List ℕ) (w v : ℕ) where
   advertiser-near : bitN (advertisers net rows w) v ≡ 1 → bits rows w v ≡ 1
   advertiser-near h = omega (arith, advertisers-bit)
 
-  silent : bitN (advertisers net rows w) v ≡ 0 → (distances : List ℕ) (held : Route) → heardFrom (decoded net rows distances) w v held ≡ none
+  advertiser-kind : bitN (advertisers net rows w) v ≡ 1 → max (bitN (net .listed) v) (bitN (net .reflectors) v) ≡ 1
+  advertiser-kind h = omega (arith, advertisers-bit)
+
+  silent : bitN (advertisers net rows w) v ≡ 0 → (distances : List ℕ) (held : Route) → advertisedKey (decoded net rows distances) w v held ≡ noKey
   silent h distances held = go (eqb (bits rows w v) 1) refl
     where
-      go : (b : Bool) → eqb (bits rows w v) 1 ≡ b → heardFrom (decoded net rows distances) w v held ≡ none
+      go : (b : Bool) → eqb (bits rows w v) 1 ≡ b → advertisedKey (decoded net rows distances) w v held ≡ noKey
       go true e =
           let near : bits rows w v ≡ 1 = eqb-true _ 1 e in
           let unlisted : bitN (net .listed) v ≡ 0 = omega (arith, advertisers-bit) in
           let client : bitN (net .reflectors) v ≡ 0 = omega (arith, advertisers-bit) in
           from-neighbour (decoded net rows distances) w v held e
-          ∙ ap (heard (decoded net rows distances) w)
+          ∙ ap (toldKey (decoded net rows distances) w v)
           (advertises-client (decoded net rows distances) v held w (ap (λ b. eqb b 1) unlisted) (ap (λ b. eqb b 1) client))
-          ∙ heard-nothing (decoded net rows distances) w
+          ∙ told-nothing (decoded net rows distances) w v
       go false e = from-stranger (decoded net rows distances) w v held e
 
-  -- what is kept does not change at any other router
-  heard-silent : (distances : List ℕ) (view : ℕ → Route) → bitN (advertisers net rows w) v ≡ 0
-      → keptHeard (decoded net rows distances) w view (suc v) ≡ keptHeard (decoded net rows distances) w view v
-  heard-silent distances view h =
-      heard-more (decoded net rows distances) w view v
-      ∙ ap (λ t. keepRoute (prefers (decoded net rows distances) w) v t (keptHeard (decoded net rows distances) w view v)) (silent h distances (view v))
-      ∙ keep-untold (prefers (decoded net rows distances) w) v _
+  -- the least key does not change at any other router
+  least-silent : (distances : List ℕ) (view : ℕ → Route) → bitN (advertisers net rows w) v ≡ 0
+      → leastKey (decoded net rows distances) w view (suc v) ≡ leastKey (decoded net rows distances) w view v
+  least-silent distances view h =
+      let I = decoded net rows distances in
+      omega (arith, least-more I w view v, least-none-le I w view v, silent h distances (view v))
 
--- one pass over them, lowest first: x is what is kept of those visited, and m holds the others
-abbrev pub Hearing : Network → List ℕ → List ℕ → ℕ → (ℕ → Route) → Route → ℕ → Type 0
-Hearing net rows distances w view x m = BitWalk (λ k. x ≡ keptHeard (decoded net rows distances) w view k) (advertisers net rows w) (net .n) m
+-- one pass over them, lowest first: x is the least key of those visited, and m holds the others
+abbrev pub Hearing : Network → List ℕ → List ℕ → ℕ → (ℕ → Route) → ℕ → ℕ → Type 0
+Hearing net rows distances w view x m = BitWalk (λ k. x ≡ leastKey (decoded net rows distances) w view k) (advertisers net rows w) (net .n) m
 
 module _ (net : Network) (rows distances : List ℕ) (ok : WellFormed net rows distances) (w : ℕ) (view : ℕ → Route) where
-  pub hearing-start : (x : Route) → x ≡ nothing → Hearing net rows distances w view x (advertisers net rows w)
-  hearing-start x e = walk-start _ _ _ (e ∙ sym (heard-none (decoded net rows distances) w view))
+  pub hearing-start : Hearing net rows distances w view noKey (advertisers net rows w)
+  hearing-start = walk-start _ _ _ (sym (least-none (decoded net rows distances) w view))
 
-  module _ (x : Route) (m : ℕ) (h : Hearing net rows distances w view x m) where
+  module _ (x : ℕ) (m : ℕ) (h : Hearing net rows distances w view x m) where
     abbrev Kept : ℕ → Type 0
-    Kept k = x ≡ keptHeard (decoded net rows distances) w view k
+    Kept k = x ≡ leastKey (decoded net rows distances) w view k
 
     pass : (u : ℕ) → u < net .n → bitN (advertisers net rows w) u ≡ 0 → Kept u → Kept (suc u)
-    pass u l unset k = k ∙ sym (heard-silent net rows w u distances view unset)
+    pass u l unset k = k ∙ sym (least-silent net rows w u distances view unset)
 
     within : (u : ℕ) → bitN (advertisers net rows w) u ≡ 1 → u < net .n
     within u set = ok .neighbours w u (advertiser-near net rows w u set)
@@ -79,17 +80,21 @@ module _ (net : Network) (rows distances : List ℕ) (ok : WellFormed net rows d
       pub hearing-below : v < net .n
       hearing-below = walk-within Kept _ _ m v within h low
 
-      pub hearing-near : bits rows w v ≡ 1
-      hearing-near = advertiser-near net rows w v (walk-set Kept _ _ m v within h low)
+      pub hearing-kind : max (bitN (net .listed) v) (bitN (net .reflectors) v) ≡ 1
+      hearing-kind = advertiser-kind net rows w v (walk-set Kept _ _ m v within h low)
 
-      pub hearing-kept : x ≡ keptHeard (decoded net rows distances) w view v
-      hearing-kept = walk-visit Kept _ _ pass m v within h low
+      hearing-near : eqb (bits rows w v) 1 ≡ true
+      hearing-near = eq-eqb _ 1 (advertiser-near net rows w v (walk-set Kept _ _ m v within h low))
 
-      pub hearing-more : (y : Route) (m′ : ℕ) → m′ ≡ fromBit m (suc v) → y ≡ keepHeard (decoded net rows distances) w v (view v) x
+      pub hearing-more : (y m′ : ℕ) → m′ ≡ fromBit m (suc v)
+          → y ≡ min x (toldKey (decoded net rows distances) w v (advertises (decoded net rows distances) v (view v) w))
           → Hearing net rows distances w view y m′
       hearing-more y m′ e k =
+          let I = decoded net rows distances in
           walk-more Kept _ _ m v within h low _ m′ e
-          (k ∙ ap (keepHeard (decoded net rows distances) w v (view v)) hearing-kept ∙ sym (heard-more (decoded net rows distances) w view v))
+          (k
+          ∙ ap₂ min (walk-visit Kept _ _ pass m v within h low) (sym (from-neighbour I w v (view v) hearing-near))
+          ∙ sym (least-more I w view v))
 
-    pub hearing-done : m ≡ 0 → x ≡ keptHeard (decoded net rows distances) w view (net .n)
+    pub hearing-done : m ≡ 0 → x ≡ leastKey (decoded net rows distances) w view (net .n)
     hearing-done e = walk-done Kept _ _ pass m h e

@@ -1,154 +1,104 @@
--- One pass over the routers finds the choice of an activation.
-use Prim.Native.Nat.{ℕ, zero, suc, _≤_, _<_}
+-- The least key that the routers advertise is that of the route that an activation chooses.
+use Prim.Native.Nat.{ℕ, zero, suc, _+_, _-_, _*_, _%_, _≤_, _<_, min}
 use native.Mathlib.Omega.{arith}
-use mathlib.Core.Path.{_≡_, refl, _∙_, sym, ap}
-use mathlib.Core.Bool.{Bool, true, false, not, cond, _&&_, _||_, and-false, or-true}
+use mathlib.Core.Path.{_≡_, refl, _∙_, sym, ap, ap₂}
+use mathlib.Core.Bool.{Bool, true, false, not, cond, _&&_, and-false}
+use mathlib.Core.List.{List}
 use mathlib.Core.Option.{Option, none, some}
 use mathlib.Core.Logic.{_⊎_, inl, inr, ⊎-elim}
 use lib.Dec.{eqb}
-use borrow.Author.Tests.{eqb-true, eq-eqb, ne-eqb}
-use Rattle.base.proofs.Numbers.{both-left, both-right, not-both, eq-or-ne}
-use Rattle.base.proofs.Best.{StrictOrder, order-asym, order-not-trans}
-use Rattle.routing.specs.Instance.{Instance, Route, nothing, via, isRouter}
+use lib.ListN.{getD}
+use borrow.Author.Tests.{eqb-false, eq-eqb, ne-eqb, le-leb, lt-leb, le-ltb, not-true}
+use Rattle.base.proofs.Numbers.{not-both, eq-or-ne, lt-or-le}
+use Rattle.bodies.specs.Distances.{distanceIn}
+use Rattle.routing.specs.Instance.{Instance, Route, nothing, via}
 use Rattle.routing.specs.Preference.{prefers}
 use Rattle.routing.specs.Activation.{reflects, advertises, hears, choose}
-use Rattle.activation.specs.TableBytes.{RouteBelow, readRoute}
 use Rattle.routing.specs.RouterBytes.{RouterBelow}
-use Rattle.activation.specs.OnePass.{heard, heardFrom, HasWay, keepRoute, keepHeard, kept, keptHeard}
+use Rattle.activation.specs.TableBytes.{RouteBelow, readRoute}
+use Rattle.activation.specs.OnePass.{senderMark, routeKey, noKey, toldKey, advertisedKey, leastKey, egressIn, senderIn, keyRoute}
 use Rattle.activation.proofs.TableBytes.{read-via}
-use Rattle.routing.proofs.Preference.{prefers-order}
-use Rattle.routing.proofs.Routes.{isRouter-same, isRouter-some, hears-way, ChoiceIs, choice-unique, choose-is, advertises-listed, advertises-client, advertises-reflector}
+use Rattle.routing.proofs.Preference.{prefers-order, prefers-farther, prefers-tie}
+use Rattle.routing.proofs.Routes.{hears-neighbour, hears-told, hears-way, hears-intro, ChoiceIs, choice-unique, choose-is, advertises-listed, advertises-client, advertises-reflector}
 
--- a router is not none
-router-not-none : {A : Type 0} (o : Option ℕ) (e : ℕ) → o ≡ some e → o ≡ none → A
-router-not-none o e p q = let z : _≡_ {A = ℕ} 0 1 = cc in absurd (omega arith)
+-- a distance of two bytes
+pub distance-below : (s : List ℕ) (n w e : ℕ) → ((i : ℕ) → getD s i 0 < 256) → distanceIn s n w e < 65536
+distance-below s n w e b = omega (arith, b (2 * (w * n + e)), b (2 * (w * n + e) + 1))
 
-same-router : (o : Option ℕ) (e f : ℕ) → o ≡ some e → o ≡ some f → e ≡ f
-same-router o e f p q = cc
+-- a sender's mark
+pub mark-itself : (e s : ℕ) → e ≡ s → senderMark e s ≡ 0
+unfolding senderMark
+mark-itself e s h = cc (eq-eqb e s h)
 
-module _ (prefer : ℕ → ℕ → Bool) (o : StrictOrder prefer) (told : ℕ → Option ℕ) (n : ℕ) where
-  -- e from s is kept of what the routers below i tell
-  record Kept (i e s : ℕ) : Type 0 where
-    egress : e < n
-    sender : s < i
-    tells : told s ≡ some e
-    unbeaten : (v f : ℕ) → v < i → told v ≡ some f → prefer f e ≡ false
-    -- the sender is the egress itself, or else the egress does not tell and the sender is the lowest that does
-    first : (v : ℕ) → v < i → told v ≡ some e → (s ≡ e) ⊎ ((v ≡ e → ⊥) × (s ≤ v))
+pub mark-other : (e s : ℕ) → (e ≡ s → ⊥) → senderMark e s ≡ suc s
+unfolding senderMark
+mark-other e s h = cc (ne-eqb e s h)
 
-  -- .. and nothing exactly if they tell nothing
-  abbrev KeptIs : ℕ → Route → Type 0
-  KeptIs i nothing = (v : ℕ) → v < i → told v ≡ none
-  KeptIs i (via e s) = Kept i e s
+pub mark-below : (e s : ℕ) → s < 64 → senderMark e s ≤ 64
+mark-below e s l = go (eq-or-ne e s)
+  where
+    go : (e ≡ s) ⊎ (e ≡ s → ⊥) → senderMark e s ≤ 64
+    go (inl h) = omega (arith, mark-itself e s h)
+    go (inr h) = omega (arith, mark-other e s h)
 
-  module _ (i : ℕ) where
-    -- what holds of the routers below i and of i
-    upto : (P : ℕ → Type 0) → ((v : ℕ) → v < i → P v) → P i → (v : ℕ) → v < suc i → P v
-    upto P f p v l = ⊎-elim (λ (e : v ≡ i). rw e p) (λ (e : v ≡ i → ⊥). f v (omega arith)) (eq-or-ne v i)
+-- a key's parts
+module _ (d e s : ℕ) where
+  pub key-is : routeKey d e s ≡ d * 65536 + e * 256 + senderMark e s
+  unfolding routeKey
+  key-is = refl
 
-    -- i's route is taken
-    module _ (e : ℕ) (h : told i ≡ some e) (b : e < n) where
-      taken : ((v f : ℕ) → v < i → told v ≡ some f → prefer f e ≡ false)
-          → ((v : ℕ) → v < i → told v ≡ some e → (i ≡ e) ⊎ ((v ≡ e → ⊥) × (i ≤ v)))
-          → Kept (suc i) e i
-      taken u g =
-          record {
-            egress = b;
-            sender = omega arith;
-            tells = h;
-            unbeaten = λ v f l.
-                upto (λ v. told v ≡ some f → prefer f e ≡ false) (λ v m. u v f m)
-                (λ q. ap (λ x. prefer x e) (same-router (told i) f e q h) ∙ o .irreflexive e)
-                v l;
-            first = upto (λ v. told v ≡ some e → (i ≡ e) ⊎ ((v ≡ e → ⊥) × (i ≤ v))) g (λ q. own (eq-or-ne i e));
-          }
-        where
-          own : (i ≡ e) ⊎ (i ≡ e → ⊥) → (i ≡ e) ⊎ ((i ≡ e → ⊥) × (i ≤ i))
-          own (inl q) = inl q
-          own (inr q) = inr (q, omega arith)
+  module _ (egress : e < 64) (sender : s < 64) where
+    -- a route with a way has a lower key than none
+    key-way : d < 65535 → routeKey d e s < noKey
+    key-way l = omega (arith, key-is, mark-below e s sender)
 
-    -- the route kept stays
-    module _ (f s : ℕ) (w : Kept i f s) where
-      stays : ((e : ℕ) → told i ≡ some e → (prefer e f ≡ false) × (e ≡ f → (i ≡ e → ⊥))) → Kept (suc i) f s
-      stays h =
-          record {
-            egress = w .egress;
-            sender = omega (arith, w .sender);
-            tells = w .tells;
-            unbeaten = λ v e l. upto (λ v. told v ≡ some e → prefer e f ≡ false) (λ v m. w .unbeaten v e m) (λ q. h e q .0) v l;
-            first =
-                upto (λ v. told v ≡ some f → (s ≡ f) ⊎ ((v ≡ f → ⊥) × (s ≤ v))) (w .first)
-                (λ q. inr (h f q .1 refl, omega (arith, w .sender)));
-          }
+    key-egress : egressIn (routeKey d e s) ≡ e
+    key-egress = omega (arith, key-is, mark-below e s sender)
 
-      -- .. or i's is preferred to it, or is of the same egress and told by that itself
-      against : (e : ℕ) → told i ≡ some e → e < n → (a : Bool) → prefer e f ≡ a → (b : Bool) → (eqb e f && eqb e i) ≡ b
-          → KeptIs (suc i) (cond (a || b) (via e i) (via f s))
-      against e h l true p b q =
-          taken e h l (λ v g m r. order-not-trans prefer o g f e (w .unbeaten v g m r) (order-asym prefer o e f p))
-          (λ v m r. not-both (prefer e f) p (w .unbeaten v e m r))
-      against e h l false p true q =
-          let x : e ≡ f = eqb-true e f (both-left (eqb e f) (eqb e i) q) in
-          let y : e ≡ i = eqb-true e i (both-right (eqb e f) (eqb e i) q) in
-          taken e h l (λ v g m r. ap (prefer g) x ∙ w .unbeaten v g m r) (λ v m r. inl (sym y))
-      against e h l false p false q =
-          stays (λ g r. let x : g ≡ e = same-router (told i) g e r h in (
-            ap (λ z. prefer z f) x ∙ p,
-            λ y z. not-both (eqb e f && eqb e i) (cc (eq-eqb e f (sym x ∙ y), eq-eqb e i (sym x ∙ sym z))) q,
-          ))
+    key-mark : routeKey d e s % 256 ≡ senderMark e s
+    key-mark = omega (arith, key-is, mark-below e s sender)
 
-    step : (t : Option ℕ) → told i ≡ t → RouterBelow n t → (x : Route) → KeptIs i x → KeptIs (suc i) (keepRoute prefer i t x)
-    unfolding keepRoute
-    step none h b nothing w = upto (λ v. told v ≡ none) w h
-    step none h b (via f s) w = stays f s w (λ e q. router-not-none (told i) e q h)
-    step (some e) h b nothing w =
-        taken e h b (λ v f l q. router-not-none (told v) f q (w v l)) (λ v l q. router-not-none (told v) e q (w v l))
-    step (some e) h b (via f s) w = against f s w e h b (prefer e f) refl (eqb e f && eqb e i) refl
-
-  module _ (below : (v : ℕ) → v < n → RouterBelow n (told v)) where
-    kept-is : (i : ℕ) → i ≤ n → KeptIs i (kept prefer told i)
-    unfolding kept
-    kept-is zero l = λ v m. absurd (omega arith)
-    kept-is (suc i) l = step i (told i) refl (below i (omega arith)) (kept prefer told i) (kept-is i (omega arith))
-
-    pub kept-below : (i : ℕ) → i ≤ n → RouteBelow n (kept prefer told i)
-    kept-below i l = go (kept prefer told i) (kept-is i l)
+    key-sender : senderIn (routeKey d e s) ≡ s
+    key-sender = go (eq-or-ne e s)
       where
-        go : (x : Route) → KeptIs i x → RouteBelow n x
-        go nothing w = tt
-        go (via e s) w = (w .egress, omega (arith, w .sender))
+        go : (e ≡ s) ⊎ (e ≡ s → ⊥) → senderIn (routeKey d e s) ≡ s
+        go (inl h) = cc (eq-eqb (routeKey d e s % 256) 0 (key-mark ∙ mark-itself e s h), key-egress)
+        go (inr h) =
+            let m : routeKey d e s % 256 ≡ suc s = key-mark ∙ mark-other e s h in
+            let p : routeKey d e s % 256 - 1 ≡ s = omega arith in
+            cc (ne-eqb (routeKey d e s % 256) 0 (omega arith))
 
-    module _ (tells : ℕ → ℕ → Bool) (same : (v e : ℕ) → tells v e ≡ isRouter e (told v)) where
-      does-tell : (v e : ℕ) → tells v e ≡ true → told v ≡ some e
-      does-tell v e h = isRouter-same e (told v) (sym (same v e) ∙ h)
+    -- the route of a key is the one it was made of
+    key-back : d < 65535 → keyRoute (routeKey d e s) ≡ via e s
+    unfolding keyRoute
+    key-back l =
+        cc (lt-leb noKey (routeKey d e s) (key-way l), ap₂ readRoute key-egress key-sender, read-via e s (omega arith))
 
-      is-told : (v e : ℕ) → told v ≡ some e → tells v e ≡ true
-      is-told v e h = same v e ∙ ap (isRouter e) h ∙ isRouter-some e
+-- the route of any number
+module _ (k : ℕ) where
+  pub key-none : noKey ≤ k → keyRoute k ≡ nothing
+  unfolding keyRoute
+  key-none l = cc (le-leb noKey k l)
 
-      is-choice : (x : Route) → KeptIs n x → ChoiceIs prefer tells n x
-      is-choice nothing w = λ v f l m. same v f ∙ ap (isRouter f) (w v l)
-      is-choice (via e s) w =
-          record {
-            egress = w .egress;
-            sender = w .sender;
-            told = is-told s e (w .tells);
-            unbeaten = λ v f l m q. w .unbeaten v f l (does-tell v f q);
-            itself = λ q. itself q (w .first e (w .egress) (does-tell e e q));
-            lowest = λ q v l r. lowest q v (w .first v l (does-tell v e r));
-          }
-        where
-          itself : tells e e ≡ true → (s ≡ e) ⊎ ((e ≡ e → ⊥) × (s ≤ e)) → s ≡ e
-          itself q (inl p) = p
-          itself q (inr p) = absurd (p .0 refl)
+  pub key-itself : k < noKey → k % 256 ≡ 0 → keyRoute k ≡ readRoute (egressIn k) (egressIn k)
+  unfolding keyRoute
+  key-itself l h = cc (lt-leb noKey k l, eq-eqb (k % 256) 0 h)
 
-          lowest : tells e e ≡ false → (v : ℕ) → (s ≡ e) ⊎ ((v ≡ e → ⊥) × (s ≤ v)) → s ≤ v
-          lowest q v (inl p) = not-both (tells e e) (is-told e e (sym (ap told p) ∙ w .tells)) q
-          lowest q v (inr p) = p .1
-
-      pub kept-choice : ChoiceIs prefer tells n (kept prefer told n)
-      kept-choice = is-choice (kept prefer told n) (kept-is n (omega arith))
+  pub key-other : k < noKey → (k % 256 ≡ 0 → ⊥) → keyRoute k ≡ readRoute (egressIn k) (k % 256 - 1)
+  unfolding keyRoute
+  key-other l h = cc (lt-leb noKey k l, ne-eqb (k % 256) 0 h)
 
 module _ (I : Instance) where
+  -- what a reflector passes on, by whom it has it from
+  module _ (e s w : ℕ) where
+    pub reflects-reflectors : (r : Bool) → I .reflector s ≡ true → r ≡ I .reflector w → reflects I (via e s) w ≡ cond (not r) (some e) none
+    unfolding reflects
+    reflects-reflectors r p q = cc
+
+    pub reflects-clients : I .reflector s ≡ false → reflects I (via e s) w ≡ cond (not (eqb s w)) (some e) none
+    unfolding reflects
+    reflects-clients p = cc
+
   -- what is told names routers below n if what is held does
   reflects-below : (x : Route) (w : ℕ) → RouteBelow (I .n) x → RouterBelow (I .n) (reflects I x w)
   unfolding reflects
@@ -159,7 +109,7 @@ module _ (I : Instance) where
       go true = b .0
       go false = tt
 
-  pub advertises-below : (v : ℕ) (x : Route) (w : ℕ) → v < I .n → RouteBelow (I .n) x → RouterBelow (I .n) (advertises I v x w)
+  advertises-below : (v : ℕ) (x : Route) (w : ℕ) → v < I .n → RouteBelow (I .n) x → RouterBelow (I .n) (advertises I v x w)
   advertises-below v x w l b = go (I .listed v) refl (I .reflector v) refl
     where
       go : (p : Bool) → I .listed v ≡ p → (q : Bool) → I .reflector v ≡ q → RouterBelow (I .n) (advertises I v x w)
@@ -167,124 +117,178 @@ module _ (I : Instance) where
       go false p true r = rw (advertises-reflector I v x w p r) (reflects-below x w b)
       go false p false r = rw (advertises-client I v x w p r) tt
 
-  -- what w hears of what is advertised to it
-  pub heard-nothing : (w : ℕ) → heard I w none ≡ none
-  unfolding heard
-  heard-nothing w = refl
+  module _ (w v : ℕ) where
+    pub told-nothing : toldKey I w v none ≡ noKey
+    unfolding toldKey
+    told-nothing = refl
 
-  pub heard-way : (w e : ℕ) → I .way w e ≡ true → heard I w (some e) ≡ some e
-  unfolding heard
-  heard-way w e h = cc
+    pub told-egress : (e : ℕ) → toldKey I w v (some e) ≡ routeKey (I .dist w e) e v
+    unfolding toldKey
+    told-egress e = refl
 
-  pub heard-no-way : (w e : ℕ) → I .way w e ≡ false → heard I w (some e) ≡ none
-  unfolding heard
-  heard-no-way w e h = cc
+    pub from-neighbour : (x : Route) → I .neighbour w v ≡ true → advertisedKey I w v x ≡ toldKey I w v (advertises I v x w)
+    unfolding advertisedKey
+    from-neighbour x h = cc
 
-  -- it is what is advertised, and there is a way to it
-  heard-is : (w e : ℕ) (o : Option ℕ) → isRouter e (heard I w o) ≡ (isRouter e o && I .way w e)
-  heard-is w e none = ap (isRouter e) (heard-nothing w)
-  heard-is w e (some f) = go (I .way w f) refl (eqb f e) refl
-    where
-      go : (a : Bool) → I .way w f ≡ a → (b : Bool) → eqb f e ≡ b → isRouter e (heard I w (some f)) ≡ (eqb f e && I .way w e)
-      go true p true q = ap (isRouter e) (heard-way w f p) ∙ q ∙ cc (ap (I .way w) (eqb-true f e q))
-      go true p false q = ap (isRouter e) (heard-way w f p) ∙ cc
-      go false p true q = ap (isRouter e) (heard-no-way w f p) ∙ cc (ap (I .way w) (eqb-true f e q))
-      go false p false q = ap (isRouter e) (heard-no-way w f p) ∙ cc
+    pub from-stranger : (x : Route) → I .neighbour w v ≡ false → advertisedKey I w v x ≡ noKey
+    unfolding advertisedKey
+    from-stranger x h = cc
 
-  heard-router : (w : ℕ) (o : Option ℕ) → RouterBelow (I .n) o → RouterBelow (I .n) (heard I w o)
-  heard-router w none b = rw (heard-nothing w) tt
-  heard-router w (some e) b = go (I .way w e) refl
-    where
-      go : (a : Bool) → I .way w e ≡ a → RouterBelow (I .n) (heard I w (some e))
-      go true p = rw (heard-way w e p) b
-      go false p = rw (heard-no-way w e p) tt
+module _ (I : Instance) (w : ℕ) (view : ℕ → Route) where
+  abbrev key : ℕ → ℕ
+  key v = advertisedKey I w v (view v)
 
-  pub from-neighbour : (w v : ℕ) (x : Route) → I .neighbour w v ≡ true → heardFrom I w v x ≡ heard I w (advertises I v x w)
-  unfolding heardFrom
-  from-neighbour w v x p = cc
+  pub least-none : leastKey I w view 0 ≡ noKey
+  unfolding leastKey
+  least-none = refl
 
-  pub from-stranger : (w v : ℕ) (x : Route) → I .neighbour w v ≡ false → heardFrom I w v x ≡ none
-  unfolding heardFrom
-  from-stranger w v x p = cc
+  pub least-more : (v : ℕ) → leastKey I w view (suc v) ≡ min (leastKey I w view v) (key v)
+  unfolding leastKey
+  least-more v = refl
 
-  from-below : (w v : ℕ) (x : Route) → v < I .n → RouteBelow (I .n) x → RouterBelow (I .n) (heardFrom I w v x)
-  from-below w v x l b = go (I .neighbour w v) refl
-    where
-      go : (p : Bool) → I .neighbour w v ≡ p → RouterBelow (I .n) (heardFrom I w v x)
-      go true p = rw (from-neighbour w v x p) (heard-router w _ (advertises-below v x w l b))
-      go false p = rw (from-stranger w v x p) tt
+  -- it is no higher than any key, and that of some router if it is a key at all
+  pub least-none-le : (k : ℕ) → leastKey I w view k ≤ noKey
+  least-none-le zero = omega (arith, least-none)
+  least-none-le (suc k) = omega (arith, least-more k, least-none-le k)
 
-  hears-is : (view : ℕ → Route) (w v e : ℕ) → hears I view w v e ≡ isRouter e (heardFrom I w v (view v))
-  unfolding hears
-  hears-is view w v e = go (I .neighbour w v) refl
-    where
-      go : (p : Bool) → I .neighbour w v ≡ p → hears I view w v e ≡ isRouter e (heardFrom I w v (view v))
-      go true p = cc (heard-is w e (advertises I v (view v) w), from-neighbour w v (view v) p)
-      go false p = cc (from-stranger w v (view v) p)
+  least-le : (k v : ℕ) → v < k → leastKey I w view k ≤ key v
+  least-le zero v l = absurd (omega arith)
+  least-le (suc k) v l =
+      ⊎-elim (λ (e : v ≡ k). rw e (omega (arith, least-more k)))
+      (λ (d : v ≡ k → ⊥). omega (arith, least-more k, least-le k v (omega arith)))
+      (eq-or-ne v k)
 
-  -- what is kept of a view whose routes name routers below n
-  module _ (w : ℕ) (view : ℕ → Route) (b : (v : ℕ) → v < I .n → RouteBelow (I .n) (view v)) where
-    pub heard-below : (i : ℕ) → i ≤ I .n → RouteBelow (I .n) (keptHeard I w view i)
-    unfolding keptHeard
-    heard-below =
-        kept-below (prefers I w) (prefers-order I w) (λ v. heardFrom I w v (view v)) (I .n) (λ v l. from-below w v (view v) l (b v l))
+  record Least (k : ℕ) : Type 0 where
+    at : ℕ
+    below : at < k
+    same : leastKey I w view k ≡ key at
 
-    -- w has a way to what is kept
-    pub heard-ways : (i : ℕ) → i ≤ I .n → HasWay I w (keptHeard I w view i)
-    unfolding keptHeard
-    heard-ways i l =
-        go (keptHeard I w view i)
-        (kept-is (prefers I w) (prefers-order I w) (λ v. heardFrom I w v (view v)) (I .n) (λ v l. from-below w v (view v) l (b v l)) i l)
+  least-at : (k : ℕ) → leastKey I w view k < noKey → Least k
+  least-at zero l = absurd (omega (arith, least-none))
+  least-at (suc k) l =
+      ⊎-elim (λ (h : key k < leastKey I w view k). record { at = k; below = omega arith; same = omega (arith, least-more k) })
+      (λ (h : leastKey I w view k ≤ key k).
+      let f : Least k = least-at k (omega (arith, least-more k)) in
+      record { at = f .at; below = omega (arith, f .below); same = omega (arith, least-more k, f .same) })
+      (lt-or-le (key k) (leastKey I w view k))
+
+  -- w hears e from v
+  module _ (v e : ℕ) (h : hears I view w v e ≡ true) where
+    heard-key : key v ≡ routeKey (I .dist w e) e v
+    heard-key =
+        from-neighbour I w v (view v) (hears-neighbour I view w v e h)
+        ∙ ap (toldKey I w v) (hears-told I view w v e h)
+        ∙ told-egress I w v e
+
+  -- distances are of two bytes, 65,535 is no way, and every route names routers
+  module _ (small : I .n ≤ 64) (bytes : (e : ℕ) → I .dist w e < 65536) (ways : (e : ℕ) → I .way w e ≡ not (eqb (I .dist w e) 65535))
+      (below : (v : ℕ) → v < I .n → RouteBelow (I .n) (view v)) where
+    way-near : (e : ℕ) → I .way w e ≡ true → I .dist w e < 65535
+    way-near e h = omega (arith, bytes e, eqb-false (I .dist w e) 65535 (not-true _ (sym (ways e) ∙ h)))
+
+    near-way : (e : ℕ) → I .dist w e < 65535 → I .way w e ≡ true
+    near-way e l = ways e ∙ ap not (ne-eqb (I .dist w e) 65535 (omega arith))
+
+    -- what is heard has a key below none's, and only that
+    heard-low : (v e : ℕ) → v < I .n → e < I .n → hears I view w v e ≡ true → key v < noKey
+    heard-low v e l m h =
+        omega (arith, heard-key v e h, key-way (I .dist w e) e v (omega arith) (omega arith) (way-near e (hears-way I view w v e h)))
+
+    record Heard (v : ℕ) : Type 0 where
+      egress : ℕ
+      router : egress < I .n
+      hears-it : hears I view w v egress ≡ true
+
+    low-heard : (v : ℕ) → v < I .n → key v < noKey → Heard v
+    low-heard v l h = go (I .neighbour w v) refl (advertises I v (view v) w) refl (advertises-below I v (view v) w l (below v l))
       where
-        go : (x : Route) → KeptIs (prefers I w) (prefers-order I w) (λ v. heardFrom I w v (view v)) (I .n) i x → HasWay I w x
-        go nothing k = tt
-        go (via e s) k =
-            hears-way I view w s e (hears-is view w s e ∙ ap (isRouter e) (k .tells) ∙ isRouter-some e)
+        go : (a : Bool) → I .neighbour w v ≡ a → (o : Option ℕ) → advertises I v (view v) w ≡ o → RouterBelow (I .n) o → Heard v
+        go false p o q b = absurd (omega (arith, from-stranger I w v (view v) p))
+        go true p none q b =
+            absurd (omega (arith, from-neighbour I w v (view v) p ∙ ap (toldKey I w v) q ∙ told-nothing I w v))
+        go true p (some e) q b =
+            let k : key v ≡ routeKey (I .dist w e) e v = from-neighbour I w v (view v) p ∙ ap (toldKey I w v) q ∙ told-egress I w v e in
+            record {
+              egress = e;
+              router = b;
+              hears-it = hears-intro I view w v e p q (near-way e (omega (arith, key-is (I .dist w e) e v)));
+            }
 
-    -- one pass finds what an activation leaves
-    pub heard-choice : I .listed w ≡ false → keptHeard I w view (I .n) ≡ choose I w view
-    unfolding keptHeard
-    heard-choice p =
-        choice-unique (prefers I w) (hears I view w) (I .n) (prefers-order I w) (keptHeard I w view (I .n)) (choose I w view)
-        (kept-choice (prefers I w) (prefers-order I w) (λ v. heardFrom I w v (view v)) (I .n) (λ v l. from-below w v (view v) l (b v l))
-        (hears I view w) (hears-is view w))
-        (choose-is I w view p)
+    -- the route of the least key is the choice
+    abbrev least : ℕ
+    least = leastKey I w view (I .n)
 
-  pub heard-none : (w : ℕ) (view : ℕ → Route) → keptHeard I w view 0 ≡ nothing
-  unfolding keptHeard kept
-  heard-none w view = refl
+    none-chosen : noKey ≤ least → ChoiceIs (prefers I w) (hears I view w) (I .n) nothing
+    none-chosen l v f m b = go (hears I view w v f) refl
+      where
+        go : (a : Bool) → hears I view w v f ≡ a → hears I view w v f ≡ false
+        go true h = absurd (omega (arith, heard-low v f m b h, least-le (I .n) v m))
+        go false h = h
 
-  pub heard-more : (w : ℕ) (view : ℕ → Route) (v : ℕ)
-      → keptHeard I w view (suc v) ≡ keepHeard I w v (view v) (keptHeard I w view v)
-  unfolding keptHeard kept
-  heard-more w view v = refl
+    module _ (s : ℕ) (l : s < I .n) (same : least ≡ key s) (x : Heard s) where
+      abbrev e : ℕ
+      e = x .egress
 
--- what is kept, case by case
-module _ (prefer : ℕ → ℕ → Bool) (v : ℕ) where
-  pub keep-untold : (x : Route) → keepRoute prefer v none x ≡ x
-  unfolding keepRoute
-  keep-untold x = refl
+      -- no key that is heard is lower
+      unbeaten : (v f : ℕ) → v < I .n → hears I view w v f ≡ true → routeKey (I .dist w e) e s ≤ routeKey (I .dist w f) f v
+      unbeaten v f m h = omega (arith, least-le (I .n) v m, heard-key s e (x .hears-it), heard-key v f h)
 
-  pub keep-first : (e : ℕ) → keepRoute prefer v (some e) nothing ≡ via e v
-  unfolding keepRoute
-  keep-first e = refl
+      preferred : (v f : ℕ) → v < I .n → f < I .n → hears I view w v f ≡ true → prefers I w f e ≡ false
+      preferred v f m b h =
+          let near : I .dist w e * 65536 + e * 256 ≤ I .dist w f * 65536 + f * 256 + 64 =
+          omega (arith, unbeaten v f m h, key-is (I .dist w e) e s, key-is (I .dist w f) f v, mark-below f v (omega arith)) in
+          go near (lt-or-le (I .dist w e) (I .dist w f))
+        where
+          go : I .dist w e * 65536 + e * 256 ≤ I .dist w f * 65536 + f * 256 + 64
+              → (I .dist w e < I .dist w f) ⊎ (I .dist w f ≤ I .dist w e) → prefers I w f e ≡ false
+          go near (inl d) = prefers-farther I w f e d
+          go near (inr d) =
+              let same-far : I .dist w f ≡ I .dist w e = omega arith in
+              prefers-tie I w f e same-far ∙ le-ltb f e (omega arith)
 
-  module _ (e f s : ℕ) where
-    pub keep-preferred : prefer e f ≡ true → keepRoute prefer v (some e) (via f s) ≡ via e v
-    unfolding keepRoute
-    keep-preferred p = cc
+      -- of the same egress, the sender's mark is the least
+      marked : (v : ℕ) → v < I .n → hears I view w v e ≡ true → senderMark e s ≤ senderMark e v
+      marked v m h = omega (arith, unbeaten v e m h, key-is (I .dist w e) e s, key-is (I .dist w e) e v)
 
-    pub keep-better : prefer e f ≡ false → (e ≡ f → ⊥) → keepRoute prefer v (some e) (via f s) ≡ via f s
-    unfolding keepRoute
-    keep-better p d = cc (ne-eqb e f d)
+      itself : hears I view w e e ≡ true → (e ≡ s) ⊎ (e ≡ s → ⊥) → s ≡ e
+      itself h (inl q) = sym q
+      itself h (inr d) = absurd (omega (arith, marked e (x .router) h, mark-itself e e refl, mark-other e s d))
 
-    pub keep-itself : e ≡ f → e ≡ v → keepRoute prefer v (some e) (via f s) ≡ via e v
-    unfolding keepRoute
-    keep-itself p q = cc (eq-eqb e f p, eq-eqb e v q, or-true (prefer e f))
+      -- where the egress itself does not tell it, no sender is the egress
+      other : hears I view w e e ≡ false → (v : ℕ) → hears I view w v e ≡ true → e ≡ v → ⊥
+      other q v h d = not-both (hears I view w e e) (ap (λ u. hears I view w u e) d ∙ h) q
 
-    pub keep-lower : prefer e f ≡ false → (e ≡ v → ⊥) → keepRoute prefer v (some e) (via f s) ≡ via f s
-    unfolding keepRoute
-    keep-lower p d = cc (ne-eqb e v d, and-false (eqb e f))
+      lowest : hears I view w e e ≡ false → (v : ℕ) → v < I .n → hears I view w v e ≡ true → s ≤ v
+      lowest q v m h = omega (arith, marked v m h, mark-other e s (other q s (x .hears-it)), mark-other e v (other q v h))
+
+      chosen : ChoiceIs (prefers I w) (hears I view w) (I .n) (via e s)
+      chosen =
+          record {
+            egress = x .router;
+            sender = l;
+            told = x .hears-it;
+            unbeaten = preferred;
+            itself = λ h. itself h (eq-or-ne e s);
+            lowest = lowest;
+          }
+
+      key-chosen : keyRoute least ≡ via e s
+      key-chosen =
+          ap keyRoute (same ∙ heard-key s e (x .hears-it))
+          ∙ key-back (I .dist w e) e s (omega (arith, x .router)) (omega arith) (way-near e (hears-way I view w s e (x .hears-it)))
+
+    pub least-choice : I .listed w ≡ false → keyRoute least ≡ choose I w view
+    least-choice p = go (lt-or-le least noKey)
+      where
+        is-choice : (x : Route) → ChoiceIs (prefers I w) (hears I view w) (I .n) x → x ≡ choose I w view
+        is-choice x h = choice-unique (prefers I w) (hears I view w) (I .n) (prefers-order I w) x (choose I w view) h (choose-is I w view p)
+
+        go : (least < noKey) ⊎ (noKey ≤ least) → keyRoute least ≡ choose I w view
+        go (inl l) =
+            let f : Least (I .n) = least-at (I .n) l in
+            let x : Heard (f .at) = low-heard (f .at) (f .below) (omega (arith, f .same)) in
+            key-chosen (f .at) (f .below) (f .same) x ∙ is-choice (via (x .egress) (f .at)) (chosen (f .at) (f .below) (f .same) x)
+        go (inr l) = key-none least l ∙ is-choice nothing (none-chosen l)
 
 -- a route in two bytes that names routers below n
 module _ (n e s : ℕ) (small : n ≤ 64) (b : RouteBelow n (readRoute e s)) where

@@ -1,43 +1,45 @@
--- The choice of an activation as one pass over the routers, lowest first.
-use Prim.Native.Nat.{ℕ, zero, suc}
-use mathlib.Core.Path.{_≡_}
-use mathlib.Core.Bool.{Bool, true, cond, _&&_, _||_}
+-- The choice of an activation as one pass over the routers: each route that w hears has a key, and the best has the least.
+use Prim.Native.Nat.{ℕ, zero, suc, _+_, _-_, _*_, _/_, _%_, min}
+use mathlib.Core.Bool.{cond}
 use mathlib.Core.Option.{Option, none, some}
-use lib.Dec.{eqb}
-use Rattle.routing.specs.Instance.{Instance, Route, nothing, via}
-use Rattle.routing.specs.Preference.{prefers}
+use lib.Dec.{leb, eqb}
+use Rattle.routing.specs.Instance.{Instance, Route, nothing}
 use Rattle.routing.specs.Activation.{advertises}
+use Rattle.activation.specs.TableBytes.{readRoute}
 
--- of the egress that a neighbour advertises to w, what w hears: "a route whose egress the hearer has no way to is not heard"
-unfoldable pub heard : Instance → ℕ → Option ℕ → Option ℕ
-heard I w none = none
-heard I w (some e) = cond (I .way w e) (some e) none
+-- of several senders of e, "the egress router itself is the sender if it is one of them, else the lowest number"
+unfoldable pub senderMark : ℕ → ℕ → ℕ
+senderMark e s = cond (eqb e s) 0 (suc s)
 
--- the egress that w hears from router v, which holds the given route
-unfoldable pub heardFrom : Instance → ℕ → ℕ → Route → Option ℕ
-heardFrom I w v x = cond (I .neighbour w v) (heard I w (advertises I v x w)) none
+-- The key of the route to e from s at distance d. By the distance, then "e's number lower", then the sender: the egress has one byte of
+-- it, the sender's mark another.
+unfoldable pub routeKey : ℕ → ℕ → ℕ → ℕ
+routeKey d e s = d * 65536 + e * 256 + senderMark e s
 
--- w has a way to the egress of a route, if that has one
-abbrev pub HasWay : Instance → ℕ → Route → Type 0
-HasWay I w nothing = Unit
-HasWay I w (via e s) = I .way w e ≡ true
+-- "A route whose egress the hearer has no way to is not heard": such a route's key is this or higher, and with a way it is lower.
+abbrev pub noKey : ℕ
+noKey = 65535 * 65536
 
--- Of the route kept so far and what router v tells: v's if its egress is preferred, or if it is the egress kept and v is that
--- egress itself.
-unfoldable pub keepRoute : (ℕ → ℕ → Bool) → ℕ → Option ℕ → Route → Route
-keepRoute prefer v none x = x
-keepRoute prefer v (some e) nothing = via e v
-keepRoute prefer v (some e) (via f s) = cond (prefer e f || (eqb e f && eqb e v)) (via e v) (via f s)
+-- the key of what v tells w, by its egress
+unfoldable pub toldKey : Instance → ℕ → ℕ → Option ℕ → ℕ
+toldKey I w v none = noKey
+toldKey I w v (some e) = routeKey (I .dist w e) e v
 
--- .. at w, of the route kept so far and what w hears from v, which holds the given route
-abbrev pub keepHeard : Instance → ℕ → ℕ → Route → Route → Route
-keepHeard I w v held x = keepRoute (prefers I w) v (heardFrom I w v held) x
+-- .. of what router v, which holds the given route, advertises to w
+unfoldable pub advertisedKey : Instance → ℕ → ℕ → Route → ℕ
+advertisedKey I w v x = cond (I .neighbour w v) (toldKey I w v (advertises I v x w)) noKey
 
--- what is kept of the routers below n, where `told v` is what v tells
-unfoldable pub kept : (ℕ → ℕ → Bool) → (ℕ → Option ℕ) → ℕ → Route
-kept prefer told zero = nothing
-kept prefer told (suc v) = keepRoute prefer v (told v) (kept prefer told v)
+-- the least of the routers below n, where `view v` is what w sees v hold
+unfoldable pub leastKey : Instance → ℕ → (ℕ → Route) → ℕ → ℕ
+leastKey I w view zero = noKey
+leastKey I w view (suc v) = min (leastKey I w view v) (advertisedKey I w v (view v))
 
--- .. of what w hears, where `view v` is what it sees v hold
-unfoldable pub keptHeard : Instance → ℕ → (ℕ → Route) → ℕ → Route
-keptHeard I w view n = kept (prefers I w) (λ v. heardFrom I w v (view v)) n
+-- the route of a key
+abbrev pub egressIn : ℕ → ℕ
+egressIn k = k / 256 % 256
+
+abbrev pub senderIn : ℕ → ℕ
+senderIn k = cond (eqb (k % 256) 0) (egressIn k) (k % 256 - 1)
+
+unfoldable pub keyRoute : ℕ → Route
+keyRoute k = cond (leb noKey k) nothing (readRoute (egressIn k) (senderIn k))

@@ -1,133 +1,144 @@
-// An activation on the caller's table: one pass over the neighbours of the router that may advertise a route.
+// An activation on the caller's table: one pass over the neighbours of the router that may advertise a route. Each route has a key, a
+// number that orders routes by distance, then by egress, then by sender; the best has the least.
 
 use crate::table::RouteBytes;
+use bodies::distances::NO_WAY;
 use network::NO_ROUTER;
 use network::Network;
 ghost use mathlib.Core.Path.{_≡_};
+ghost use mathlib.Core.Bool.{cond};
 ghost use mathlib.Core.List.{List};
-ghost use Prim.Native.Nat.{ℕ, _*_, _≤_, _<_};
+ghost use mathlib.Core.Option.{none, some};
+ghost use Prim.Native.Nat.{ℕ, _*_, _≤_, _<_, min, max};
 ghost use lib.ListN.{length};
-ghost use Rattle.base.specs.Bits.{bits};
-ghost use Rattle.routing.specs.Instance.{Instance};
-ghost use Rattle.routing.specs.Preference.{prefers};
+ghost use Rattle.base.specs.Bits.{bitN};
+ghost use Rattle.bodies.specs.Distances.{distanceIn};
+ghost use Rattle.routing.specs.Instance.{via};
 ghost use Rattle.routing.specs.Activation.{reflects, advertises};
 ghost use Rattle.network.specs.Decoded.{decoded, instance};
 ghost use Rattle.activation.specs.TableBytes.{RouteBelow, RoutesIn, TableIn, routeAt, routeOf, activateBytes};
-ghost use Rattle.routing.specs.RouterBytes.{asRouter, RouterBelow};
-ghost use Rattle.activation.specs.OnePass.{heard, HasWay, keepRoute, keepHeard, keptHeard};
-ghost use Rattle.network.specs.Measured.{Measured};
+ghost use Rattle.activation.specs.OnePass.{senderMark, routeKey, toldKey, leastKey, keyRoute};
 ghost use Rattle.network.specs.WellFormed.{WellFormed};
 
-// What an unlisted reflector that holds a route passes on to w; NO_ROUTER is nothing.
-fn reflected(net: Network, route: RouteBytes, w: usize) -> u8
-    requires { ⌜ (net .n ≤ 64) × (w < net .n) × RouteBelow (net .n) (routeOf route) ⌝ }
-    ensures { λ r. ⌜ ((rows distances : List ℕ) → asRouter r ≡ reflects (decoded net rows distances) (routeOf route) w) ⌝ }
+// A key holds the sender's mark in its lowest byte, then the egress in a byte, then the distance.
+const EGRESS_PLACE: usize = 256;
+
+const DISTANCE_PLACE: usize = 65536;
+
+// Where there is no way, no way is the distance: such a route's key is not lower than this one, and with a way it is lower.
+const NO_KEY: usize = NO_WAY * DISTANCE_PLACE;
+
+// Of several senders of one egress, that egress itself has the least mark, then the lowest.
+fn sender_mark(egress: usize, sender: usize) -> usize
+    requires { ⌜ sender < 64 ⌝ }
+    ensures { λ r. ⌜ r ≡ senderMark egress sender ⌝ }
 {
-    let egress = route.egress;
-    if egress == NO_ROUTER {
-        return NO_ROUTER;
+    if egress == sender {
+        return 0;
     }
-    let sender = base::wide(route.sender);
-    if base::bits::has_bit(net.reflectors, sender) {
-        if base::bits::has_bit(net.reflectors, w) {
-            return NO_ROUTER;
-        }
-        return egress;
-    }
-    if sender == w {
-        return NO_ROUTER;
-    }
-    egress
+    sender + 1
 }
 
-// What router v, holding a route, advertises to its neighbour w; NO_ROUTER is nothing.
-fn advertised(net: Network, v: usize, route: RouteBytes, w: usize) -> u8
-    requires { ⌜ (net .n ≤ 64) × (v < net .n) × (w < net .n) × RouteBelow (net .n) (routeOf route) ⌝ }
-    ensures { λ r. ⌜ ((rows distances : List ℕ) → asRouter r ≡ advertises (decoded net rows distances) v (routeOf route) w) ⌝ }
+// At w, the key of the route to an egress from a sender.
+fn route_key(distances: &[u8], n: usize, w: usize, egress: usize, sender: usize) -> usize
+    requires { ⌜ (w < n) × (egress < n) × (sender < n) × (n ≤ 64) × (2 * (n * n) ≤ length (now distances)) ⌝ }
+    ensures { λ r. ⌜ r ≡ routeKey (distanceIn (now (distances .entry)) n w egress) egress sender ⌝ }
+{
+    let distance = bodies::distances::distance(distances, n, w, egress);
+    distance * DISTANCE_PLACE + egress * EGRESS_PLACE + sender_mark(egress, sender)
+}
+
+// The route of a key.
+fn key_route(key: usize) -> RouteBytes
+    ensures { λ r. ⌜ routeOf r ≡ keyRoute key ⌝ }
+{
+    if NO_KEY <= key {
+        return RouteBytes {
+            egress: NO_ROUTER,
+            sender: NO_ROUTER,
+        };
+    }
+    let egress = (key / EGRESS_PLACE % 256) as u8;
+    let mark = key % EGRESS_PLACE;
+    if mark == 0 {
+        return RouteBytes {
+            egress: egress,
+            sender: egress,
+        };
+    }
+    RouteBytes {
+        egress: egress,
+        sender: (mark - 1) as u8,
+    }
+}
+
+// Whether an unlisted reflector passes on to w what it holds from this sender.
+fn passes_on(net: Network, sender: usize, w: usize) -> bool
+    requires { ⌜ (sender < 64) × (w < 64) ⌝ }
+    ensures { λ r. ⌜ ((rows distances : List ℕ) (e : ℕ) → reflects (decoded net rows distances) (via e sender) w ≡ cond r (some e) none) ⌝ }
+{
+    if base::bits::has_bit(net.reflectors, sender) {
+        return !base::bits::has_bit(net.reflectors, w);
+    }
+    sender != w
+}
+
+// The key of what an unlisted reflector v, holding a route, passes on to w; NO_KEY is nothing. The distance is read before it is known
+// whether the route is passed on: that compiles to code without a branch.
+fn reflected(net: Network, distances: &[u8], w: usize, v: usize, route: RouteBytes) -> usize
+    requires { ⌜ (net .n ≤ 64) × (w < net .n) × (v < net .n) × (2 * (net .n * net .n) ≤ length (now distances))
+        × RouteBelow (net .n) (routeOf route) ⌝ }
+    ensures { λ r. ⌜ ((rows : List ℕ) → r ≡ toldKey (decoded net rows (now (distances .entry))) w v
+        (reflects (decoded net rows (now (distances .entry))) (routeOf route) w)) ⌝ }
+{
+    if route.egress == NO_ROUTER {
+        return NO_KEY;
+    }
+    let key = route_key(distances, net.n, w, base::wide(route.egress), v);
+    if passes_on(net, base::wide(route.sender), w) {
+        return key;
+    }
+    NO_KEY
+}
+
+// The key of what router v, a listed router or a reflector, advertises to its neighbour w, holding a route; NO_KEY is nothing.
+fn advertised(net: Network, distances: &[u8], w: usize, v: usize, route: RouteBytes) -> usize
+    requires { ⌜ (net .n ≤ 64) × (w < net .n) × (v < net .n) × (2 * (net .n * net .n) ≤ length (now distances))
+        × RouteBelow (net .n) (routeOf route) × (max (bitN (net .listed) v) (bitN (net .reflectors) v) ≡ 1) ⌝ }
+    ensures { λ r. ⌜ ((rows : List ℕ) → r ≡ toldKey (decoded net rows (now (distances .entry))) w v
+        (advertises (decoded net rows (now (distances .entry))) v (routeOf route) w)) ⌝ }
 {
     if base::bits::has_bit(net.listed, v) {
-        return v as u8;
+        return route_key(distances, net.n, w, v, v);
     }
-    if base::bits::has_bit(net.reflectors, v) {
-        return reflected(net, route, w);
-    }
-    NO_ROUTER
+    reflected(net, distances, w, v, route)
 }
 
-// Of the route kept so far and the egress that router v tells, which w keeps. There is a way to the one kept, and no way is farther
-// than any way: only the first egress is asked for one.
-fn keep(distances: &[u8], n: usize, w: usize, v: usize, told: u8, kept: RouteBytes) -> RouteBytes
-    requires { ⌜ (w < n) × (v < n) × (n ≤ 64) × (2 * (n * n) ≤ length (now distances))
-        × RouterBelow n (asRouter told) × RouteBelow n (routeOf kept) ⌝ }
-    ensures { λ r. ⌜ ((I : Instance) → Measured I (now (distances .entry)) n → HasWay I w (routeOf kept)
-        → routeOf r ≡ keepRoute (prefers I w) v (heard I w (asRouter told)) (routeOf kept)) ⌝ }
+fn lesser(a: usize, b: usize) -> usize
+    ensures { λ r. ⌜ r ≡ min a b ⌝ }
 {
-    if told == NO_ROUTER {
-        return kept;
+    if b < a {
+        return b;
     }
-    let egress = base::wide(told);
-    let offered = RouteBytes {
-        egress: told,
-        sender: v as u8,
-    };
-    let old = kept.egress;
-    if old == NO_ROUTER {
-        if bodies::distances::has_way(distances, n, w, egress) {
-            return offered;
-        }
-        return kept;
-    }
-    if told == old {
-        if egress == v {
-            return offered;
-        }
-        return kept;
-    }
-    if network::comparison::prefers(distances, n, w, egress, base::wide(old)) {
-        return offered;
-    }
-    kept
+    a
 }
 
-// The same of neighbour v's entry.
-fn hear(
-    net: Network,
-    distances: &[u8],
-    w: usize,
-    v: usize,
-    entry: RouteBytes,
-    kept: RouteBytes,
-) -> RouteBytes
-    requires { ⌜ (net .n ≤ 64) × (w < net .n) × (v < net .n) × (2 * (net .n * net .n) ≤ length (now distances))
-        × RouteBelow (net .n) (routeOf entry) × RouteBelow (net .n) (routeOf kept) ⌝ }
-    ensures { λ r. ⌜ ((rows : List ℕ) → bits rows w v ≡ 1 → HasWay (decoded net rows (now (distances .entry))) w (routeOf kept)
-        → routeOf r ≡ keepHeard (decoded net rows (now (distances .entry))) w v (routeOf entry) (routeOf kept)) ⌝ }
-{
-    keep(distances, net.n, w, v, advertised(net, v, entry, w), kept)
-}
-
-// The best route advertised to w: of its neighbours only listed routers and reflectors advertise any.
-fn best_heard(
-    net: Network,
-    rows: &[u64; 64],
-    distances: &[u8],
-    w: usize,
-    table: &[u8],
-) -> RouteBytes
+// The least key advertised to w: of its neighbours only listed routers and reflectors advertise any.
+fn best_heard(net: Network, rows: &[u64; 64], distances: &[u8], w: usize, table: &[u8]) -> usize
     requires { ⌜ WellFormed net (now rows) (now distances) × (w < net .n) × RoutesIn (net .n) (now table) ⌝ }
-    ensures { λ r. ⌜ routeOf r ≡ keptHeard (instance net (rows .entry) (distances .entry)) w (routeAt (now (table .entry))) (net .n) ⌝ }
+    ensures { λ r. ⌜ r ≡ leastKey (instance net (rows .entry) (distances .entry)) w (routeAt (now (table .entry))) (net .n) ⌝ }
 {
-    let mut kept = RouteBytes {
-        egress: NO_ROUTER,
-        sender: NO_ROUTER,
-    };
+    let mut least = NO_KEY;
     let mut left = rows[w] & (net.listed | net.reflectors);
     while left != 0 {
         let v = base::bits::lowest_bit(left);
-        kept = hear(net, distances, w, v, crate::table::route_at(table, v), kept);
+        least = lesser(
+            least,
+            advertised(net, distances, w, v, crate::table::route_at(table, v)),
+        );
         left = base::bits::without_lowest(left);
     }
-    kept
+    least
 }
 
 // The act of router w on a table that obeys its rule.
@@ -146,6 +157,6 @@ pub fn activate(net: Network, rows: &[u64; 64], distances: &[u8], w: usize, tabl
         );
         return;
     }
-    let best = best_heard(net, rows, distances, w, table);
+    let best = key_route(best_heard(net, rows, distances, w, table));
     crate::table::put_route(table, w, best);
 }

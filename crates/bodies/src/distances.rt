@@ -6,7 +6,7 @@ ghost use lib.ListN.{length};
 ghost use Rattle.bodies.specs.Distances.{distanceIn, wayIn, diagonalOk, distancesOk};
 
 // The distance that stands for no way.
-const NO_WAY: usize = 65535;
+pub const NO_WAY: usize = 65535;
 
 // The distance from u to e.
 pub fn distance(s: &[u8], n: usize, u: usize, e: usize) -> usize

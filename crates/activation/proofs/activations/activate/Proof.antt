@@ -1,5 +1,5 @@
 use native.Mathlib.Omega.{arith}
-use mathlib.Core.Path.{_∙_, sym, ap}
+use mathlib.Core.Path.{refl, _∙_, sym, ap}
 use borrow.Author.Needs.{needs}
 use borrow.Author.Tests.{eqb-true}
 use Rattle.routing.specs.Instance.{Instance}
@@ -7,7 +7,8 @@ use Rattle.network.specs.Decoded.{decoded}
 use Rattle.activation.specs.TableBytes.{RoutesIn, routeAt, putRoute, activateBytes}
 use Rattle.routing.proofs.Routes.{choose-listed}
 use Rattle.activation.proofs.TableBytes.{read-via, table-below}
-use Rattle.activation.proofs.OnePass.{heard-choice}
+use Rattle.activation.specs.OnePass.{keyRoute}
+use Rattle.activation.proofs.OnePass.{distance-below, least-choice}
 use Rattle.activation.proofs.activations.activate.Statement.{statement}
 use Rattle.activation.proofs.activations.activate.Tie as tie
 
@@ -30,12 +31,16 @@ returns c =
 returns-2 : tie.Need-returns-2
 unfolding activateBytes
 returns-2 c =
-    let g = c .before .before .before .before in
-    let e = g .before .before in
-    let d = e .before .before .before .before in
+    let k = c .before .before .before .before in
+    let e = k .before .before .before in
+    let s = e .before .before .before in
+    let d = s .before in
     c .before .before .put-route2 .ensures
     ∙ ap (putRoute (d .args .table .now) (d .args .w))
-    (g .best-heard .ensures ∙ heard-choice (instance d) _ (routeAt (d .args .table .now)) (below d .below) (sym (e .before .has-bit .ensures) ∙ e .if1 .left))
+    (k .key-route .ensures
+    ∙ ap keyRoute (k .before .best-heard .ensures)
+    ∙ least-choice (instance d) _ (routeAt (d .args .table .now)) (d .pre .0 .count) (λ f. distance-below (d .args .distances .now) _ _ f (λ i. omega (arith, s .shared-slice-known .given i)))
+    (λ f. refl) (below d .below) (sym (e .before .has-bit .ensures) ∙ e .if1 .left))
 
 pub activate-spec : {M : Type 1} → statement M
 activate-spec =
@@ -48,6 +53,7 @@ activate-spec =
     (λ c. search needs)
     returns
     (λ c κs. let d = c .before .before .before .before .before in let p = d .pre in (p .0, p .1, below d))
+    (λ c κs. search needs)
     (λ c κs. search needs)
     (λ c. search needs)
     returns-2)

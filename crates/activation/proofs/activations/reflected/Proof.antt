@@ -1,77 +1,72 @@
--- Each way is a case of what a reflector passes on.
 use Prim.Native.Nat.{ℕ, _<_}
 use native.Mathlib.Omega.{arith}
-use mathlib.Core.Path.{_≡_, refl, _∙_, sym, ap}
-use mathlib.Core.Bool.{Bool}
+use mathlib.Core.Path.{_≡_, _∙_, sym, ap, ap₂}
+use mathlib.Core.Bool.{cond}
 use mathlib.Core.List.{List}
-use mathlib.Core.Option.{Option}
+use mathlib.Core.Option.{Option, none, some}
 use borrow.Author.Needs.{needs}
 use Rattle.routing.specs.Instance.{Instance, via}
 use Rattle.routing.specs.Activation.{reflects}
+use Rattle.routing.proofs.Routes.{reflects-nothing}
 use Rattle.network.specs.Decoded.{decoded}
 use Rattle.activation.specs.TableBytes.{routeOf}
+use Rattle.activation.specs.OnePass.{toldKey}
 use Rattle.activation.proofs.TableBytes.{read-via}
-use Rattle.routing.proofs.RouterBytes.{router-none, router-some}
-use Rattle.routing.proofs.Routes.{reflects-nothing, reflects-apart, reflects-down, reflects-back, reflects-on}
-use Rattle.activation.proofs.OnePass.{route-none, route-some}
+use Rattle.activation.proofs.OnePass.{told-nothing, told-egress, route-none, route-some}
 use Rattle.activation.proofs.activations.reflected.Statement.{statement}
 use Rattle.activation.proofs.activations.reflected.Tie as tie
 
 returns : tie.Need-returns
-returns c rows distances =
-    let a = c .before .args in
-    let I = decoded (a .net) rows distances in
-    router-none 255 refl
-    ∙ sym (ap (λ x. reflects I x (a .w)) (route-none (a .net .n) _ _ (c .before .pre .0) (c .before .pre .2) (c .if1 .taken)) ∙ reflects-nothing I (a .w))
+returns c rows =
+    let d = c .before .before .before in
+    let a = d .args in
+    let I = decoded (a .net) rows (a .distances .now) in
+    sym (ap (λ x. toldKey I (a .w) (a .v) (reflects I x (a .w))) (route-none _ _ _ (d .pre .0) (d .pre .4) (c .if1 .taken))
+    ∙ ap (toldKey I (a .w) (a .v)) (reflects-nothing I (a .w))
+    ∙ told-nothing I (a .w) (a .v))
 
--- a route is held, from a sender that is a router
-sender-below : (c : tie.After-wide) → c .wide .result < c .before .before .args .net .n
-sender-below c =
-    let p = c .before .before .pre in
-    omega (arith, c .wide .ensures .0, route-some _ _ _ (p .0) (p .2) (c .before .if1 .left) .1)
+-- a route is held, of routers
+held-below : (c : tie.Else1) → let a = c .before .before .before .args in
+    (a .route .egress < a .net .n) × (a .route .sender < a .net .n)
+held-below c = let p = c .before .before .before .pre in route-some _ _ _ (p .0) (p .4) (c .if1 .left)
 
-module _ (c : tie.After-has-bit) (rows distances : List ℕ) where
+route-key-requires : tie.Need-route-key-requires
+route-key-requires c κs =
+    let p = c .before .before .before .before .pre in
+    (p .1, omega (arith, c .wide .ensures .0, held-below (c .before) .0), p .2, p .0, p .3)
+
+passes-on-requires : tie.Need-passes-on-requires
+passes-on-requires c κs =
+    let p = c .before .before .before .before .before .before .pre in
+    (omega (arith, c .wide2 .ensures .0, held-below (c .before .before .before) .1, p .0), omega (arith, p .0, p .1))
+
+module _ (c : tie.After-passes-on) (rows : List ℕ) where
+  abbrev start : tie.Start
+  start = c .before .before .before .before .before .before .before
+
   abbrev I : Instance
-  I = decoded (c .before .before .before .args .net) rows distances
+  I = decoded (start .args .net) rows (start .args .distances .now)
 
-  abbrev w : ℕ
-  w = c .before .before .before .args .w
+  abbrev told : Option ℕ → ℕ
+  told = toldKey I (start .args .w) (start .args .v)
 
-  abbrev egress : ℕ
-  egress = c .before .before .before .args .route .egress
-
-  abbrev sender : ℕ
-  sender = c .before .wide .result
-
-  sender-role : {b : Bool} → c .has-bit .result ≡ b → I .reflector sender ≡ b
-  sender-role h = sym (c .has-bit .ensures) ∙ h
-
-  from-held : {t : Option ℕ} → reflects I (via egress sender) w ≡ t → reflects I (routeOf (c .before .before .before .args .route)) w ≡ t
-  from-held h = ap (λ x. reflects I x w) (read-via _ _ (c .before .before .if1 .left) ∙ ap (via egress) (sym (c .before .wide .ensures .0))) ∙ h
+  passed : {t : Option ℕ} → cond (c .passes-on .result) (some (c .before .before .before .wide .result)) none ≡ t
+      → told (reflects I (routeOf (start .args .route)) (start .args .w)) ≡ told t
+  passed h =
+      ap (λ x. told (reflects I x (start .args .w)))
+      (read-via _ _ (c .before .before .before .before .if1 .left) ∙ ap₂ via (sym (c .before .before .before .wide .ensures .0)) (sym (c .before .wide2 .ensures .0)))
+      ∙ ap told (c .passes-on .ensures rows (start .args .distances .now) _ ∙ h)
 
 returns-2 : tie.Need-returns-2
-returns-2 c rows distances =
-    let d = c .before .before .before in
-    router-none 255 refl
-    ∙ sym (from-held d rows distances (reflects-apart (I d rows distances) _ _ _ (sender-role d rows distances (c .before .before .if2 .taken)) (sym (c .before .has-bit2 .ensures) ∙ c .if3 .taken)))
+returns-2 c rows =
+    let d = c .before in
+    d .before .before .route-key .ensures
+    ∙ sym (passed d rows (ap (λ b. cond b (some (d .before .before .before .wide .result)) none) (c .if2 .taken)) ∙ told-egress (I d rows) _ _ _)
 
 returns-3 : tie.Need-returns-3
-returns-3 c rows distances =
-    let d = c .before .before .before in
-    router-some _ (d .before .before .if1 .left)
-    ∙ sym (from-held d rows distances (reflects-down (I d rows distances) _ _ _ (sender-role d rows distances (c .before .before .if2 .taken)) (sym (c .before .has-bit2 .ensures) ∙ c .if3 .left)))
-
-returns-4 : tie.Need-returns-4
-returns-4 c rows distances =
-    let d = c .before .before in
-    router-none 255 refl
-    ∙ sym (from-held d rows distances (reflects-back (I d rows distances) _ _ _ (sender-role d rows distances (c .before .if2 .left)) (c .if4 .taken)))
-
-returns-5 : tie.Need-returns-5
-returns-5 c rows distances =
-    let d = c .before .before in
-    router-some _ (d .before .before .if1 .left)
-    ∙ sym (from-held d rows distances (reflects-on (I d rows distances) _ _ _ (sender-role d rows distances (c .before .if2 .left)) (c .if4 .left)))
+returns-3 c rows =
+    let d = c .before in
+    sym (passed d rows (ap (λ b. cond b (some (d .before .before .before .wide .result)) none) (c .if2 .left)) ∙ told-nothing (I d rows) _ _)
 
 pub reflected-spec : {M : Type 1} → statement M
 reflected-spec =
@@ -79,9 +74,8 @@ reflected-spec =
     (tie.spec
     returns
     (λ c κs. search needs)
-    (λ c κs. omega (arith, sender-below c))
+    route-key-requires
     (λ c κs. search needs)
+    passes-on-requires
     returns-2
-    returns-3
-    returns-4
-    returns-5)
+    returns-3)
