@@ -1,5 +1,2 @@
-pub mod Examples
-pub mod TableBytes
 pub mod OnePass
 pub mod MayAdvertise
-pub mod Running

@@ -15,9 +15,9 @@ use Rattle.routing.specs.Instance.{Instance, Route, nothing, via}
 use Rattle.routing.specs.Preference.{prefers}
 use Rattle.routing.specs.Activation.{reflects, advertises, hears, choose}
 use Rattle.routing.specs.RouterBytes.{RouterBelow}
-use Rattle.activation.specs.TableBytes.{RouteBelow, readRoute}
+use Rattle.tables.specs.TableBytes.{RouteBelow, readRoute}
 use Rattle.activation.specs.OnePass.{senderMark, routeKey, noKey, toldKey, advertisedKey, leastKey, egressIn, senderIn, keyRoute}
-use Rattle.activation.proofs.TableBytes.{read-via}
+use Rattle.tables.proofs.TableBytes.{read-via}
 use Rattle.routing.proofs.Preference.{prefers-order, prefers-farther, prefers-tie}
 use Rattle.routing.proofs.Routes.{hears-neighbour, hears-told, hears-way, hears-intro, ChoiceIs, choice-unique, choose-is, advertises-listed, advertises-client, advertises-reflector}
 

@@ -1,5 +1,1 @@
-pub mod TableBytes
 pub mod OnePass
-pub mod Tallied
-pub mod Applied
-pub mod Examples

@@ -5,7 +5,7 @@ use mathlib.Core.Option.{Option, none, some}
 use lib.Dec.{leb, eqb}
 use Rattle.routing.specs.Instance.{Instance, Route, nothing}
 use Rattle.routing.specs.Activation.{advertises}
-use Rattle.activation.specs.TableBytes.{readRoute}
+use Rattle.tables.specs.TableBytes.{readRoute}
 
 -- of several senders of e, "the egress router itself is the sender if it is one of them, else the lowest number"
 unfoldable pub senderMark : ℕ → ℕ → ℕ

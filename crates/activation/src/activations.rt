@@ -1,10 +1,10 @@
 // An activation on the caller's table: one pass over the neighbours of the router that may advertise a route. Each route has a key, a
 // number that orders routes by distance, then by egress, then by sender; the best has the least.
 
-use crate::table::RouteBytes;
 use bodies::distances::NO_WAY;
 use network::NO_ROUTER;
 use network::Network;
+use tables::RouteBytes;
 ghost use mathlib.Core.Path.{_≡_};
 ghost use mathlib.Core.Bool.{cond};
 ghost use mathlib.Core.List.{List};
@@ -16,7 +16,7 @@ ghost use Rattle.bodies.specs.Distances.{distanceIn};
 ghost use Rattle.routing.specs.Instance.{via};
 ghost use Rattle.routing.specs.Activation.{reflects, advertises};
 ghost use Rattle.network.specs.Decoded.{decoded, instance};
-ghost use Rattle.activation.specs.TableBytes.{RouteBelow, RoutesIn, TableIn, routeAt, routeOf, activateBytes};
+ghost use Rattle.tables.specs.TableBytes.{RouteBelow, RoutesIn, TableIn, routeAt, routeOf, activateBytes};
 ghost use Rattle.activation.specs.OnePass.{senderMark, routeKey, toldKey, leastKey, keyRoute};
 ghost use Rattle.network.specs.WellFormed.{WellFormed};
 
@@ -134,7 +134,7 @@ fn best_heard(net: Network, rows: &[u64; 64], distances: &[u8], w: usize, table:
         let v = base::bits::lowest_bit(left);
         least = lesser(
             least,
-            advertised(net, distances, w, v, crate::table::route_at(table, v)),
+            advertised(net, distances, w, v, tables::route_at(table, v)),
         );
         left = base::bits::without_lowest(left);
     }
@@ -147,7 +147,7 @@ pub fn activate(net: Network, rows: &[u64; 64], distances: &[u8], w: usize, tabl
     ensures { λ _. ⌜ now (table .exit) ≡ activateBytes (instance net (rows .entry) (distances .entry)) w (now (table .entry)) ⌝ }
 {
     if base::bits::has_bit(net.listed, w) {
-        crate::table::put_route(
+        tables::put_route(
             table,
             w,
             RouteBytes {
@@ -158,5 +158,5 @@ pub fn activate(net: Network, rows: &[u64; 64], distances: &[u8], w: usize, tabl
         return;
     }
     let best = key_route(best_heard(net, rows, distances, w, table));
-    crate::table::put_route(table, w, best);
+    tables::put_route(table, w, best);
 }

@@ -25,7 +25,7 @@ use Rattle.routing.specs.Instance.{Instance}
 use Rattle.routing.proofs.Reliance.{relies-other}
 use Rattle.settling.specs.Settled.{settledTable}
 use Rattle.settling.specs.Claims.{Ranked}
-use Rattle.activation.specs.TableBytes.{tableBytes}
+use Rattle.tables.specs.TableBytes.{tableBytes}
 use Rattle.reliance.specs.RelianceRows.{RelianceRows}
 use Rattle.assessment.specs.Assessed.{reliance, isStable, highestOf, cycleOf, Assessed}
 use Rattle.assessment.specs.declared.Assessment.the-variants.{Stable, Suspect}

@@ -14,7 +14,7 @@ use Rattle.cycles.specs.Cycle.{cycle}
 use Rattle.routing.specs.Instance.{Instance}
 use Rattle.routing.specs.Reliance.{relies}
 use Rattle.settling.specs.Settled.{settledTable}
-use Rattle.activation.specs.TableBytes.{tableBytes}
+use Rattle.tables.specs.TableBytes.{tableBytes}
 use Rattle.assessment.specs.declared.Assessment.{Assessment}
 use Rattle.assessment.specs.declared.Assessment.the-variants.{Stable, Suspect}
 

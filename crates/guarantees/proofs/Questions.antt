@@ -22,7 +22,7 @@ use Rattle.graph.specs.Groups.{together, label, stable, grouped}
 use Rattle.ranking.specs.Rank.{rankOver, rankRounds, rank}
 use Rattle.cycles.specs.Cycle.{start, next, walk, second, first, lap, cycleIn, cycle}
 use Rattle.settling.specs.Settled.{chooseAll, chosenAfter, settledTable}
-use Rattle.activation.specs.TableBytes.{readRoute, tableOf, tableBytes, activateBytes, runBytes}
+use Rattle.tables.specs.TableBytes.{readRoute, tableOf, tableBytes, activateBytes, runBytes}
 use Rattle.refusals.specs.Refusals.{sequenceOk, egressListRefusal, compareRefusal, reliesRefusal, buffersOk, verdictRefusal, tableChecks, activateRefusal, runRefusal}
 use Rattle.queries.specs.Size.{sizeRouters, sizeLists}
 use Rattle.queries.specs.EgressList.{egressListStart, egressListSize}

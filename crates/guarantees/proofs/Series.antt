@@ -25,8 +25,8 @@ use Rattle.settling.specs.Claims.{IsTable, Steady}
 use Rattle.settling.proofs.Existence.{steady-stays}
 use Rattle.settling.proofs.Settling.{settles}
 use Rattle.network.specs.FromPlan.{instanceOf}
-use Rattle.activation.specs.TableBytes.{tableOf, tableBytes, activateBytes, runBytes}
-use Rattle.activation.proofs.TableBytes.{table-length, table-front, table-bytes, run-bytes-length, run-bytes-rest, run-table}
+use Rattle.tables.specs.TableBytes.{tableOf, tableBytes, activateBytes, runBytes}
+use Rattle.tables.proofs.TableBytes.{table-length, table-front, table-bytes, run-bytes-length, run-bytes-rest, run-table}
 use Rattle.plan.specs.Refused.{unlessRefused}
 use Rattle.checker.specs.Verdict.{highestOf, settledBytes}
 use Rattle.guarantees.specs.VerdictMeaning.{rankIn}

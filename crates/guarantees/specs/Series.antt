@@ -10,7 +10,7 @@ use Rattle.plan.specs.Refusal.{planRefusal}
 use Rattle.routing.specs.Activation.{tableOk}
 use Rattle.routing.specs.Rounds.{rounds}
 use Rattle.network.specs.FromPlan.{instanceOf}
-use Rattle.activation.specs.TableBytes.{tableOf, activateBytes}
+use Rattle.tables.specs.TableBytes.{tableOf, activateBytes}
 use Rattle.plan.specs.Refused.{unlessRefused}
 use Rattle.checker.specs.Verdict.{isStable, highestOf, settledBytes}
 use Rattle.refusals.specs.Refusals.{tableChecks, activateRefusal, runRefusal}

@@ -12,7 +12,7 @@ use Rattle.plan.specs.Refusal.{refuse, bodyChecks, planChecks}
 use Rattle.network.specs.FromPlan.{pairs, inSession, named}
 use Rattle.network.specs.Examples.{threeRouters}
 use Rattle.routing.specs.Activation.{entryOk, tableOk}
-use Rattle.activation.specs.TableBytes.{readRoute, tableOf}
+use Rattle.tables.specs.TableBytes.{readRoute, tableOf}
 use Rattle.refusals.specs.Refusals.{sequenceOk, egressListRefusal, compareRefusal, reliesRefusal, buffersOk, verdictRefusal, tableChecks, activateRefusal, runRefusal}
 use Rattle.refusals.specs.Examples.{lent, broken, short, three, two, RefusalsExamples}
 

@@ -16,7 +16,7 @@ use Rattle.plan.proofs.Cascade.{call-cascade, refuse-passed}
 use Rattle.plan.proofs.Passed.{passed}
 use Rattle.routing.specs.Instance.{Instance}
 use Rattle.routing.specs.Rounds.{ActsBelow}
-use Rattle.activation.specs.TableBytes.{TableIn}
+use Rattle.tables.specs.TableBytes.{TableIn}
 use Rattle.refusals.specs.Refusals.{sequenceOk, askedChecks, egressListRefusal, compareRefusal, reliesRefusal, routerRefusal, sequenceRefusal, buffersOk, verdictRefusal, tableChecks}
 use Rattle.refusals.specs.InOrder.{InOrder}
 use Rattle.refusals.proofs.InOrder.{asked-in-order, list-in-order, compare-in-order, relies-in-order, verdict-in-order}

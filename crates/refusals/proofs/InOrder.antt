@@ -7,7 +7,7 @@ use Rattle.plan.specs.Refusal.{refuse}
 use Rattle.plan.proofs.Cascade.{plan-passes, plan-refused}
 use Rattle.routing.specs.Instance.{Instance}
 use Rattle.network.specs.FromPlan.{instanceOf}
-use Rattle.activation.specs.TableBytes.{tableRule}
+use Rattle.tables.specs.TableBytes.{tableRule}
 use Rattle.refusals.specs.Refusals.{hasList, hasRouter, sequenceOk, askedChecks, egressListRefusal, compareRefusal, reliesRefusal, buffersOk, verdictRefusal, tableLong, tableChecks, activateRefusal, runRefusal}
 use Rattle.refusals.specs.InOrder.{InOrder}
 

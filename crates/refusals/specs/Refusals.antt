@@ -10,7 +10,7 @@ use Rattle.plan.specs.EgressLists.{listCount}
 use Rattle.plan.specs.Refusal.{refuse, planChecks}
 use Rattle.routing.specs.Instance.{Instance}
 use Rattle.network.specs.FromPlan.{instanceOf}
-use Rattle.activation.specs.TableBytes.{tableRule}
+use Rattle.tables.specs.TableBytes.{tableRule}
 
 -- Row 8: "the list asked for is m or more, or a router asked for, or named in a sequence of acts, is n or more".
 abbrev pub hasList : List ℕ → ℕ → Bool

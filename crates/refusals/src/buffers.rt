@@ -54,7 +54,7 @@ pub fn table_refusal(net: Network, rows: &[u64; 64], table: &[u8]) -> u8
     if table.len() < 2 * net.n {
         return 9;
     }
-    if !activation::table::table_ok(net, rows, table) {
+    if !tables::table_ok(net, rows, table) {
         return 10;
     }
     0

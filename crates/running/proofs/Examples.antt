@@ -15,7 +15,7 @@ use Rattle.network.specs.Examples.{threeRouters}
 use Rattle.routing.specs.Preference.{prefers}
 use Rattle.routing.specs.Activation.{reflects, advertises, hears, senderOf, routeTo, choice, choose, entryOk, tableOk}
 use Rattle.routing.specs.Rounds.{acted, roundsFrom, rounds}
-use Rattle.activation.specs.TableBytes.{readRoute, tableOf, activateBytes, runBytes}
+use Rattle.tables.specs.TableBytes.{readRoute, tableOf, activateBytes, runBytes}
 use Rattle.refusals.specs.Refusals.{sequenceOk, egressListRefusal, tableChecks, activateRefusal, runRefusal}
 use Rattle.running.specs.Activate.{activateTable}
 use Rattle.running.specs.Run.{runApplied, runRounds, runExhausted, runTable}

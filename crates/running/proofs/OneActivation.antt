@@ -3,7 +3,7 @@ use Prim.Native.Nat.{ℕ}
 use mathlib.Core.Path.{_≡_, _∙_, sym}
 use mathlib.Core.List.{List}
 use Rattle.network.specs.FromPlan.{instanceOf}
-use Rattle.activation.specs.TableBytes.{activateBytes}
+use Rattle.tables.specs.TableBytes.{activateBytes}
 use Rattle.refusals.specs.Refusals.{activateRefusal}
 use Rattle.running.specs.Activate.{activateTable, Activates}
 use Rattle.plan.proofs.Refused.{when-refused, when-given}

@@ -4,8 +4,8 @@ use mathlib.Core.Path.{_≡_, _∙_, sym}
 use mathlib.Core.Bool.{false}
 use mathlib.Core.List.{List}
 use Rattle.network.specs.FromPlan.{instanceOf}
-use Rattle.activation.specs.Applied.{RunLeaves}
-use Rattle.activation.specs.declared.runs.Applied.{Applied}
+use Rattle.runs.specs.Applied.{RunLeaves}
+use Rattle.runs.specs.declared.Applied.{Applied}
 use Rattle.running.specs.declared.run.RunAnswer.{RunAnswer}
 use Rattle.refusals.specs.Refusals.{runRefusal}
 use Rattle.running.specs.Run.{runApplied, runRounds, runExhausted, runTable, Runs}

@@ -3,7 +3,7 @@ use Prim.Native.Nat.{ℕ}
 use mathlib.Core.List.{List}
 use mathlib.Core.Path.{_≡_}
 use Rattle.network.specs.FromPlan.{instanceOf}
-use Rattle.activation.specs.TableBytes.{activateBytes}
+use Rattle.tables.specs.TableBytes.{activateBytes}
 use Rattle.refusals.specs.Refusals.{activateRefusal}
 use Rattle.plan.specs.Refused.{unlessRefused}
 

@@ -8,7 +8,7 @@ use lib.ListN.{length, take}
 use Rattle.contents.specs.Header.{routerCount}
 use Rattle.routing.specs.Rounds.{rounds}
 use Rattle.network.specs.FromPlan.{instanceOf}
-use Rattle.activation.specs.TableBytes.{runBytes}
+use Rattle.tables.specs.TableBytes.{runBytes}
 use Rattle.refusals.specs.Refusals.{runRefusal}
 use Rattle.running.specs.declared.run.RunAnswer.{RunAnswer}
 use Rattle.plan.specs.Refused.{unlessRefused, field, flagField}

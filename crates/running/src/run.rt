@@ -40,7 +40,7 @@ pub fn run(plan: &[u8], list: usize, sequence: &[u8], limit: usize, table: &mut 
         return refused_run(refused);
     }
     let distances = plan::parts::part(plan, DISTANCES);
-    let done = activation::runs::apply(net, &rows, distances, sequence, limit, table);
+    let done = runs::apply(net, &rows, distances, sequence, limit, table);
     RunAnswer {
         refused: 0,
         applied: done.acts,

@@ -18,8 +18,8 @@ use Rattle.settling.specs.Settled.{settledTable}
 use Rattle.settling.specs.Claims.{Ranked}
 use Rattle.settling.proofs.Clean.{CleanEntry, choose-clean}
 use Rattle.settling.proofs.Existence.{steady-holds, settled-length, settled-legal, settled-steady, chooses-settled}
-use Rattle.activation.specs.TableBytes.{routeAt, putRoute, tableOf, tableBytes, activateBytes}
-use Rattle.activation.proofs.TableBytes.{Written, read-nothing, read-via, put-own, put-other, put-rest, table-length, table-held, table-bytes, act-own, act-other, act-rest}
+use Rattle.tables.specs.TableBytes.{routeAt, putRoute, tableOf, tableBytes, activateBytes}
+use Rattle.tables.proofs.TableBytes.{Written, read-nothing, read-via, put-own, put-other, put-rest, table-length, table-held, table-bytes, act-own, act-other, act-rest}
 use Rattle.settled.specs.ByRank.{highestIn, firstRoute, settledRoute, Started, SettledBelow}
 
 module _ (I : Instance) (v : ℕ) where

@@ -15,7 +15,7 @@ use Rattle.settling.specs.Claims.{Ranked}
 use Rattle.network.specs.Decoded.{decoded}
 use Rattle.network.specs.WellFormed.{WellFormed}
 use Rattle.network.specs.declared.Network.{Network}
-use Rattle.activation.specs.TableBytes.{routeAt}
+use Rattle.tables.specs.TableBytes.{routeAt}
 
 -- the highest of the first n bytes
 abbrev pub highestIn : List ℕ → ℕ → ℕ

@@ -1,14 +1,14 @@
 // The settled table, by activating every router once, in the order of its rank.
 
-use activation::table::RouteBytes;
 use network::NO_ROUTER;
 use network::Network;
+use tables::RouteBytes;
 ghost use mathlib.Core.Path.{_≡_};
 ghost use mathlib.Core.List.{List, _++_};
 ghost use Prim.Native.Nat.{ℕ, _+_, _*_, _≤_, _<_};
 ghost use lib.ListN.{length, drop};
 ghost use Rattle.settling.specs.Settled.{settledTable};
-ghost use Rattle.activation.specs.TableBytes.{routeOf, tableBytes};
+ghost use Rattle.tables.specs.TableBytes.{routeOf, tableBytes};
 ghost use Rattle.network.specs.Decoded.{decoded, instance};
 ghost use Rattle.settled.specs.ByRank.{firstRoute, Started, SettleAsked, highestIn, SettledBelow};
 
@@ -38,7 +38,7 @@ fn start(net: Network, table: &mut [u8])
     let n = net.n;
     let mut v = 0;
     while v < n {
-        activation::table::put_route(table, v, first_route(net, v));
+        tables::put_route(table, v, first_route(net, v));
         v += 1;
     }
 }

@@ -3,7 +3,7 @@ use native.Mathlib.Omega.{arith}
 use mathlib.Core.Path.{_∙_, sym}
 use borrow.Author.Needs.{needs}
 use Rattle.network.specs.Decoded.{decoded}
-use Rattle.activation.proofs.TableBytes.{read-nothing, read-via}
+use Rattle.tables.proofs.TableBytes.{read-nothing, read-via}
 use Rattle.settled.proofs.ByRank.{first-listed, first-unlisted}
 use Rattle.settled.proofs.first_route.Statement.{statement}
 use Rattle.settled.proofs.first_route.Tie as tie

@@ -9,7 +9,7 @@ use Rattle.base.proofs.Seek.{highest-under}
 use Rattle.ranking.specs.Rank.{entry}
 use Rattle.settling.specs.Settled.{settledTable}
 use Rattle.network.specs.Decoded.{decoded}
-use Rattle.activation.specs.TableBytes.{tableBytes}
+use Rattle.tables.specs.TableBytes.{tableBytes}
 use Rattle.settled.specs.ByRank.{SettledBelow}
 use Rattle.settled.proofs.ByRank.{below-start, below-here, below-onward, below-done}
 use Rattle.settled.proofs.settle.Statement.{statement}

@@ -4,9 +4,9 @@ use borrow.Author.Needs.{needs}
 use borrow.Author.Tests.{eqb-true}
 use Rattle.routing.specs.Instance.{Instance}
 use Rattle.network.specs.Decoded.{decoded}
-use Rattle.activation.specs.TableBytes.{RoutesIn, routeAt, putRoute, activateBytes}
+use Rattle.tables.specs.TableBytes.{RoutesIn, routeAt, putRoute, activateBytes}
 use Rattle.routing.proofs.Routes.{choose-listed}
-use Rattle.activation.proofs.TableBytes.{read-via, table-below}
+use Rattle.tables.proofs.TableBytes.{read-via, table-below}
 use Rattle.activation.specs.OnePass.{keyRoute}
 use Rattle.activation.proofs.OnePass.{distance-below, least-choice}
 use Rattle.activation.proofs.activations.activate.Statement.{statement}

@@ -5,7 +5,7 @@ use borrow.Author.Needs.{needs}
 use Rattle.routing.specs.Instance.{Instance, Route}
 use Rattle.routing.specs.Activation.{advertises}
 use Rattle.network.specs.Decoded.{decoded}
-use Rattle.activation.specs.TableBytes.{routeAt}
+use Rattle.tables.specs.TableBytes.{routeAt}
 use Rattle.activation.specs.OnePass.{toldKey}
 use Rattle.activation.proofs.MayAdvertise.{Hearing, hearing-start, hearing-below, hearing-kind, hearing-more, hearing-done}
 use Rattle.activation.proofs.activations.best_heard.Statement.{statement}

@@ -1,7 +1,7 @@
 use native.Mathlib.Omega.{arith}
 use mathlib.Core.Path.{_∙_, sym}
 use borrow.Author.Needs.{needs}
-use Rattle.activation.proofs.TableBytes.{read-nothing}
+use Rattle.tables.proofs.TableBytes.{read-nothing}
 use Rattle.activation.proofs.OnePass.{key-none, key-itself, key-other}
 use Rattle.activation.proofs.activations.key_route.Statement.{statement}
 use Rattle.activation.proofs.activations.key_route.Tie as tie

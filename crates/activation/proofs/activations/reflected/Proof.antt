@@ -9,9 +9,9 @@ use Rattle.routing.specs.Instance.{Instance, via}
 use Rattle.routing.specs.Activation.{reflects}
 use Rattle.routing.proofs.Routes.{reflects-nothing}
 use Rattle.network.specs.Decoded.{decoded}
-use Rattle.activation.specs.TableBytes.{routeOf}
+use Rattle.tables.specs.TableBytes.{routeOf}
 use Rattle.activation.specs.OnePass.{toldKey}
-use Rattle.activation.proofs.TableBytes.{read-via}
+use Rattle.tables.proofs.TableBytes.{read-via}
 use Rattle.activation.proofs.OnePass.{told-nothing, told-egress, route-none, route-some}
 use Rattle.activation.proofs.activations.reflected.Statement.{statement}
 use Rattle.activation.proofs.activations.reflected.Tie as tie

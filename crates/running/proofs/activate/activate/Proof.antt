@@ -6,7 +6,7 @@ use Rattle.contents.specs.Contents.{distancesBody}
 use Rattle.network.specs.Decoded.{decoded}
 use Rattle.network.specs.FromPlan.{instanceOf}
 use Rattle.network.proofs.FromPlan.{well-formed}
-use Rattle.activation.specs.TableBytes.{activateBytes}
+use Rattle.tables.specs.TableBytes.{activateBytes}
 use Rattle.refusals.specs.Refusals.{routerRefusal, tableChecks, activateRefusal}
 use Rattle.refusals.proofs.Granted.{asked-refused, asked-passed, RouterAsked, router-asked, table-asked}
 use Rattle.running.proofs.OneActivation.{activates-not, activates-so}
