@@ -10,9 +10,9 @@ use Rattle.bodies.specs.Sessions.{sessionOk, sessionsOk}
 use Rattle.bodies.specs.Distances.{distancesOk}
 use Rattle.bodies.specs.Lists.{listPlace, memberOk, listAtOk, listOk, eachListOk, listsOk}
 use Rattle.plan.specs.Refusal.{refuse, bodyChecks, planChecks, planRefusal}
-use Rattle.links.specs.Sheet.{linkOk, sheetOk}
-use Rattle.links.specs.Sums.{direct, summing}
-use Rattle.links.specs.Distances.{sumsOk, distancesRefusal, rowOf, bodyOf, distancesBody, distancesAfter}
+use Rattle.sheets.specs.Sheet.{linkOk, sheetOk}
+use Rattle.sheets.specs.Sums.{direct, summing}
+use Rattle.sheets.specs.Distances.{sumsOk, distancesRefusal, rowOf, bodyOf, distancesBody, distancesAfter}
 use Rattle.network.specs.FromPlan.{pairs, inSession, named}
 use Rattle.routing.specs.Preference.{prefers, better}
 use Rattle.routing.specs.Reliance.{listedClientOf, bestClient, offer, betterOffer, relies}

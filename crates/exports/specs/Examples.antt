@@ -3,7 +3,7 @@ use Prim.Native.Nat.{ℕ}
 use mathlib.Core.Path.{_≡_}
 use mathlib.Core.List.{List, [], _∷_}
 use Rattle.base.specs.Lent.{Lent}
-use Rattle.links.specs.Distances.{DistancesCall}
+use Rattle.sheets.specs.Distances.{DistancesCall}
 use Rattle.running.specs.Activate.{Activates}
 use Rattle.exports.specs.Exports.{SizeExport, ListExport, CompareExport, ReliesExport, VerdictExport, RunExport}
 

@@ -1,12 +1,1 @@
-pub mod Examples
-pub mod LeastSums
-pub mod KindThree
-pub mod Words
-pub mod Facts
-pub mod NearWords
-pub mod Reached
-pub mod InOrder
-pub mod Loops
-pub mod Returns
-pub mod SheetSizeExamples
-pub mod Meaning
+pub mod Written

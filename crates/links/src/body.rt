@@ -4,8 +4,8 @@ ghost use mathlib.Core.Path.{_≡_};
 ghost use mathlib.Core.List.{_++_};
 ghost use Prim.Native.Nat.{_+_, _*_, _≤_, _<_};
 ghost use lib.ListN.{length, take, drop};
-ghost use Rattle.links.specs.Distances.{rowOf, bodyOf};
-ghost use Rattle.links.specs.Words.{wordAt};
+ghost use Rattle.sheets.specs.Distances.{rowOf, bodyOf};
+ghost use Rattle.lowering.specs.Lowered.{wordAt};
 
 // Writes row u from `at` on, each word in two bytes, low byte first.
 fn write_row(words: &[u16], n: usize, u: usize, out: &mut [u8], at: usize)

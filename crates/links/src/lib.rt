@@ -1,18 +1,15 @@
 // Distances from a sheet of weighted links: the body of kind 3 for a plan.
 
 mod body;
-mod fits;
-mod sheet;
-mod sums;
 
 ghost use mathlib.Core.Path.{_≡_};
 ghost use mathlib.Core.Bool.{true};
 ghost use Prim.Native.Nat.{_≤_};
 ghost use Rattle.contents.specs.Header.{routerCountOk};
-ghost use Rattle.links.specs.Sheet.{sheetOk};
-ghost use Rattle.links.specs.Sums.{nowhere};
-ghost use Rattle.links.specs.Words.{Holds};
-ghost use Rattle.links.specs.Distances.{DistancesCall};
+ghost use Rattle.sheets.specs.Sheet.{sheetOk};
+ghost use Rattle.sheets.specs.Sums.{nowhere};
+ghost use Rattle.sums.specs.Words.{Holds};
+ghost use Rattle.sheets.specs.Distances.{DistancesCall};
 
 // The call for a number of routers and links that pass. The least sums are worked out in `words`.
 fn least_body(n: usize, links: &[u8], words: &mut [u16], out: &mut [u8]) -> u8
@@ -20,7 +17,7 @@ fn least_body(n: usize, links: &[u8], words: &mut [u16], out: &mut [u8]) -> u8
     ensures { λ r. ⌜ DistancesCall n (now (links .entry)) r (now (out .entry)) (now (out .exit)) ⌝ }
 {
     sums::least_sums(links, n, words);
-    if !fits::sums_fit(links, n, words) {
+    if !fitting::sums_fit(links, n, words) {
         return 12;
     }
     if out.len() < 2 * (n * n) {
@@ -41,14 +38,14 @@ pub fn distances(n: usize, links: &[u8], out: &mut [u8]) -> u8
     if 64 < n {
         return 2;
     }
-    if !sheet::sheet_ok(links, n as u8) {
+    if !link_sheet::sheet_ok(links, n as u8) {
         return 11;
     }
     // a smaller table is filled sooner
     if n <= 8 {
-        let mut few = [sums::FAR; 512];
+        let mut few = [lowering::FAR; 512];
         return least_body(n, links, &mut few, out);
     }
-    let mut words = [sums::FAR; 4096];
+    let mut words = [lowering::FAR; 4096];
     least_body(n, links, &mut words, out)
 }

@@ -8,7 +8,7 @@ ghost use mathlib.Core.Path.{_≡_};
 ghost use Rattle.base.specs.Lent.{lent};
 ghost use Rattle.plan.specs.Refusal.{planRefusal};
 ghost use Rattle.running.specs.Activate.{Activates};
-ghost use Rattle.links.specs.Distances.{DistancesCall};
+ghost use Rattle.sheets.specs.Distances.{DistancesCall};
 ghost use Rattle.exports.specs.Exports.{SizeExport, ListExport, CompareExport, ReliesExport, VerdictExport, RunExport};
 
 #[no_mangle]

@@ -5,9 +5,9 @@ use mathlib.Core.Bool.{true, false}
 use borrow.Author.Needs.{needs}
 use Rattle.base.proofs.Numbers.{tests, yes, no}
 use Rattle.contents.specs.Header.{routerCountOk}
-use Rattle.links.specs.Sheet.{sheetOk}
-use Rattle.links.proofs.Words.{no-walks}
-use Rattle.links.proofs.Returns.{count-refused, sheet-refused}
+use Rattle.sheets.specs.Sheet.{sheetOk}
+use Rattle.sums.proofs.Words.{no-walks}
+use Rattle.sheets.proofs.Returns.{count-refused, sheet-refused}
 use Rattle.links.proofs.distances.Statement.{statement}
 use Rattle.links.proofs.distances.Tie as tie
 

@@ -6,10 +6,10 @@ use mathlib.Core.Bool.{true}
 use borrow.Author.Needs.{needs}
 use borrow.Author.Tests.{le-leb, lt-leb}
 use Rattle.base.proofs.Numbers.{yes, no, square-le}
-use Rattle.links.specs.Sums.{cell, leastSums}
-use Rattle.links.specs.Distances.{sumsOk}
-use Rattle.links.proofs.Words.{words-body}
-use Rattle.links.proofs.Returns.{sums-refused, room-refused, call-made}
+use Rattle.sheets.specs.Sums.{cell, leastSums}
+use Rattle.sheets.specs.Distances.{sumsOk}
+use Rattle.links.proofs.Written.{words-body}
+use Rattle.sheets.proofs.Returns.{sums-refused, room-refused, call-made}
 use Rattle.links.proofs.least_body.Statement.{statement}
 use Rattle.links.proofs.least_body.Tie as tie
 

@@ -4,10 +4,10 @@ use native.Mathlib.Nat.{zero-add, mul-assoc}
 use native.Mathlib.Omega.{arith}
 use borrow.Author.Needs.{needs}
 use lib.ListN.{length}
-use Rattle.links.specs.Distances.{rowOf, bodyOf}
-use Rattle.links.specs.Words.{wordAt}
+use Rattle.sheets.specs.Distances.{rowOf, bodyOf}
+use Rattle.lowering.specs.Lowered.{wordAt}
 use Rattle.base.proofs.Joined.{Joining, join-start, join-length, join-room, join-more, join-done}
-use Rattle.links.proofs.KindThree.{length-row}
+use Rattle.sheets.proofs.KindThree.{length-row}
 use Rattle.links.proofs.body.write_body.Statement.{statement}
 use Rattle.links.proofs.body.write_body.Tie as tie
 

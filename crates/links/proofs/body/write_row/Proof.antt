@@ -4,8 +4,8 @@ use native.Mathlib.Omega.{arith}
 use mathlib.Core.Path.{refl}
 use borrow.Author.Needs.{needs}
 use lib.ListN.{length, length-set}
-use Rattle.links.specs.Distances.{wordOf, rowOf}
-use Rattle.links.specs.Words.{wordAt}
+use Rattle.sheets.specs.Distances.{wordOf, rowOf}
+use Rattle.lowering.specs.Lowered.{wordAt}
 use Rattle.base.proofs.Joined.{Joining, join-start, join-length, join-room, join-more, join-done, two-set}
 use Rattle.links.proofs.body.write_row.Statement.{statement}
 use Rattle.links.proofs.body.write_row.Tie as tie

@@ -1,8 +1,0 @@
-pub mod Sheet
-pub mod Walks
-pub mod Sums
-pub mod Words
-pub mod Distances
-pub mod Passed
-pub mod Examples
-pub mod SheetSizeExamples

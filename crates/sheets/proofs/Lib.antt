@@ -1,0 +1,9 @@
+pub mod Examples
+pub mod LeastSums
+pub mod KindThree
+pub mod Facts
+pub mod InOrder
+pub mod Loops
+pub mod Returns
+pub mod SheetSizeExamples
+pub mod Meaning
