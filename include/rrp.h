@@ -92,8 +92,12 @@ uint8_t rrp_list(const uint8_t *plan, size_t plan_len, size_t list, uint64_t *st
 
 /* Compares two egress routers at a router: *better is 1 if the first is better, 2 if the second is, 0 if neither is. The better
  * one is nearer to the router or, if both are as near, has the lower number. One that the router has a way to is better than one
- * that it has none to. Neither is better if they are the same, or if the router has no way to either. Refusals 1 to 8. */
-uint8_t rrp_compare(const uint8_t *plan, size_t plan_len, size_t router, size_t first, size_t second, uint8_t *better);
+ * that it has none to. Neither is better if they are the same, or if the router has no way to either.
+ * *has_margin is 1 if the router has a way to both, else 0. *margin is then the distance to the first minus the distance to the
+ * second, from -65,534 to 65,534. Below 0 the first is nearer, above 0 the second; at 0 both are as near, and the lower number
+ * decides, or they are the same. Without a margin *margin is 0. Refusals 1 to 8. */
+uint8_t rrp_compare(const uint8_t *plan, size_t plan_len, size_t router, size_t first, size_t second, uint8_t *better,
+                    uint8_t *has_margin, int64_t *margin);
 
 /* Says whether a router relies on another for a list: *relies is 1 if it does, else 0. Refusals 1 to 8. */
 uint8_t rrp_relies(const uint8_t *plan, size_t plan_len, size_t list, size_t router, size_t other, uint8_t *relies);

@@ -1,9 +1,10 @@
 #!/usr/bin/env bash
-# Builds the library for C and runs what embeds it: the header as C and as C++, the C example, the second checker held against the library, the program
+# Builds the library for C and runs what embeds it: the header as C and as C++, the C examples, the second checker held against the library, the program
 # that measures the stack.
-# Also holds the yardsticks of the bench, the expected lines of `cases` and the verdict program against the second checker, and builds the bench.
+# Also holds the yardsticks of the bench, the expected lines of `cases`, the verdict and the margin program against the second checker, and builds the bench.
 # usage: tests/run-embedding.sh [SEED]        (needs rt, gcc, g++ and cargo)
 set -uo pipefail
+shopt -s nullglob
 cd "$(dirname "$0")/.."
 seed=${1:-4456}
 plans=20000
@@ -38,26 +39,42 @@ refuses_cut_plan() {
     [ "$("$out/verdicts" "$out/cut.plan")" = "refused 1" ]
 }
 
-# The texts that the verdict program is held to on stored inputs are those of the second checker.
-stored_texts() {
-    local plan
-    for plan in tests/verdict/*.plan; do
-        writes "${plan%.plan}.expected" second verdict <"$plan" || return 1
-    done
+# Which of two egress routers the C example calls better, and by how much; or the refusal.
+compares() {
+    local m3=examples/m3.plan cut=tests/verdict/no-way-from-0-to-3.plan
+    [ "$("$out/compare" "$m3" 0 3 2)" = "first -4" ] && [ "$("$out/compare" "$m3" 0 2 3)" = "second 4" ] &&
+        [ "$("$out/compare" "$m3" 0 2 2)" = "neither 0" ] && [ "$("$out/compare" "$cut" 0 2 3)" = "first none" ] &&
+        [ "$("$out/compare" "$m3" 0 2 4)" = "refused 8" ]
 }
 
-# The verdict program prints for each random plan what the second checker expects.
-verdict_agrees() {
-    rm -rf "$out/plans"
-    mkdir -p "$out/plans"
-    second write "$out/plans" --seed "$seed" --plans 300 >/dev/null || return 1
-    local count=0 plan
-    for plan in "$out"/plans/*.plan; do
-        target/bin/verdict <"$plan" | cmp -s - "${plan%.plan}.expected" || { echo "embedding: $plan differs"; return 1; }
+# A program reads on where its input comes in parts.
+reads_in_parts() {
+    local m3=examples/m3.plan
+    [ "$( (printf '\0\3' && sleep 0.2 && printf '\2' && sleep 0.2 && cat "$m3") | target/bin/margin)" = "-4" ] &&
+        (head -c 30 "$m3" && sleep 0.2 && tail -c +31 "$m3") | target/bin/verdict | cmp - examples/m3.verdicts
+}
+
+# The texts that a program is held to on stored inputs are those of the second checker.
+stored_texts() {
+    local program=$1 input count=0
+    for input in "tests/$program"/*.plan "tests/$program"/*.input; do
+        writes "${input%.*}.expected" second "$program" <"$input" || return 1
         count=$((count + 1))
     done
-    echo "embedding: $count plans printed as expected"
     [ "$count" -gt 0 ]
+}
+
+# A program prints for each random input what the second checker expects, which writes the inputs by the command given.
+agrees() {
+    local program=$1 command=$2 inputs=$out/$1 count=0 input
+    rm -rf "$inputs"
+    second "$command" "$inputs" --seed "$seed" --plans 300 >/dev/null || return 1
+    for input in "$inputs"/*.plan "$inputs"/*.input; do
+        "target/bin/$program" <"$input" | cmp -s - "${input%.*}.expected" || { echo "embedding: $input differs"; return 1; }
+        count=$((count + 1))
+    done
+    echo "embedding: $program: $count inputs printed as expected"
+    [ "$count" -eq 300 ]
 }
 
 # No call is refused, and so none goes unmeasured, on the plan with the highest rank.
@@ -79,13 +96,15 @@ second() {
 }
 
 mkdir -p "$out"
-rm -f "$out/verdicts" "$out/stack"
+rm -f "$out/verdicts" "$out/compare" "$out/stack"
 try "the library" rt staticlib rrp
 try "the header as C99" gcc -std=c99 -pedantic -Wall -Wextra -Werror -Iinclude -fsyntax-only -x c include/rrp.h
 try "the header as C++" g++ -std=c++11 -pedantic -Wall -Wextra -Werror -Iinclude -fsyntax-only -x c++ include/rrp.h
 try "the C example" gcc -std=c11 -Wall -Wextra -Werror -O2 -Iinclude examples/verdicts.c -L"$archive" -lrrp -o "$out/verdicts"
 try "the C example's verdicts" writes examples/m3.verdicts "$out/verdicts" examples/m3.plan
 try "the C example's refusal" refuses_cut_plan
+try "the C example of a comparison" gcc -std=c11 -Wall -Wextra -Werror -O2 -Iinclude examples/compare.c -L"$archive" -lrrp -o "$out/compare"
+try "the C example's margins" compares
 try "the second checker alone" second self
 try "the library against the second checker" second --seed "$seed" --plans "$plans"
 try "the yardstick plain against the second checker" second --against plain --seed "$seed" --plans 2000
@@ -95,9 +114,13 @@ try "the bench program" linked build --bin bench
 try "the stack program" gcc -std=gnu11 -Wall -Wextra -Werror -O2 -Iinclude tests/stack.c -L"$archive" -lrrp -o "$out/stack"
 try "the stack of each call on the deepest plan" measures_deepest
 
-try "the stored texts of the verdict program from the second checker" stored_texts
+try "the stored texts of the verdict program from the second checker" stored_texts verdict
 try "the verdict program" rt check verdict
-try "the verdict program against the second checker" verdict_agrees
+try "the verdict program against the second checker" agrees verdict write
+try "the stored texts of the margin program from the second checker" stored_texts margin
+try "the margin program" rt check margin
+try "the margin program against the second checker" agrees margin ask
+try "the programs on inputs that come in parts" reads_in_parts
 
 echo "embedding: $passed passed, $failed failed"
 [ "$failed" -eq 0 ]

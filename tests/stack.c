@@ -19,14 +19,15 @@ static size_t length, router, other;
 static uint8_t labels[RRP_MAX_ROUTERS], ranks[RRP_MAX_ROUTERS], settled[RRP_MAX_TABLE], cycle[RRP_MAX_ROUTERS];
 static uint8_t table[RRP_MAX_TABLE], sequence[ACTIVATIONS];
 static uint8_t links[4 * LINKS], body[2 * RRP_MAX_ROUTERS * RRP_MAX_ROUTERS];
-static uint8_t refused, better, relied, stable, exhausted;
+static uint8_t refused, better, has_margin, relied, stable, exhausted;
 static uint64_t routers, lists, start, count, found, applied, rounds;
+static int64_t margin;
 
 static void nothing(void) {}
 static void check(void) { refused = rrp_check(plan, length); }
 static void plan_size(void) { refused = rrp_size(plan, length, &routers, &lists); }
 static void list(void) { refused = rrp_list(plan, length, 0, &start, &count); }
-static void compare(void) { refused = rrp_compare(plan, length, router, router, other, &better); }
+static void compare(void) { refused = rrp_compare(plan, length, router, router, other, &better, &has_margin, &margin); }
 static void relies(void) { refused = rrp_relies(plan, length, 0, router, other, &relied); }
 static void verdict(void)
 {

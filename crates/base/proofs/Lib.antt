@@ -9,3 +9,4 @@ pub mod BitLaws
 pub mod SetBits
 pub mod BitWalk
 pub mod BitSeek
+pub mod Differences

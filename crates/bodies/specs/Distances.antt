@@ -10,9 +10,13 @@ use Rattle.base.specs.Bytes.{littleEndian}
 abbrev pub distanceIn : List ℕ → ℕ → ℕ → ℕ → ℕ
 distanceIn s n u e = littleEndian 2 s (2 * (u * n + e))
 
--- "The distance 65,535 off the diagonal now means 'no way'": u has a way to e
+-- "The distance 65,535 off the diagonal now means 'no way'"
+abbrev pub isWay : ℕ → Bool
+isWay distance = not (eqb distance 65535)
+
+-- u has a way to e
 abbrev pub wayIn : List ℕ → ℕ → ℕ → ℕ → Bool
-wayIn s n u e = not (eqb (distanceIn s n u e) 65535)
+wayIn s n u e = isWay (distanceIn s n u e)
 
 -- "The diagonal is 0."
 abbrev pub diagonalOk : List ℕ → ℕ → ℕ → Bool

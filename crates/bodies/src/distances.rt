@@ -3,7 +3,7 @@
 ghost use mathlib.Core.Path.{_≡_};
 ghost use Prim.Native.Nat.{_*_, _≤_, _<_};
 ghost use lib.ListN.{length};
-ghost use Rattle.bodies.specs.Distances.{distanceIn, wayIn, diagonalOk, distancesOk};
+ghost use Rattle.bodies.specs.Distances.{distanceIn, isWay, wayIn, diagonalOk, distancesOk};
 
 // The distance that stands for no way.
 pub const NO_WAY: usize = 65535;
@@ -16,12 +16,19 @@ pub fn distance(s: &[u8], n: usize, u: usize, e: usize) -> usize
     base::read2(s, 2 * (u * n + e))
 }
 
+// Whether a distance is one of a way.
+pub fn is_way(distance: usize) -> bool
+    ensures { λ r. ⌜ r ≡ isWay distance ⌝ }
+{
+    distance != NO_WAY
+}
+
 // Whether u has a way to e.
 pub fn has_way(s: &[u8], n: usize, u: usize, e: usize) -> bool
     requires { ⌜ (u < n) × (e < n) × (n ≤ 64) × (2 * (n * n) ≤ length (now s)) ⌝ }
     ensures { λ r. ⌜ r ≡ wayIn (now (s .entry)) n u e ⌝ }
 {
-    distance(s, n, u, e) != NO_WAY
+    is_way(distance(s, n, u, e))
 }
 
 // Whether the distance of u to itself is 0.

@@ -3,6 +3,8 @@
 use crate::text;
 use base::wide;
 use checker::compare::CompareAnswer;
+use checker::compare::Margin;
+use checker::compare::Preferred;
 use checker::relies::ReliesAnswer;
 use checker::verdict::VerdictAnswer;
 ghost use Prim.Native.Nat.{_≤_};
@@ -19,13 +21,33 @@ pub fn egress_list(plan: &[u8], list: usize) {
     text::numbers(numbers);
 }
 
+fn better(preferred: Preferred) {
+    match preferred {
+        Preferred::First => text::word(b"first"),
+        Preferred::Second => text::word(b"second"),
+        Preferred::Neither => text::word(b"neither"),
+    }
+}
+
+fn apart(margin: Margin) {
+    match margin {
+        Margin::Absent => text::word(b"none"),
+        Margin::Of(difference) => text::signed(difference),
+    }
+}
+
+// Which is better, then the word `margin` and the margin.
+fn compared(preferred: Preferred, margin: Margin) {
+    better(preferred);
+    text::word(b"margin");
+    apart(margin);
+}
+
 pub fn compare(plan: &[u8], router: usize, first: usize, second: usize) {
     let answer = checker::compare::compare(plan, router, first, second);
     match answer {
         CompareAnswer::Refused(number) => text::number(wide(number)),
-        CompareAnswer::First => text::word(b"first"),
-        CompareAnswer::Second => text::word(b"second"),
-        CompareAnswer::Neither => text::word(b"neither"),
+        CompareAnswer::Compared(preferred, margin) => compared(preferred, margin),
     }
 }
 

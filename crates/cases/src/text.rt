@@ -16,6 +16,13 @@ pub fn number(x: usize) {
     io::print_decimal(1, x as u64);
 }
 
+// A number that may be below 0, with its sign.
+pub fn signed(x: i64) {
+    let mut digits = [0u8; 21];
+    let size = fields::put_signed(&mut digits, 0, x);
+    word(&digits[0..size]);
+}
+
 pub fn line_end() {
     io::write_all(1, b"\n");
 }

@@ -14,7 +14,7 @@ use Rattle.sheets.specs.Sheet.{linkOk, sheetOk}
 use Rattle.sheets.specs.Sums.{direct, summing}
 use Rattle.sheets.specs.Distances.{sumsOk, distancesRefusal, rowOf, bodyOf, distancesBody, distancesAfter}
 use Rattle.network.specs.FromPlan.{pairs, inSession, named}
-use Rattle.routing.specs.Preference.{prefers, better}
+use Rattle.routing.specs.Preference.{prefers, better, marginOf}
 use Rattle.routing.specs.Reliance.{listedClientOf, bestClient, offer, betterOffer, relies}
 use Rattle.routing.specs.Activation.{reflects, advertises, hears, senderOf, routeTo, choice, choose, entryOk, tableOk}
 use Rattle.routing.specs.Rounds.{acted, roundsFrom, rounds}
@@ -26,21 +26,21 @@ use Rattle.settling.specs.Settled.{chooseAll, chosenAfter, settledTable}
 use Rattle.tables.specs.TableBytes.{readRoute, tableOf, tableBytes, activateBytes, runBytes}
 use Rattle.refusals.specs.Refusals.{egressListRefusal, compareRefusal, reliesRefusal, buffersOk, verdictRefusal}
 use Rattle.refusals.specs.Refusals.{tableChecks, sequenceOk, activateRefusal, runRefusal}
-use Rattle.queries.specs.Compare.{whichBetter}
+use Rattle.queries.specs.Compare.{whichBetter, hasMargin, marginNumber}
 use Rattle.running.specs.Activate.{activateTable}
 use Rattle.checker.specs.Verdict.{isStable, labelsOf, ranksOf, highestOf, settledBytes, cycleOf, sizeOf}
 use Rattle.checker.specs.Verdict.{labelsAfter, ranksAfter, tableAfter, cycleAfter}
 use Rattle.running.specs.Run.{runApplied, runRounds, runExhausted, runTable}
-use Rattle.exports.specs.Examples.{plan, ExportExamples}
+use Rattle.exports.specs.Examples.{plan, twoRouters, ExportExamples}
 
 pub export-examples : ExportExamples
 unfolding
-    plan egressListRefusal compareRefusal reliesRefusal whichBetter
+    plan twoRouters egressListRefusal compareRefusal reliesRefusal whichBetter hasMargin marginNumber
     isStable labelsOf ranksOf highestOf settledBytes cycleOf sizeOf buffersOk verdictRefusal labelsAfter ranksAfter tableAfter cycleAfter
     tableChecks sequenceOk activateRefusal activateTable runRefusal runApplied runRounds runExhausted runTable
     readRoute tableOf tableBytes activateBytes runBytes chooseAll chosenAfter settledTable start next walk second first lap cycleIn cycle
     rankOver rankRounds rank together label stable grouped closing acted roundsFrom rounds
-    reflects advertises hears senderOf routeTo choice choose entryOk tableOk listedClientOf bestClient offer betterOffer relies prefers better
+    reflects advertises hears senderOf routeTo choice choose entryOk tableOk listedClientOf bestClient offer betterOffer relies prefers better marginOf
     pairs inSession named refuse bodyChecks planChecks planRefusal
     headerOk routerCountOk kindsOk placesOk sizesOk contentsOk routerOk routersOk sessionOk sessionsOk distancesOk
     linkOk sheetOk direct summing sumsOk distancesRefusal rowOf bodyOf distancesBody distancesAfter joined
@@ -50,14 +50,15 @@ export-examples =
       sized = λ r n m e. (e .number, e .routers-are, e .lists-are);
       firstList = λ r s c e. (e .number, e .started, e .counted);
       secondList = λ r s c e. (e .number, e .started, e .counted);
-      firstBetter = λ r b e. (e .number, e .compared);
-      secondBetter = λ r b e. (e .number, e .compared);
-      neitherBetter = λ r b e. (e .number, e .compared);
+      firstBetter = λ r b p m e. (e .number, e .compared, e .flagged, e .measured);
+      secondBetter = λ r b p m e. (e .number, e .compared, e .flagged, e .measured);
+      neitherBetter = λ r b p m e. (e .number, e .compared, e .flagged, e .measured);
+      noMargin = λ r b p m e. (e .number, e .compared, e .flagged, e .measured);
       relies = λ r v e. (e .number, e .answered);
       reliesNot = λ r v e. (e .number, e .answered);
       refusedSize = λ r n m e. (e .number, e .routers-are, e .lists-are);
       refusedList = λ r s c e. (e .number, e .started, e .counted);
-      refusedCompare = λ r b e. (e .number, e .compared);
+      refusedCompare = λ r b p m e. (e .number, e .compared, e .flagged, e .measured);
       refusedRelies = λ r v e. (e .number, e .answered);
       suspect = λ r l k t c v s e. (e .numbered, e .judged, e .sized, e .labelled, e .ranked, e .settled, e .cycled);
       stable = λ r l k t c v s e. (e .numbered, e .judged, e .sized, e .labelled, e .ranked, e .settled, e .cycled);

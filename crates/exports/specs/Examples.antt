@@ -2,6 +2,7 @@
 use Prim.Native.Nat.{ℕ}
 use mathlib.Core.Path.{_≡_}
 use mathlib.Core.List.{List, [], _∷_}
+use lib.IntN.{ℤ, pos, negℤ}
 use Rattle.base.specs.Lent.{Lent}
 use Rattle.sheets.specs.Distances.{DistancesCall}
 use Rattle.running.specs.Activate.{Activates}
@@ -26,6 +27,21 @@ plan =
     ∷ 30 ∷ 0 ∷ 30 ∷ 0 ∷ 0 ∷ 0 ∷ 30 ∷ 0
     ∷ 30 ∷ 0 ∷ 30 ∷ 0 ∷ 30 ∷ 0 ∷ 0 ∷ 0
     ∷ 3 ∷ 2 ∷ 2 ∷ 3 ∷ 1 ∷ 3 ∷ 1 ∷ 0  -- m; count and numbers of each list
+    ∷ []
+
+-- two clients without a session; no way from 0 to 1, and back it is 7
+unfoldable pub twoRouters : List ℕ
+twoRouters =
+    82 ∷ 82 ∷ 80 ∷ 49 ∷ 2 ∷ 4
+    ∷ 1 ∷ 26 ∷ 0 ∷ 10 ∷ 0
+    ∷ 2 ∷ 36 ∷ 0 ∷ 0 ∷ 0
+    ∷ 3 ∷ 36 ∷ 0 ∷ 8 ∷ 0
+    ∷ 4 ∷ 44 ∷ 0 ∷ 3 ∷ 0
+    ∷ 2 ∷ 10 ∷ 0 ∷ 0 ∷ 0
+    ∷ 2 ∷ 20 ∷ 0 ∷ 0 ∷ 0
+    ∷ 0 ∷ 0 ∷ 255 ∷ 255
+    ∷ 7 ∷ 0 ∷ 0 ∷ 0
+    ∷ 1 ∷ 1 ∷ 1
     ∷ []
 
 -- a buffer that holds `before` when it is lent and `after` when the call returns
@@ -64,9 +80,15 @@ pub record ExportExamples : Type 0 where
   pub secondList : (r : ℕ) (start count : Lent ℕ) → ListExport plan 1 r start count
       → (r ≡ 0) × (start .after ≡ 89) × (count .after ≡ 1)
   -- from router 0 it is 6 to router 3 and 10 to router 2
-  pub firstBetter : (r : ℕ) (better : Lent ℕ) → CompareExport plan 0 3 2 r better → (r ≡ 0) × (better .after ≡ 1)
-  pub secondBetter : (r : ℕ) (better : Lent ℕ) → CompareExport plan 0 2 3 r better → (r ≡ 0) × (better .after ≡ 2)
-  pub neitherBetter : (r : ℕ) (better : Lent ℕ) → CompareExport plan 0 3 3 r better → (r ≡ 0) × (better .after ≡ 0)
+  pub firstBetter : (r : ℕ) (better present : Lent ℕ) (margin : Lent ℤ) → CompareExport plan 0 3 2 r better present margin
+      → (r ≡ 0) × (better .after ≡ 1) × (present .after ≡ 1) × (margin .after ≡ negℤ (pos 4))
+  pub secondBetter : (r : ℕ) (better present : Lent ℕ) (margin : Lent ℤ) → CompareExport plan 0 2 3 r better present margin
+      → (r ≡ 0) × (better .after ≡ 2) × (present .after ≡ 1) × (margin .after ≡ pos 4)
+  pub neitherBetter : (r : ℕ) (better present : Lent ℕ) (margin : Lent ℤ) → CompareExport plan 0 3 3 r better present margin
+      → (r ≡ 0) × (better .after ≡ 0) × (present .after ≡ 1) × (margin .after ≡ pos 0)
+  -- router 0 has a way to itself and none to router 1
+  pub noMargin : (r : ℕ) (better present : Lent ℕ) (margin : Lent ℤ) → CompareExport twoRouters 0 0 1 r better present margin
+      → (r ≡ 0) × (better .after ≡ 1) × (present .after ≡ 0) × (margin .after ≡ pos 0)
   -- for list 2,3 reflector 0 relies on its client 2, and 2, which is listed, on no one
   pub relies : (r : ℕ) (relied : Lent ℕ) → ReliesExport plan 0 0 2 r relied → (r ≡ 0) × (relied .after ≡ 1)
   pub reliesNot : (r : ℕ) (relied : Lent ℕ) → ReliesExport plan 0 2 0 r relied → (r ≡ 0) × (relied .after ≡ 0)
@@ -75,7 +97,8 @@ pub record ExportExamples : Type 0 where
       → (r ≡ 1) × (routers .after ≡ routers .before) × (lists .after ≡ lists .before)
   pub refusedList : (r : ℕ) (start count : Lent ℕ) → ListExport plan 3 r start count
       → (r ≡ 8) × (start .after ≡ start .before) × (count .after ≡ count .before)
-  pub refusedCompare : (r : ℕ) (better : Lent ℕ) → CompareExport plan 0 2 4 r better → (r ≡ 8) × (better .after ≡ better .before)
+  pub refusedCompare : (r : ℕ) (better present : Lent ℕ) (margin : Lent ℤ) → CompareExport plan 0 2 4 r better present margin
+      → (r ≡ 8) × (better .after ≡ better .before) × (present .after ≡ present .before) × (margin .after ≡ margin .before)
   pub refusedRelies : (r : ℕ) (relied : Lent ℕ) → ReliesExport plan 0 0 4 r relied → (r ≡ 8) × (relied .after ≡ relied .before)
   -- list 2,3: suspect, a cycle of two routers, 0 and 1
   pub suspect : (r : ℕ) (labels ranks table cycle : List ℕ) (stable size : Lent ℕ)

@@ -3,6 +3,7 @@
 use Prim.Native.Nat.{ℕ}
 use mathlib.Core.List.{List}
 use mathlib.Core.Path.{_≡_}
+use lib.IntN.{ℤ}
 use Rattle.base.specs.Lent.{Lent}
 use Rattle.base.specs.Seek.{flag}
 use Rattle.contents.specs.Header.{routerCount}
@@ -12,12 +13,12 @@ use Rattle.routing.specs.Reliance.{relies}
 use Rattle.network.specs.FromPlan.{instanceOf}
 use Rattle.plan.specs.Refused.{unlessRefused}
 use Rattle.refusals.specs.Refusals.{egressListRefusal, compareRefusal, reliesRefusal, verdictRefusal, runRefusal}
-use Rattle.queries.specs.Compare.{whichBetter}
+use Rattle.queries.specs.Compare.{whichBetter, hasMargin, marginNumber}
 use Rattle.checker.specs.Verdict.{isStable, sizeOf, labelsAfter, ranksAfter, tableAfter, cycleAfter}
 use Rattle.running.specs.Run.{runApplied, runRounds, runExhausted, runTable}
 
 -- a result variable of a call whose refusal is `number`: "unchanged" if refused, else the value
-abbrev pub Holds : (number : ℕ) (variable : Lent ℕ) (value : ℕ) → Type 0
+abbrev pub Holds : {A : Type 0} (number : ℕ) (variable : Lent A) (value : A) → Type 0
 Holds number variable value = variable .after ≡ unlessRefused number (variable .before) value
 
 -- rrp_size: n, the number of routers, and m, the number of lists
@@ -32,10 +33,13 @@ pub record ListExport (plan : List ℕ) (k r : ℕ) (start count : Lent ℕ) : T
   pub started : Holds (egressListRefusal plan k) start (listStart plan k)
   pub counted : Holds (egressListRefusal plan k) count (listSize plan k)
 
--- rrp_compare: 1 if at w the first, e, is better, 2 if the second, f, is, 0 if neither is
-pub record CompareExport (plan : List ℕ) (w e f r : ℕ) (preferred : Lent ℕ) : Type 0 where
+-- rrp_compare: 1 if at w the first, e, is better, 2 if the second, f, is, 0 if neither is; 1 if there is a margin, else 0; and the
+-- margin, an integer, 0 where there is none
+pub record CompareExport (plan : List ℕ) (w e f r : ℕ) (preferred present : Lent ℕ) (margin : Lent ℤ) : Type 0 where
   pub number : r ≡ compareRefusal plan w e f
   pub compared : Holds (compareRefusal plan w e f) preferred (whichBetter plan w e f)
+  pub flagged : Holds (compareRefusal plan w e f) present (flag (hasMargin plan w e f))
+  pub measured : Holds (compareRefusal plan w e f) margin (marginNumber plan w e f)
 
 -- rrp_relies: 1 if w relies on v for list k, else 0
 pub record ReliesExport (plan : List ℕ) (k w v r : ℕ) (relied : Lent ℕ) : Type 0 where

@@ -1,2 +1,4 @@
+pub mod Digits
 pub mod Fields
+pub mod Signed
 pub mod Writing

@@ -35,7 +35,7 @@ module _ (d : List ℕ) (at : ℕ) (s : List ℕ) (h : at + length s ≤ length 
       ∙ ap (λ x. x ++ drop (at + length (s ++ t)) d) (append-assoc (take at d) s t)
 
 module _ {d : List ℕ} {at : ℕ} where
-  put-none : at ≤ length d → Put 0 d at [] d at
+  pub put-none : at ≤ length d → Put 0 d at [] d at
   unfolding written
   put-none h = record {
     within = h;

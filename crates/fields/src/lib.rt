@@ -1,11 +1,13 @@
 // The parts of a line: each is written from a place on, and the place after it is returned.
 
 use base::wide;
+ghost use mathlib.Core.Path.{_≡_};
 ghost use mathlib.Core.List.{[], _∷_, _++_};
 ghost use Prim.Native.Nat.{_+_, _*_, _≤_, _<_};
 ghost use lib.ListN.{length};
+ghost use lib.IntN.{natAbs};
 ghost use Rattle.fields.specs.Buffer.{Put};
-ghost use Rattle.fields.specs.Fields.{digit, decimal, numberFields};
+ghost use Rattle.fields.specs.Fields.{digit, digits, decimal, signedDecimal, numberFields};
 
 pub const LINE_END: u8 = 10;
 
@@ -40,21 +42,50 @@ fn put_digit(out: &mut [u8], at: usize, d: usize) -> usize
     put_byte(out, at, 48 + d as u8)
 }
 
+// Writes a number in decimal, where it has at most `left` digits.
+fn put_digits(out: &mut [u8], at: usize, x: usize, left: usize) -> usize
+    requires { ⌜ at + left ≤ length (now out) ⌝ }
+    ensures { λ r. ⌜ Put left (now (out .entry)) at (digits left x) (now (out .exit)) r ⌝ }
+{
+    if left == 0 {
+        return at;
+    }
+    if x < 10 {
+        return put_digit(out, at, x);
+    }
+    let last = put_digits(out, at, x / 10, left - 1);
+    put_digit(out, last, x % 10)
+}
+
 // Writes a number in decimal.
 pub fn put_number(out: &mut [u8], at: usize, x: usize) -> usize
     requires { ⌜ (at + 3 ≤ length (now out)) × (x < 1000) ⌝ }
     ensures { λ r. ⌜ Put 3 (now (out .entry)) at (decimal x) (now (out .exit)) r ⌝ }
 {
-    if x < 10 {
-        return put_digit(out, at, x);
+    put_digits(out, at, x, 3)
+}
+
+// How far a number is from 0.
+fn magnitude(x: i64) -> usize
+    ensures { λ r. ⌜ r ≡ natAbs x ⌝ }
+{
+    if x < 0 {
+        return (-1 - x) as usize + 1;
     }
-    if x < 100 {
-        let second = put_digit(out, at, x / 10);
-        return put_digit(out, second, x % 10);
+    x as usize
+}
+
+// Writes a number in decimal, with its sign if it is below 0.
+pub fn put_signed(out: &mut [u8], at: usize, x: i64) -> usize
+    requires { ⌜ at + 21 ≤ length (now out) ⌝ }
+    ensures { λ r. ⌜ Put 21 (now (out .entry)) at (signedDecimal x) (now (out .exit)) r ⌝ }
+{
+    let size = magnitude(x);
+    if x < 0 {
+        let next = put_byte(out, at, b'-');
+        return put_digits(out, next, size, 20);
     }
-    let second = put_digit(out, at, x / 100);
-    let third = put_digit(out, second, x / 10 % 10);
-    put_digit(out, third, x % 10)
+    put_digits(out, at, size, 20)
 }
 
 // Writes bytes as a field after another.

@@ -1,8 +1,10 @@
 pub mod VerdictMeaning
 pub mod Series
 pub mod Questions
+pub mod Comparisons
 pub mod SmallPlans
 pub mod TellingExamples
 pub mod CutOffExamples
+pub mod MarginExamples
 pub mod SeriesExamples
 pub mod RefusedCalls

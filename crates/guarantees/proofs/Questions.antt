@@ -13,7 +13,7 @@ use Rattle.bodies.specs.Distances.{distancesOk}
 use Rattle.bodies.specs.Lists.{listPlace, memberOk, listAtOk, listOk, eachListOk, listsOk}
 use Rattle.plan.specs.Refusal.{refuse, bodyChecks, planChecks, planRefusal}
 use Rattle.network.specs.FromPlan.{pairs, inSession, named}
-use Rattle.routing.specs.Preference.{prefers, better}
+use Rattle.routing.specs.Preference.{prefers, better, marginOf}
 use Rattle.routing.specs.Reliance.{listedClientOf, bestClient, offer, betterOffer, relies}
 use Rattle.routing.specs.Activation.{reflects, advertises, hears, senderOf, routeTo, choice, choose, entryOk, tableOk}
 use Rattle.routing.specs.Rounds.{acted, roundsFrom, rounds}
@@ -26,7 +26,7 @@ use Rattle.tables.specs.TableBytes.{readRoute, tableOf, tableBytes, activateByt
 use Rattle.refusals.specs.Refusals.{sequenceOk, egressListRefusal, compareRefusal, reliesRefusal, buffersOk, verdictRefusal, tableChecks, activateRefusal, runRefusal}
 use Rattle.queries.specs.Size.{sizeRouters, sizeLists}
 use Rattle.queries.specs.EgressList.{egressListStart, egressListSize}
-use Rattle.queries.specs.Compare.{whichBetter, compared}
+use Rattle.queries.specs.Compare.{whichBetter, hasMargin, marginNumber, preferredOf, compared}
 use Rattle.queries.specs.Relies.{relied}
 use Rattle.checker.specs.Verdict.{isStable, labelsOf, ranksOf, highestOf, settledBytes, cycleOf, verdictOf, verdictAnswer, labelsAfter, ranksAfter, tableAfter, cycleAfter}
 use Rattle.running.specs.Activate.{activateTable}
@@ -38,12 +38,12 @@ unfoldable pub allRules : List ℕ → Question → Answer
 unfolding
     answerTo
     planRefusal egressListRefusal compareRefusal reliesRefusal verdictRefusal activateRefusal runRefusal
-    sizeRouters sizeLists egressListStart egressListSize whichBetter compared relied
+    sizeRouters sizeLists egressListStart egressListSize whichBetter hasMargin marginNumber preferredOf compared relied
     isStable labelsOf ranksOf highestOf settledBytes cycleOf verdictOf verdictAnswer labelsAfter ranksAfter tableAfter cycleAfter
     activateTable runApplied runRounds runExhausted runTable
     buffersOk tableChecks sequenceOk readRoute tableOf tableBytes activateBytes runBytes chooseAll chosenAfter settledTable
     start next walk second first lap cycleIn cycle rankOver rankRounds rank together label stable grouped closing acted roundsFrom rounds
-    reflects advertises hears senderOf routeTo choice choose entryOk tableOk listedClientOf bestClient offer betterOffer relies prefers better
+    reflects advertises hears senderOf routeTo choice choose entryOk tableOk listedClientOf bestClient offer betterOffer relies prefers better marginOf
     pairs inSession named refuse bodyChecks planChecks
     headerOk routerCountOk kindsOk placesOk sizesOk contentsOk routerOk routersOk sessionOk sessionsOk distancesOk
     listPlace memberOk listAtOk listOk eachListOk listsOk allBelow anyBelow keepBest best seek highest tab

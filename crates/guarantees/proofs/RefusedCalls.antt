@@ -19,6 +19,12 @@ refused-calls =
         s .address ∙ ap (bytesOn (ptr plan)) (when-refused _ _ _ ne),
       );
       size = λ plan r s ne. (s .number, s .routers ∙ when-refused _ _ _ ne, s .lists ∙ when-refused _ _ _ ne);
+      compare = λ plan w e f r s ne. (
+        s .answer ∙ when-refused _ _ _ ne,
+        s .value ∙ when-refused _ _ _ ne,
+        s .present ∙ when-refused _ _ _ ne,
+        s .margin ∙ when-refused _ _ _ ne,
+      );
       activate = λ plan k w table r after s ne. (s .number, s .bytes ∙ when-refused _ _ _ ne);
       run = λ plan k acts limit table r after s ne. (
         s .number,

@@ -1,11 +1,15 @@
 -- Examples that tell the rules of document 02, "Cut-off routers", from a misreading of them, in literal bytes and numbers: M3's plan of
 -- document 01 with a distance or two of 65,535, which is no way. After "Misread" stands the answer that a misreading gives.
 use Prim.Native.Nat.{ℕ}
+use mathlib.Core.Bool.{false}
 use mathlib.Core.List.{List, [], _∷_, _++_}
-use Rattle.queries.specs.declared.compare.CompareAnswer.the-variants.{Second, Neither}
+use lib.IntN.{pos}
+use Rattle.queries.specs.declared.compare.Preferred.the-variants.{First, Second, Neither}
+use Rattle.queries.specs.declared.compare.Margin.the-variants.{Absent}
+use Rattle.queries.specs.declared.compare.CompareAnswer.the-variants.{Compared}
 use Rattle.queries.specs.declared.relies.ReliesAnswer.the-variants.{Yes, No}
 use Rattle.guarantees.specs.Questions.{checkAsked, compareAsked, reliesAsked, activateAsked}
-use Rattle.guarantees.specs.Questions.{checkIs, compareIs, reliesIs, activateIs, Example, example, Hold}
+use Rattle.guarantees.specs.Questions.{Answer, checkIs, compareIs, reliesIs, activateIs, Example, example, Hold}
 use Rattle.guarantees.specs.SmallPlans.{verdictOn, stableIs}
 
 -- Routers 0, 1 reflectors; 2, 3 clients; sessions 0-1, 0-2, 1-3; the given distances from each. The lists are 2,3 and 3 and 0.
@@ -58,6 +62,16 @@ clientsCutOff =
 unfoldable pub diagonalCutOff : List ℕ
 diagonalCutOff = fourRouters m3From0 m3From1 m3From2 (30 ∷ 0 ∷ 30 ∷ 0 ∷ 30 ∷ 0 ∷ 255 ∷ 255 ∷ [])
 
+-- a comparison where there is a way to the first alone, to the second alone, to neither: there is no margin
+abbrev pub firstAlone : Answer
+firstAlone = compareIs (Compared First Absent) 1 false (pos 0)
+
+abbrev pub secondAlone : Answer
+secondAlone = compareIs (Compared Second Absent) 2 false (pos 0)
+
+abbrev pub noWayToBoth : Answer
+noWayToBoth = compareIs (Compared Neither Absent) 0 false (pos 0)
+
 -- "The distance 65,535 off the diagonal now means 'no way', and refusal 6 covers 65,535 on the diagonal only". Misread as refused
 -- anywhere: 6; as read anywhere: 0.
 abbrev pub cutIsRead : Example
@@ -68,11 +82,11 @@ cutFromItself = example diagonalCutOff checkAsked (checkIs 6)
 
 -- "In a comparison a way beats none": 3 has a way to 2 and none to 0. Misread by the number: First; as not to be compared: Neither.
 abbrev pub wayBeatsNone : Example
-wayBeatsNone = example clientsCutOff (compareAsked 3 0 2) (compareIs Second 2)
+wayBeatsNone = example clientsCutOff (compareAsked 3 0 2) secondAlone
 
 -- ".. and of two without a way neither is better". Misread by the number: First.
 abbrev pub neitherHasAWay : Example
-neitherHasAWay = example clientsCutOff (compareAsked 3 0 1) (compareIs Neither 0)
+neitherHasAWay = example clientsCutOff (compareAsked 3 0 1) noWayToBoth
 
 -- "A route whose egress the hearer has no way to .. does not make a reflector relied on": 1 offers 3, and 0 has no best client. Misread
 -- as any offer: Yes.

@@ -4,6 +4,7 @@ use mathlib.Core.Path.{_≡_}
 use mathlib.Core.Bool.{Bool}
 use mathlib.Core.List.{List, map}
 use lib.ListN.{take, drop}
+use lib.IntN.{ℤ, pos}
 use Rattle.plan.specs.Refusal.{planRefusal}
 use Rattle.refusals.specs.Refusals.{egressListRefusal, compareRefusal, reliesRefusal, verdictRefusal, activateRefusal, runRefusal}
 use Rattle.queries.specs.declared.compare.CompareAnswer.{CompareAnswer}
@@ -11,10 +12,10 @@ use Rattle.queries.specs.declared.compare.CompareAnswer.the-variants as compare
 use Rattle.queries.specs.declared.relies.ReliesAnswer.{ReliesAnswer}
 use Rattle.queries.specs.declared.relies.ReliesAnswer.the-variants as relying
 use Rattle.checker.specs.declared.verdict.VerdictAnswer.{VerdictAnswer}
-use Rattle.plan.specs.Refused.{unlessRefused, field}
+use Rattle.plan.specs.Refused.{unlessRefused, field, flagField}
 use Rattle.queries.specs.Size.{sizeRouters, sizeLists}
 use Rattle.queries.specs.EgressList.{egressListStart, egressListSize}
-use Rattle.queries.specs.Compare.{whichBetter, compared}
+use Rattle.queries.specs.Compare.{whichBetter, hasMargin, marginNumber, compared}
 use Rattle.queries.specs.Relies.{relied}
 use Rattle.checker.specs.Verdict.{verdictAnswer, labelsAfter, ranksAfter, tableAfter, cycleAfter}
 use Rattle.running.specs.Activate.{activateTable}
@@ -36,7 +37,7 @@ pub data Answer : Type 0 where
   checkIs : (refusal : ℕ) → Answer
   sizeIs : (refusal routers lists : ℕ) → Answer
   listIs : (refusal start : ℕ) (numbers : List ℕ) → Answer
-  compareIs : (answer : CompareAnswer) (better : ℕ) → Answer
+  compareIs : (answer : CompareAnswer) (better : ℕ) (present : Bool) (margin : ℤ) → Answer
   reliesIs : (answer : ReliesAnswer) → Answer
   verdictIs : (answer : VerdictAnswer) (labels ranks table cycle : List ℕ) → Answer
   activateIs : (refusal : ℕ) (table : List ℕ) → Answer
@@ -51,6 +52,8 @@ answerTo plan (listAsked k) =
 answerTo plan (compareAsked w e f) =
     let number = compareRefusal plan w e f in
     compareIs (unlessRefused number (compares.Refused number) (compared plan w e f)) (field number (whichBetter plan w e f))
+    (flagField number (hasMargin plan w e f))
+    (unlessRefused number (pos 0) (marginNumber plan w e f))
 answerTo plan (reliesAsked k w v) =
     let number = reliesRefusal plan k w v in
     reliesIs (unlessRefused number (relying.Refused number) (relied plan k w v))

@@ -1,17 +1,21 @@
--- Document 01, "Refusal table": "beside a refusal number every other returned field is zero or no", and lent buffers are unchanged. What the
--- contracts of the calls that return more than an enum say of a refused call.
+-- Document 01, "Refusal table": "beside a refusal number every other returned field is zero or no", and lent buffers are unchanged. What
+-- the contracts of the calls that return more than a number, a yes or no, or a verdict say of a refused call.
 use Prim.Native.Nat.{ℕ}
 use mathlib.Core.Path.{_≡_}
 use mathlib.Core.Bool.{false}
 use mathlib.Core.List.{List, []}
+use lib.IntN.{pos}
 use denote.Ref.{RefT, ptr, now}
 use Rattle.base.specs.Bytes.{bytesOn}
 use Rattle.plan.specs.Refusal.{planRefusal}
-use Rattle.refusals.specs.Refusals.{egressListRefusal, activateRefusal, runRefusal}
+use Rattle.refusals.specs.Refusals.{egressListRefusal, compareRefusal, activateRefusal, runRefusal}
+use Rattle.queries.specs.declared.compare.CompareAnswer.{CompareAnswer}
+use Rattle.queries.specs.declared.compare.CompareAnswer.the-variants.{Refused}
 use Rattle.queries.specs.declared.size.SizeAnswer.{SizeAnswer}
 use Rattle.running.specs.declared.run.RunAnswer.{RunAnswer}
 use Rattle.queries.specs.EgressList.{StretchOf}
 use Rattle.queries.specs.Size.{Sizes}
+use Rattle.queries.specs.Compare.{compareBetter, compareHasMargin, compareMargin, Compares}
 use Rattle.running.specs.Activate.{Activates}
 use Rattle.running.specs.Run.{Runs}
 
@@ -21,6 +25,8 @@ pub record RefusedCalls : Type 0 where
       → (now part ≡ []) × (ptr part ≡ bytesOn (ptr plan) 0)
   pub size : (plan : List ℕ) (r : SizeAnswer) → Sizes plan r → (planRefusal plan ≡ 0 → ⊥)
       → (r .refused ≡ planRefusal plan) × (r .routers ≡ 0) × (r .lists ≡ 0)
+  pub compare : (plan : List ℕ) (w e f : ℕ) (r : CompareAnswer) → Compares plan w e f r → (compareRefusal plan w e f ≡ 0 → ⊥)
+      → (r ≡ Refused (compareRefusal plan w e f)) × (compareBetter r ≡ 0) × (compareHasMargin r ≡ false) × (compareMargin r ≡ pos 0)
   pub activate : (plan : List ℕ) (k w : ℕ) (table : List ℕ) (r : ℕ) (after : List ℕ) → Activates plan k w table r after
       → (activateRefusal plan k w table ≡ 0 → ⊥) → (r ≡ activateRefusal plan k w table) × (after ≡ table)
   pub run : (plan : List ℕ) (k : ℕ) (acts : List ℕ) (limit : ℕ) (table : List ℕ) (r : RunAnswer) (after : List ℕ)

@@ -4,13 +4,16 @@ use Prim.Native.Nat.{ℕ}
 use mathlib.Core.Bool.{true, false}
 use mathlib.Core.List.{List, [], _∷_, _++_}
 use lib.ListN.{replicate}
-use Rattle.queries.specs.declared.compare.CompareAnswer.the-variants.{First, Second, Neither}
+use lib.IntN.{ℤ, pos, negℤ}
+use Rattle.queries.specs.declared.compare.Preferred.the-variants.{First, Second, Neither}
+use Rattle.queries.specs.declared.compare.Margin.the-variants.{Of}
+use Rattle.queries.specs.declared.compare.CompareAnswer.the-variants.{Compared}
 use Rattle.queries.specs.declared.relies.ReliesAnswer.the-variants.{Yes, No}
 use Rattle.checker.specs.declared.verdict.VerdictAnswer.the-variants.{Suspect}
 use Rattle.guarantees.specs.Questions.{checkAsked, sizeAsked, listAsked, compareAsked, reliesAsked}
 use Rattle.guarantees.specs.Questions.{verdictAsked, activateAsked, runAsked}
 use Rattle.guarantees.specs.Questions.{checkIs, sizeIs, listIs, compareIs, reliesIs, verdictIs, activateIs, runIs}
-use Rattle.guarantees.specs.Questions.{Example, example, Hold}
+use Rattle.guarantees.specs.Questions.{Answer, Example, example, Hold}
 
 -- Six routers, reflectors 0, 1, 2 and clients 3, 4, 5, with the given body of kind 1.
 unfoldable pub sixRouters : (routers : List ℕ) → List ℕ
@@ -75,6 +78,16 @@ twelve =
     ++ replicate 288 0
     ++ (1 ∷ 1 ∷ 11 ∷ [])
 
+-- a comparison that is not refused: the answer, and by number which is better, that there is a margin, and which
+abbrev pub firstBetter : (margin : ℤ) → Answer
+firstBetter margin = compareIs (Compared First (Of margin)) 1 true margin
+
+abbrev pub secondBetter : (margin : ℤ) → Answer
+secondBetter margin = compareIs (Compared Second (Of margin)) 2 true margin
+
+abbrev pub neitherBetter : Answer
+neitherBetter = compareIs (Compared Neither (Of (pos 0))) 0 true (pos 0)
+
 -- "a 4-byte identifier, low byte first. Identifiers rise strictly". Misread by two bytes: 4, and 0 of the other.
 abbrev pub identifiersRise : Example
 identifiersRise = example six checkAsked (checkIs 0)
@@ -101,23 +114,23 @@ listAtM = example six (listAsked 4) (listIs 8 0 [])
 -- "a router asked for .. is n or more": of six routers, 5 is one. Its distances are all equal, and 0 is lower than 1.
 -- Misread at n - 1: Refused 8.
 abbrev pub lastRouter : Example
-lastRouter = example six (compareAsked 5 1 0) (compareIs Second 2)
+lastRouter = example six (compareAsked 5 1 0) (secondBetter (pos 0))
 
--- "row u, column e is the distance from u to e", two bytes: 258 and 11. Misread by the low byte, 2 and 11: First.
+-- "row u, column e is the distance from u to e", two bytes: 258 and 11. Misread by the low byte, 2 and 11: First, -9.
 abbrev pub distanceOfTwoBytes : Example
-distanceOfTwoBytes = example six (compareAsked 0 5 4) (compareIs Second 2)
+distanceOfTwoBytes = example six (compareAsked 0 5 4) (secondBetter (pos 247))
 
--- "(the first is better, the second, or neither if they are the same)": 10 and 20. Misread with the two exchanged: Second.
+-- "(the first is better, the second, or neither if they are the same)": 10 and 20. Misread with the two exchanged: Second, 10.
 abbrev pub firstIsBetter : Example
-firstIsBetter = example six (compareAsked 1 5 4) (compareIs First 1)
+firstIsBetter = example six (compareAsked 1 5 4) (firstBetter (negℤ (pos 10)))
 
 -- .. and of a router with itself. Misread as one of the two: Second.
 abbrev pub sameRouterTwice : Example
-sameRouterTwice = example six (compareAsked 1 5 5) (compareIs Neither 0)
+sameRouterTwice = example six (compareAsked 1 5 5) neitherBetter
 
--- "Scaling distances": 19 and 11. Misread in tens, they are equal and 3 is the lower number: First.
+-- "Scaling distances": 19 and 11. Misread in tens, they are equal and 3 is the lower number: First, 0.
 abbrev pub distancesAsTheyAre : Example
-distancesAsTheyAre = example six (compareAsked 0 3 4) (compareIs Second 2)
+distancesAsTheyAre = example six (compareAsked 0 3 4) (secondBetter (pos 8))
 
 -- "taking a tie for no reliance": to 1 the offer 3 is as far as its own client 4, and lower. Misread: No.
 abbrev pub tieIsReliance : Example

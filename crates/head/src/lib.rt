@@ -1,5 +1,6 @@
 // The readers of the plan's first bytes and its length: refusals 1 and 2.
 
+use contents::header::LARGEST_PLAN;
 ghost use mathlib.Core.Path.{_≡_};
 ghost use Rattle.contents.specs.Header.{headerOk, routerCountOk};
 
@@ -9,7 +10,7 @@ pub fn header_ok(plan: &[u8]) -> bool
     if plan.len() < 26 {
         return false;
     }
-    if 16731 < plan.len() {
+    if LARGEST_PLAN < plan.len() {
         return false;
     }
     if plan[0] != b'R' {

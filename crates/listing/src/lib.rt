@@ -2,6 +2,7 @@
 
 use assessment::Assessment;
 use contents::entries::DISTANCES;
+use report::LINE_ROOM;
 ghost use mathlib.Core.Path.{_≡_};
 ghost use Prim.Native.Nat.{_+_, _*_, _≤_, _<_};
 ghost use lib.ListN.{length};
@@ -12,8 +13,8 @@ ghost use Rattle.report.specs.Text.{lineRoom};
 ghost use Rattle.text.specs.Listing.{listLine, listLines, planText, textRoom};
 ghost use Rattle.listing.specs.Found.{foundLine, Printable};
 
-// Room for any text, `textRoom`: the first line and the lines of 64 lists, of at most 272 bytes each.
-pub const TEXT_ROOM: usize = 65 * 272;
+// Room for any text, `textRoom`: the first line and the lines of 64 lists.
+pub const TEXT_ROOM: usize = 65 * LINE_ROOM;
 
 // Writes the line of a list for which `found` was found; `cycle` is the buffer that was lent for the cycle.
 fn found_line(out: &mut [u8], at: usize, list: usize, found: Assessment, cycle: &[u8]) -> usize

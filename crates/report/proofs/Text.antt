@@ -3,8 +3,9 @@ use Prim.Native.Nat.{ℕ}
 use mathlib.Core.Path.{_≡_, _∙_, sym, ap}
 use mathlib.Core.List.{List, [], _∷_, _++_, append-assoc, append-nil, map}
 use lib.ListN.{length}
-use Rattle.fields.specs.Fields.{decimal, spaced, numberFields}
-use Rattle.report.specs.Text.{line, routersWord, listsWord, refusedWord, stableWord, suspectWord, headLine, refusedLine, stableLine, suspectLine}
+use lib.IntN.{ℤ}
+use Rattle.fields.specs.Fields.{decimal, signedDecimal, spaced, numberFields}
+use Rattle.report.specs.Text.{line, routersWord, listsWord, refusedWord, stableWord, suspectWord, noneWord, headLine, refusedLine, stableLine, suspectLine, marginLine, noneLine}
 
 -- a field more before the others
 line-next : (first field : List ℕ) (fields : List (List ℕ)) → line (first ++ (32 ∷ field)) fields ≡ line first (field ∷ fields)
@@ -16,6 +17,11 @@ line-last : (first field : List ℕ) → first ++ ((32 ∷ field) ++ (10 ∷ [])
 unfolding spaced
 line-last first field =
     sym (append-assoc first (32 ∷ field) (10 ∷ [])) ∙ ap (λ t. first ++ t ++ (10 ∷ [])) (sym (append-nil (32 ∷ field)))
+
+-- the only field, with the line's end
+line-only : (field : List ℕ) → field ++ (10 ∷ []) ≡ line field []
+unfolding spaced
+line-only field = ap (λ t. t ++ (10 ∷ [])) (sym (append-nil field))
 
 -- each line, as its parts are written one after the other
 pub head-parts :
@@ -46,3 +52,11 @@ unfolding suspectLine
 suspect-parts list cycle =
     line-next (decimal list ++ (32 ∷ suspectWord)) (decimal (length cycle)) (map decimal cycle)
     ∙ line-next (decimal list) suspectWord (decimal (length cycle) ∷ map decimal cycle)
+
+pub margin-parts : (margin : ℤ) → signedDecimal margin ++ (10 ∷ []) ≡ marginLine margin
+unfolding marginLine
+margin-parts margin = line-only (signedDecimal margin)
+
+pub none-parts : noneWord ++ (10 ∷ []) ≡ noneLine
+unfolding noneLine
+none-parts = line-only noneWord

@@ -2,8 +2,9 @@
 use Prim.Native.Nat.{ℕ}
 use mathlib.Core.Path.{_≡_}
 use mathlib.Core.List.{List, [], _∷_, map}
-use Rattle.fields.specs.Fields.{decimal}
-use Rattle.report.specs.Text.{headLine, refusedLine, stableLine, suspectLine}
+use lib.IntN.{pos, negℤ}
+use Rattle.fields.specs.Fields.{decimal, signedDecimal}
+use Rattle.report.specs.Text.{headLine, refusedLine, stableLine, suspectLine, marginLine, noneLine}
 
 pub record Example : Type 0 where
   pub text : List ℕ
@@ -29,6 +30,16 @@ examples =
     ∷ spelt (decimal 10) (49 ∷ 48 ∷ [])
     ∷ spelt (decimal 99) (57 ∷ 57 ∷ [])
     ∷ spelt (decimal 100) (49 ∷ 48 ∷ 48 ∷ [])
+    -- "-4"; a margin of 0 and one above it have no sign
+    ∷ spelt (marginLine (negℤ (pos 4))) (45 ∷ 52 ∷ 10 ∷ [])
+    ∷ spelt (marginLine (pos 0)) (48 ∷ 10 ∷ [])
+    ∷ spelt (marginLine (pos 4)) (52 ∷ 10 ∷ [])
+    -- "none"
+    ∷ spelt noneLine (110 ∷ 111 ∷ 110 ∷ 101 ∷ 10 ∷ [])
+    -- the least and the greatest margin, 65534 apart from 0; numbers of ten digits
+    ∷ spelt (signedDecimal (negℤ (pos 65534))) (45 ∷ 54 ∷ 53 ∷ 53 ∷ 51 ∷ 52 ∷ [])
+    ∷ spelt (signedDecimal (pos 65534)) (54 ∷ 53 ∷ 53 ∷ 51 ∷ 52 ∷ [])
+    ∷ spelt (signedDecimal (negℤ (pos 4294967294))) (45 ∷ 52 ∷ 50 ∷ 57 ∷ 52 ∷ 57 ∷ 54 ∷ 55 ∷ 50 ∷ 57 ∷ 52 ∷ [])
     ∷ []
 
 -- The definitions give each example's bytes. The theorem is `line-examples`.

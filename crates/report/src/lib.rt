@@ -1,4 +1,4 @@
-// The lines of the verdict program's report: each is written into a caller's buffer from a place on, and the place after it is returned.
+// The lines that the programs print: each is written into a caller's buffer from a place on, and the place after it is returned.
 
 use base::wide;
 use fields::LINE_END;
@@ -9,12 +9,16 @@ use fields::put_next_bytes;
 use fields::put_next_number;
 use fields::put_next_numbers;
 use fields::put_number;
+use fields::put_signed;
 ghost use mathlib.Core.List.{_∷_, _++_};
 ghost use Prim.Native.Nat.{_+_, _≤_, _<_};
 ghost use lib.ListN.{length};
 ghost use Rattle.fields.specs.Buffer.{Put};
 ghost use Rattle.fields.specs.Fields.{decimal};
-ghost use Rattle.report.specs.Text.{lineRoom, headLine, refusedLine, stableLine, suspectLine};
+ghost use Rattle.report.specs.Text.{lineRoom, headLine, refusedLine, stableLine, suspectLine, marginLine, noneLine};
+
+// Room for any line, `lineRoom`.
+pub const LINE_ROOM: usize = 272;
 
 // The first line: the plan has n routers and m lists.
 pub fn head_line(out: &mut [u8], at: usize, n: usize, m: usize) -> usize
@@ -62,5 +66,23 @@ pub fn suspect_line(out: &mut [u8], at: usize, list: usize, cycle: &[u8]) -> usi
     let size = put_verdict(out, at, list, b"suspect");
     let members = put_next_number(out, size, cycle.len());
     let last = put_next_numbers(out, members, cycle);
+    put_byte(out, last, LINE_END)
+}
+
+// The line of a margin.
+pub fn margin_line(out: &mut [u8], at: usize, margin: i64) -> usize
+    requires { ⌜ at + lineRoom ≤ length (now out) ⌝ }
+    ensures { λ r. ⌜ Put lineRoom (now (out .entry)) at (marginLine margin) (now (out .exit)) r ⌝ }
+{
+    let end = put_signed(out, at, margin);
+    put_byte(out, end, LINE_END)
+}
+
+// The line where there is no margin.
+pub fn none_line(out: &mut [u8], at: usize) -> usize
+    requires { ⌜ at + lineRoom ≤ length (now out) ⌝ }
+    ensures { λ r. ⌜ Put lineRoom (now (out .entry)) at noneLine (now (out .exit)) r ⌝ }
+{
+    let last = put_bytes(out, at, b"none");
     put_byte(out, last, LINE_END)
 }

@@ -2,7 +2,7 @@
 use mathlib.Core.Path.{refl}
 use Rattle.base.specs.Below.{allBelow, anyBelow}
 use Rattle.base.specs.Best.{keepBest, best}
-use Rattle.routing.specs.Preference.{prefers, better}
+use Rattle.routing.specs.Preference.{prefers, better, marginOf}
 use Rattle.routing.specs.Activation.{reflects, advertises, hears, senderOf, routeTo, choice, choose, entryOk, tableOk, activate, runActs}
 use Rattle.routing.specs.Rounds.{acted, roundsFrom, rounds, tallyAct, tallyActs}
 use Rattle.routing.specs.Reliance.{listedClientOf, bestClient, offer, betterOffer, relies}
@@ -12,7 +12,7 @@ use Rattle.routing.specs.Examples.{among, neighbours, distances, sixWith
 pub routing-examples : RoutingExamples
 unfolding
     among neighbours distances sixWith start
-    prefers better reflects advertises hears senderOf routeTo choice choose entryOk tableOk activate runActs
+    prefers better marginOf reflects advertises hears senderOf routeTo choice choose entryOk tableOk activate runActs
     acted roundsFrom rounds tallyAct tallyActs listedClientOf bestClient offer betterOffer relies asRouter
     allBelow anyBelow keepBest best
 routing-examples =
@@ -26,6 +26,13 @@ routing-examples =
       noneBeatsNoWay = refl;
       neitherHasAWay = refl;
       bothHaveAWay = refl;
+      marginIsNegative = refl;
+      marginIsPositive = refl;
+      marginOfATie = refl;
+      marginOfTheSame = refl;
+      noWayToTheFirst = refl;
+      noWayToTheSecond = refl;
+      noWayToEither = refl;
       notBackToItsClient = refl;
       clientsRouteToAReflector = refl;
       notFromAThird = refl;

@@ -3,11 +3,11 @@ use Prim.Native.Nat.{ℕ, _<_, _≤_}
 use native.Mathlib.Omega.{arith}
 use mathlib.Core.Path.{_≡_, refl, _∙_, sym, ap}
 use mathlib.Core.Bool.{Bool, true, false, not}
-use mathlib.Core.Logic.{_⊎_, inl, inr, ⊎-elim}
+use mathlib.Core.Logic.{_⊎_, _↔_, inl, inr, ⊎-elim}
 use lib.Dec.{ltb}
-use borrow.Author.Tests.{lt-ltb, le-ltb, eq-eqb, ne-eqb}
+use borrow.Author.Tests.{ltb-true, lt-ltb, le-ltb, eq-eqb, ne-eqb}
 use Rattle.base.proofs.Numbers.{lt-or-le, eq-or-ne, not-both}
-use Rattle.base.proofs.Best.{StrictOrder, order-same, ltb-order}
+use Rattle.base.proofs.Best.{StrictOrder, order-same, order-asym, ltb-order}
 use Rattle.routing.specs.Instance.{Instance}
 use Rattle.routing.specs.Preference.{prefers, better, Comparing}
 
@@ -35,6 +35,18 @@ module _ (I : Instance) (w : ℕ) where
       ⊎-elim (λ l. nearer l)
       (λ (l : I .dist w f ≤ I .dist w e). ⊎-elim (λ q. tie q) (λ (q : I .dist w e ≡ I .dist w f → ⊥). farther (omega arith)) (eq-or-ne _ _))
       (lt-or-le (I .dist w e) (I .dist w f))
+
+  -- nearer, or as near and with the lower number
+  pub prefers-exactly : (e f : ℕ) → (prefers I w e f ≡ true) ↔ ((I .dist w e < I .dist w f) ⊎ ((I .dist w e ≡ I .dist w f) × (e < f)))
+  prefers-exactly e f = (
+    λ p. go p (compared e f),
+    ⊎-elim (prefers-nearer e f) (λ (h : (I .dist w e ≡ I .dist w f) × (e < f)). prefers-tie e f (h .0) ∙ lt-ltb e f (h .1)),
+  )
+    where
+      go : prefers I w e f ≡ true → Compared e f → (I .dist w e < I .dist w f) ⊎ ((I .dist w e ≡ I .dist w f) × (e < f))
+      go p (nearer l) = inl l
+      go p (tie q) = inr (q, ltb-true e f (sym (prefers-tie e f q) ∙ p))
+      go p (farther l) = not-both (prefers I w e f) p (prefers-farther e f l)
 
   prefers-trans : (a b c : ℕ) → prefers I w a b ≡ true → prefers I w b c ≡ true → prefers I w a c ≡ true
   prefers-trans a b c p q = go (compared a b) (compared b c)
@@ -80,6 +92,20 @@ module _ (I : Instance) (w e f : ℕ) where
   pub better-without : I .way w e ≡ false → better I w e f ≡ false
   unfolding better
   better-without p = cc
+
+  -- with a way to both: the nearer, or as near and with the lower number
+  pub better-exactly : I .way w e ≡ true → I .way w f ≡ true
+      → (better I w e f ≡ true) ↔ ((I .dist w e < I .dist w f) ⊎ ((I .dist w e ≡ I .dist w f) × (e < f)))
+  better-exactly p q = rw (better-both-ways p q) (prefers-exactly I w e f)
+
+  -- .. and of two as near the lower number is better; of two one at most
+  pub better-tie : I .way w e ≡ true → I .way w f ≡ true → I .dist w e ≡ I .dist w f → better I w e f ≡ ltb e f
+  better-tie p q d = better-both-ways p q ∙ prefers-tie I w e f d
+
+pub better-one : (I : Instance) (w e f : ℕ) → I .way w e ≡ true → I .way w f ≡ true → better I w f e ≡ true → better I w e f ≡ false
+better-one I w e f p q h =
+    better-both-ways I w e f p q
+    ∙ order-asym (prefers I w) (prefers-order I w) f e (sym (better-both-ways I w f e q p) ∙ h)
 
 module _ (I : Instance) (w : ℕ) where
   better-itself : (e : ℕ) → better I w e e ≡ false

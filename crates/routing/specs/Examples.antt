@@ -7,8 +7,9 @@ use mathlib.Core.Option.{none, some}
 use mathlib.Core.List.{List, [], _∷_}
 use lib.Dec.{eqb}
 use lib.ListN.{getD}
+use lib.IntN.{pos, negℤ}
 use Rattle.routing.specs.Instance.{Instance, Route, nothing, via}
-use Rattle.routing.specs.Preference.{prefers, better}
+use Rattle.routing.specs.Preference.{prefers, better, marginOf}
 use Rattle.routing.specs.Activation.{reflects, advertises, hears, senderOf, choose, held, entryOk, tableOk, activate, runActs}
 use Rattle.routing.specs.Rounds.{rounds, freshTally, tallyActs}
 use Rattle.routing.specs.Reliance.{bestClient, offer, betterOffer, relies}
@@ -93,6 +94,16 @@ pub record RoutingExamples : Type 0 where
   pub noneBeatsNoWay : better (cutSix (3 ∷ [])) 1 5 4 ≡ false  -- no way as a distance: true
   pub neitherHasAWay : better (cutSix (3 ∷ [])) 5 3 4 ≡ false  -- by the number: true
   pub bothHaveAWay : better (cutSix (3 ∷ [])) 1 3 4 ≡ true  -- a tie as no preference: false
+  -- "the first distance minus the second": from 0 it is 11 to 4 and 19 to 3
+  pub marginIsNegative : marginOf clients34 0 4 3 ≡ some (negℤ (pos 8))  -- the sign turned, or the magnitude alone: some (pos 8)
+  pub marginIsPositive : marginOf clients34 0 3 4 ≡ some (pos 8)  -- in tens: some (pos 0)
+  -- "Zero means that the numbers decide or the two are the same route."
+  pub marginOfATie : marginOf clients34 1 3 4 ≡ some (pos 0)  -- the numbers apart: some (negℤ (pos 1))
+  pub marginOfTheSame : marginOf clients34 1 5 5 ≡ some (pos 0)  -- as none: none
+  -- "A margin exists only if both have a way."
+  pub noWayToTheFirst : marginOf (cutSix (3 ∷ [])) 1 5 4 ≡ none  -- no way as a distance: some (negℤ (pos 10))
+  pub noWayToTheSecond : marginOf (cutSix (3 ∷ [])) 1 4 5 ≡ none  -- no way as a distance: some (pos 10)
+  pub noWayToEither : marginOf (cutSix (3 ∷ [])) 5 3 4 ≡ none  -- two without a way as equal: some (pos 0)
   -- "one heard from a client to all neighbours but that client"
   pub notBackToItsClient : reflects client4 (via 4 5) 5 ≡ none  -- to that client too: some 4
   pub clientsRouteToAReflector : reflects client4 (via 4 5) 0 ≡ some 4  -- to clients only: none

@@ -3,5 +3,6 @@ pub mod Preference
 pub mod Activation
 pub mod Rounds
 pub mod Reliance
+pub mod OneComparison
 pub mod RouterBytes
 pub mod Examples

@@ -3,11 +3,13 @@ use Prim.Native.Nat.{ℕ}
 use mathlib.Core.Path.{_≡_, refl, _∙_, sym, ap}
 use mathlib.Core.Bool.{Bool, true, false, cond}
 use mathlib.Core.List.{List}
+use lib.IntN.{ℤ}
 use Rattle.base.specs.Lent.{Lent}
 use Rattle.base.specs.Seek.{flag}
-use Rattle.routing.specs.Preference.{better}
 use Rattle.routing.specs.Reliance.{relies}
 use Rattle.network.specs.FromPlan.{instanceOf}
+use Rattle.queries.specs.declared.compare.Preferred.{Preferred}
+use Rattle.queries.specs.declared.compare.Margin.{Margin}
 use Rattle.queries.specs.declared.compare.CompareAnswer.{CompareAnswer}
 use Rattle.queries.specs.declared.compare.CompareAnswer.the-variants as compares
 use Rattle.queries.specs.declared.relies.ReliesAnswer.{ReliesAnswer}
@@ -18,7 +20,8 @@ use Rattle.running.specs.declared.run.RunAnswer.{RunAnswer}
 use Rattle.queries.specs.declared.size.SizeAnswer.{SizeAnswer}
 use Rattle.plan.specs.Refusal.{planRefusal}
 use Rattle.refusals.specs.Refusals.{egressListRefusal, compareRefusal, reliesRefusal, verdictRefusal, runRefusal}
-use Rattle.queries.specs.Compare.{compared, compareNumber, compareBetter, Compares}
+use Rattle.queries.specs.Compare.{preferredNumber, marginPresent, marginValue, compared}
+use Rattle.queries.specs.Compare.{compareNumber, compareBetter, compareHasMargin, compareMargin, Compares}
 use Rattle.queries.specs.Relies.{relied, reliesNumber, reliesFlag, Relied}
 use Rattle.checker.specs.Verdict.{isStable, verdictOf, verdictAnswer, verdictNumber, verdictIsStable, verdictSize, VerdictCall}
 use Rattle.running.specs.Run.{Runs}
@@ -30,7 +33,7 @@ use Rattle.exports.specs.Exports.{SizeExport, ListExport, CompareExport, Relies
 use Rattle.rrp.proofs.Written.{written, refused-by}
 
 -- a variable that a call writes
-abbrev wrote : ℕ → ℕ → Lent ℕ
+abbrev wrote : {A : Type 0} → A → A → Lent A
 wrote x y = record { before = x; after = y }
 
 module _ (plan : List ℕ) (r : SizeAnswer) (call : Sizes plan r) (routers lists : ℕ) where
@@ -63,31 +66,41 @@ module _ (plan : List ℕ) (k : ℕ) (start count : ℕ) where
 
 abbrev compareRefuses : CompareAnswer → ℕ
 compareRefuses (compares.Refused number) = 1
-compareRefuses compares.First = 0
-compareRefuses compares.Second = 0
-compareRefuses compares.Neither = 0
+compareRefuses (compares.Compared preferred margin) = 0
 
 cond-answers : {A : Type 0} (f : A → ℕ) (b : Bool) (x y : A) → f x ≡ 0 → f y ≡ 0 → f (cond b x y) ≡ 0
 cond-answers f true x y hx hy = hx
 cond-answers f false x y hx hy = hy
 
-module _ (plan : List ℕ) (w e f : ℕ) (r : CompareAnswer) (call : Compares plan w e f r) (before : ℕ) where
+module _ (plan : List ℕ) (w e f : ℕ) (r : CompareAnswer) (call : Compares plan w e f r) (better present : ℕ) (margin : ℤ) where
   compared-answers : compareRefuses (compared plan w e f) ≡ 0
   unfolding compared
-  compared-answers =
-      cond-answers compareRefuses (better (instanceOf plan 0) w e f) _ _ refl
-      (cond-answers compareRefuses (better (instanceOf plan 0) w f e) _ _ refl refl)
+  compared-answers = refl
 
-  pub compare-refused : (number : ℕ) → r ≡ compares.Refused number → CompareExport plan w e f number (kept before)
+  pub compare-refused : (number : ℕ) → r ≡ compares.Refused number
+      → CompareExport plan w e f number (kept better) (kept present) (kept margin)
   compare-refused number is =
       let n : compareRefusal plan w e f ≡ 0 → ⊥ =
       refused-by compareRefuses _ r _ _ (call .answer) (ap compareRefuses is) compared-answers in
-      record { number = sym (ap compareNumber is) ∙ call .number; compared = sym (when-refused _ _ _ n) }
+      record {
+        number = sym (ap compareNumber is) ∙ call .number;
+        compared = sym (when-refused _ _ _ n);
+        flagged = sym (when-refused _ _ _ n);
+        measured = sym (when-refused _ _ _ n);
+      }
 
-  pub compare-given : (value : ℕ) → compareNumber r ≡ 0 → compareBetter r ≡ value → CompareExport plan w e f 0 (wrote before value)
-  compare-given value zero is =
-      let n : compareRefusal plan w e f ≡ 0 = sym (call .number) ∙ zero in
-      record { number = sym n; compared = written _ _ _ _ _ n (sym is ∙ call .value) }
+  pub compare-given : (preferred : Preferred) (found : Margin) → r ≡ compares.Compared preferred found
+      → (better′ present′ : ℕ) (margin′ : ℤ)
+      → better′ ≡ preferredNumber preferred → present′ ≡ flag (marginPresent found) → margin′ ≡ marginValue found
+      → CompareExport plan w e f 0 (wrote better better′) (wrote present present′) (wrote margin margin′)
+  compare-given preferred found is better′ present′ margin′ b p m =
+      let n : compareRefusal plan w e f ≡ 0 = sym (call .number) ∙ ap compareNumber is in
+      record {
+        number = sym n;
+        compared = written _ _ _ _ _ n (b ∙ sym (ap compareBetter is) ∙ call .value);
+        flagged = p ∙ ap flag (sym (ap compareHasMargin is) ∙ call .present ∙ when-given _ _ _ n) ∙ sym (when-given _ _ _ n);
+        measured = written _ _ _ _ _ n (m ∙ sym (ap compareMargin is) ∙ call .margin);
+      }
 
 abbrev reliesRefuses : ReliesAnswer → ℕ
 reliesRefuses (relying.Refused number) = 1

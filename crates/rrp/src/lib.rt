@@ -2,11 +2,15 @@
 // a length, a result variable as a pointer. Each returns the call's refusal number, and if that is not 0 it has written nothing.
 
 use checker::compare::CompareAnswer;
+use checker::compare::Margin;
+use checker::compare::Preferred;
 use checker::relies::ReliesAnswer;
 use checker::verdict::VerdictAnswer;
 ghost use mathlib.Core.Path.{_≡_};
 ghost use Rattle.base.specs.Lent.{lent};
+ghost use Rattle.base.specs.Seek.{flag};
 ghost use Rattle.plan.specs.Refusal.{planRefusal};
+ghost use Rattle.queries.specs.Compare.{preferredNumber, marginPresent, marginValue};
 ghost use Rattle.running.specs.Activate.{Activates};
 ghost use Rattle.sheets.specs.Distances.{DistancesCall};
 ghost use Rattle.exports.specs.Exports.{SizeExport, ListExport, CompareExport, ReliesExport, VerdictExport, RunExport};
@@ -45,6 +49,37 @@ pub extern "C" fn rrp_list(plan: &[u8], list: usize, start: &mut u64, count: &mu
     0
 }
 
+// 1 if the first is better, 2 if the second is, 0 if neither is.
+fn preferred_number(preferred: Preferred) -> u8
+    ensures { λ r. ⌜ r ≡ preferredNumber preferred ⌝ }
+{
+    match preferred {
+        Preferred::First => 1,
+        Preferred::Second => 2,
+        Preferred::Neither => 0,
+    }
+}
+
+// 1 if there is a margin, else 0.
+fn margin_flag(margin: Margin) -> u8
+    ensures { λ r. ⌜ r ≡ flag (marginPresent margin) ⌝ }
+{
+    match margin {
+        Margin::Absent => 0,
+        Margin::Of(_) => 1,
+    }
+}
+
+// The margin, 0 if there is none.
+fn margin_value(margin: Margin) -> i64
+    ensures { λ r. ⌜ r ≡ marginValue margin ⌝ }
+{
+    match margin {
+        Margin::Absent => 0,
+        Margin::Of(difference) => difference,
+    }
+}
+
 #[no_mangle]
 pub extern "C" fn rrp_compare(
     plan: &[u8],
@@ -52,24 +87,20 @@ pub extern "C" fn rrp_compare(
     first: usize,
     second: usize,
     better: &mut u8,
+    present: &mut u8,
+    margin: &mut i64,
 ) -> u8
-    ensures { λ r. ⌜ CompareExport (now (plan .entry)) router first second r (lent better) ⌝ }
+    ensures { λ r. ⌜ CompareExport (now (plan .entry)) router first second r (lent better) (lent present) (lent margin) ⌝ }
 {
     let answer = checker::compare::compare(plan, router, first, second);
     match answer {
         CompareAnswer::Refused(number) => {
             return number;
         }
-        CompareAnswer::First => {
-            *better = 1;
-            return 0;
-        }
-        CompareAnswer::Second => {
-            *better = 2;
-            return 0;
-        }
-        CompareAnswer::Neither => {
-            *better = 0;
+        CompareAnswer::Compared(preferred, difference) => {
+            *better = preferred_number(preferred);
+            *present = margin_flag(difference);
+            *margin = margin_value(difference);
             return 0;
         }
     }

@@ -19,7 +19,7 @@ use Rattle.graph.specs.Groups.{together, label, stable, grouped}
 use Rattle.ranking.specs.Rank.{rankOver, rankRounds, rank}
 use Rattle.cycles.specs.Cycle.{start, next, walk, second, first, lap, cycleIn, cycle}
 use Rattle.checker.specs.Verdict.{isStable, highestOf, cycleOf}
-use Rattle.fields.specs.Fields.{decimal, spaced}
+use Rattle.fields.specs.Fields.{digits, decimal, spaced}
 use Rattle.report.specs.Text.{headLine, refusedLine, stableLine, suspectLine}
 use Rattle.text.specs.Listing.{listLine, listLines, planText}
 use Rattle.text.specs.Examples.{examplePlan, exampleText, refused1, refused3, examples, TextExamplesHold}
@@ -27,7 +27,7 @@ use Rattle.text.specs.Examples.{examplePlan, exampleText, refused1, refu
 pub text-examples : TextExamplesHold
 unfolding
     examplePlan exampleText refused1 refused3 examples
-    planText listLines listLine headLine refusedLine stableLine suspectLine spaced decimal
+    planText listLines listLine headLine refusedLine stableLine suspectLine spaced digits decimal
     isStable highestOf cycleOf start next walk second first lap cycleIn cycle rankOver rankRounds rank together label stable grouped closing
     listedClientOf bestClient offer betterOffer relies prefers pairs inSession named refuse bodyChecks planChecks planRefusal
     headerOk routerCountOk kindsOk placesOk sizesOk contentsOk routerOk routersOk sessionOk sessionsOk distancesOk

@@ -1,10 +1,9 @@
 // Prints the text of the plan on standard input, which crate `listing` lays out.
 
+use contents::header::LARGEST_PLAN;
 use libc::STDIN_FILENO;
 use libc::STDOUT_FILENO;
 use listing::TEXT_ROOM;
-
-const LARGEST_PLAN: usize = 16731;
 
 // One byte more than the largest plan is read, so that a longer input is seen to be too long.
 fn main() {

@@ -9,19 +9,22 @@ pub struct VerdictBuffers<'a> {
     pub cycle: &'a mut [u8],
 }
 
-/// A result variable of one byte between known bytes, so that a write wider
-/// than a byte is seen.
+/// A result variable between known bytes, so that a write wider than the
+/// variable is seen.
 #[derive(Clone, Copy)]
 #[repr(C)]
-pub struct Flag {
+pub struct Lent<T> {
     before: [u8; 8],
-    pub value: u8,
+    pub value: T,
     pub after: [u8; 15],
 }
 
-impl Flag {
-    pub fn new(value: u8) -> Self {
-        Flag { before: [0xA5; 8], value, after: [0x5A; 15] }
+/// A result variable of one byte.
+pub type Flag = Lent<u8>;
+
+impl<T> Lent<T> {
+    pub fn new(value: T) -> Self {
+        Lent { before: [0xA5; 8], value, after: [0x5A; 15] }
     }
 
     pub fn is_whole(&self) -> bool {
@@ -39,6 +42,34 @@ pub struct SizeFields {
 pub struct ListFields {
     pub start: u64,
     pub count: u64,
+}
+
+/// What a comparison of two egress routers gives.
+#[derive(Clone, Copy)]
+pub struct CompareFields {
+    /// 1 for the first, 2 for the second, 0 for neither: both are the same, or
+    /// there is a way to neither.
+    pub better: Flag,
+    /// 1 if there is a way to both, else 0.
+    pub has_margin: Flag,
+    /// The distance to the first minus the distance to the second; 0 if there is
+    /// no margin.
+    pub margin: Lent<i64>,
+}
+
+/// An answer of a comparison: which is better, and the margin if there is one.
+pub type Compared = (u8, Option<i64>);
+
+impl CompareFields {
+    pub fn new(better: u8, has_margin: u8, margin: i64) -> Self {
+        CompareFields { better: Flag::new(better), has_margin: Flag::new(has_margin), margin: Lent::new(margin) }
+    }
+
+    pub fn put(&mut self, (better, margin): Compared) {
+        self.better.value = better;
+        self.has_margin.value = u8::from(margin.is_some());
+        self.margin.value = margin.unwrap_or(0);
+    }
 }
 
 #[derive(Clone, Copy)]
@@ -70,9 +101,7 @@ pub trait Checker {
 
     fn list(&mut self, plan: &[u8], list: usize, fields: &mut ListFields) -> u8;
 
-    /// `better` becomes 1 for the first, 2 for the second, 0 for neither: both are
-    /// the same, or there is a way to neither.
-    fn compare(&mut self, plan: &[u8], router: usize, pair: (usize, usize), better: &mut u8) -> u8;
+    fn compare(&mut self, plan: &[u8], router: usize, pair: (usize, usize), fields: &mut CompareFields) -> u8;
 
     fn relies(&mut self, plan: &[u8], list: usize, pair: (usize, usize), relies: &mut u8) -> u8;
 

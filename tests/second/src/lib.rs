@@ -16,8 +16,8 @@ pub use harness::cases::lines as case_lines;
 pub use harness::comparison::compare;
 pub use harness::generate::{deepest, largest, numbered};
 pub use harness::random::Random;
-pub use harness::{self_test, small_plans, small_sheets};
+pub use harness::{questions, self_test, small_margins, small_plans, small_sheets};
 pub use interface::Checker;
 #[cfg(feature = "library")]
 pub use library::Library;
-pub use oracle::verdict_lines;
+pub use oracle::{margin_line, verdict_lines};

@@ -1,6 +1,8 @@
 //! The proved library, linked as a static C library.
 
-use crate::interface::{Acts, Checker, ListFields, RunFields, SizeFields, VerdictBuffers, VerdictFields};
+use crate::interface::{
+    Acts, Checker, CompareFields, ListFields, RunFields, SizeFields, VerdictBuffers, VerdictFields,
+};
 
 extern "C" {
     fn rrp_check(plan: *const u8, plan_len: usize) -> u8;
@@ -16,6 +18,8 @@ extern "C" {
         first: usize,
         second: usize,
         better: *mut u8,
+        has_margin: *mut u8,
+        margin: *mut i64,
     ) -> u8;
 
     fn rrp_relies(plan: *const u8, plan_len: usize, list: usize, router: usize, other: usize, relies: *mut u8) -> u8;
@@ -82,9 +86,20 @@ impl Checker for Library {
         unsafe { rrp_list(plan.as_ptr(), plan.len(), list, &mut fields.start, &mut fields.count) }
     }
 
-    fn compare(&mut self, plan: &[u8], router: usize, pair: (usize, usize), better: &mut u8) -> u8 {
+    fn compare(&mut self, plan: &[u8], router: usize, pair: (usize, usize), fields: &mut CompareFields) -> u8 {
         // SAFETY: as above.
-        unsafe { rrp_compare(plan.as_ptr(), plan.len(), router, pair.0, pair.1, better) }
+        unsafe {
+            rrp_compare(
+                plan.as_ptr(),
+                plan.len(),
+                router,
+                pair.0,
+                pair.1,
+                &mut fields.better.value,
+                &mut fields.has_margin.value,
+                &mut fields.margin.value,
+            )
+        }
     }
 
     fn relies(&mut self, plan: &[u8], list: usize, pair: (usize, usize), relies: &mut u8) -> u8 {

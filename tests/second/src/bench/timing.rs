@@ -10,7 +10,9 @@ use crate::harness::draft::Draft;
 use crate::harness::generate;
 use crate::harness::random::Random;
 use crate::harness::sheets::Sheet;
-use crate::interface::{Acts, Checker, Flag, ListFields, RunFields, SizeFields, VerdictBuffers, VerdictFields};
+use crate::interface::{
+    Acts, Checker, CompareFields, Flag, ListFields, RunFields, SizeFields, VerdictBuffers, VerdictFields,
+};
 use crate::library::Library;
 use crate::oracle::plan;
 use crate::oracle::rules::Case;
@@ -119,9 +121,9 @@ fn list(checker: &mut dyn Checker, plan: &[u8]) {
 }
 
 fn compare(checker: &mut dyn Checker, plan: &[u8]) {
-    let mut better = 0;
-    assert_eq!(checker.compare(black_box(plan), 0, (1, 2), &mut better), 0);
-    black_box(better);
+    let mut fields = CompareFields::new(0, 0, 0);
+    assert_eq!(checker.compare(black_box(plan), 0, (1, 2), &mut fields), 0);
+    black_box((fields.better.value, fields.has_margin.value, fields.margin.value));
 }
 
 fn relies(checker: &mut dyn Checker, plan: &[u8]) {

@@ -1,6 +1,7 @@
 //! Compares a checker of route-reflection plans with the second one.
 
-use second_checker::{self_test, small_plans, small_sheets, verdict_lines, Checker, Plain, Random, Tight};
+use second_checker::{margin_line, questions, self_test, small_margins, small_plans, small_sheets, verdict_lines};
+use second_checker::{Checker, Plain, Random, Tight};
 use std::env;
 use std::error::Error;
 use std::fs;
@@ -14,8 +15,13 @@ second --against library|plain|tight [--seed S] [--first K] [--plans N]   compar
 second self [--seed S] [--plans N]           test the second checker alone, and the comparison on known faults
 second cases                                 print the lines that the program `cases` is due to print
 second verdict                               print the lines the verdict program is due to print for standard input
+second margin                                print the line the margin program is due to print for standard input
 second write FOLDER [--seed S] [--plans N]   write plans and the lines the verdict program is due to print
+second ask FOLDER [--seed S] [--plans N]     write inputs and the lines the margin program is due to print
 second plan largest|deepest                  write the plan with the most bytes or the highest rank";
+
+/// The gate runs the margin program on so many inputs.
+const INPUTS: u64 = 300;
 
 struct Options {
     words: Vec<String>,
@@ -69,12 +75,17 @@ fn test_self(options: &Options) -> Result<bool, Box<dyn Error>> {
     println!("seed {}", options.seed);
     small_plans::test()?;
     println!("small plans M1 to M9, bounds, cuts, example output, rank of the deepest plan: as stated");
+    small_margins::test()?;
+    println!("margins of small plans, and the lines of them: as stated");
     small_sheets::test()?;
     println!("small sheets of links, their refusals in order: as stated");
     self_test::aimed_damage()?;
     self_test::damaged_links()?;
     println!("damage aimed at refusals 1 to 7 and 11: refused so");
     println!("known faults: {} found, each of them", self_test::faults()?);
+    println!("misread rules: {} found, each also beside itself", self_test::misread_on_both_sides()?);
+    let programs = questions::wrong_programs_found(options.seed, INPUTS)?;
+    println!("wrong margin programs: {programs} found on {INPUTS} inputs, each of them");
     let without_a_walk = self_test::least_sums(options.seed, options.plans)?;
     println!("least sums on {} sheets: as due, {without_a_walk} pairs without a walk", options.plans);
     let counts = self_test::consistency(options.seed, options.plans)?;
@@ -86,22 +97,35 @@ fn test_self(options: &Options) -> Result<bool, Box<dyn Error>> {
     Ok(true)
 }
 
-fn write_plans(folder: &str, options: &Options) -> Result<bool, Box<dyn Error>> {
+fn plan_numbered(seed: u64, number: u64) -> Vec<u8> {
+    second_checker::numbered(seed, number).0
+}
+
+/// Writes inputs of a program as NNNNN.KIND, and as NNNNN.expected what it is due
+/// to print for them.
+fn write_inputs(
+    folder: &str,
+    options: &Options,
+    kind: &str,
+    input: fn(u64, u64) -> Vec<u8>,
+    due: fn(&[u8]) -> String,
+) -> Result<bool, Box<dyn Error>> {
     let folder = Path::new(folder);
     fs::create_dir_all(folder)?;
     for number in 0..options.plans {
-        let (bytes, _) = second_checker::numbered(options.seed, number);
-        fs::write(folder.join(format!("{number:05}.plan")), &bytes)?;
-        fs::write(folder.join(format!("{number:05}.expected")), verdict_lines(&bytes))?;
+        let bytes = input(options.seed, number);
+        fs::write(folder.join(format!("{number:05}.{kind}")), &bytes)?;
+        fs::write(folder.join(format!("{number:05}.expected")), due(&bytes))?;
     }
-    println!("second write: {} plans", options.plans);
+    println!("second: {} inputs written", options.plans);
     Ok(true)
 }
 
-fn print_verdicts() -> Result<bool, Box<dyn Error>> {
+/// Prints what a program is due to print for standard input.
+fn print_due(due: fn(&[u8]) -> String) -> Result<bool, Box<dyn Error>> {
     let mut bytes = Vec::new();
     io::stdin().read_to_end(&mut bytes)?;
-    write(verdict_lines(&bytes).as_bytes())
+    write(due(&bytes).as_bytes())
 }
 
 fn write(bytes: &[u8]) -> Result<bool, Box<dyn Error>> {
@@ -116,8 +140,10 @@ fn program() -> Result<bool, Box<dyn Error>> {
         [] => compare(&options),
         ["self"] => test_self(&options),
         ["cases"] => write(second_checker::case_lines().as_bytes()),
-        ["verdict"] => print_verdicts(),
-        ["write", folder] => write_plans(folder, &options),
+        ["verdict"] => print_due(verdict_lines),
+        ["margin"] => print_due(margin_line),
+        ["write", folder] => write_inputs(folder, &options, "plan", plan_numbered, verdict_lines),
+        ["ask", folder] => write_inputs(folder, &options, "input", questions::numbered, margin_line),
         ["plan", "largest"] => write(&second_checker::largest(&mut Random::new(options.seed)).bytes()),
         ["plan", "deepest"] => write(&second_checker::deepest().bytes()),
         _ => Err("unknown words".into()),

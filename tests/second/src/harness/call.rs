@@ -1,7 +1,10 @@
 //! Makes one call on any checker and keeps all that it answers and all that it
 //! leaves: results, buffers, and the bytes around them.
 
-use crate::interface::{Acts, Checker, Flag, ListFields, RunFields, SizeFields, VerdictBuffers, VerdictFields};
+use crate::interface::{
+    Acts, Checker, CompareFields, Compared, Flag, Lent, ListFields, RunFields, SizeFields, VerdictBuffers,
+    VerdictFields,
+};
 
 /// One call, with the content of its buffers before it.
 #[derive(Debug)]
@@ -45,30 +48,34 @@ pub enum Call {
     },
 }
 
+/// What any result variable may hold: a number of eight bytes, or one with a sign.
+pub type Field = i128;
+
 /// All that a call answered and left.
 #[derive(Debug, PartialEq)]
 pub struct Answer {
     pub refusal: u8,
     /// The result fields in the order of the interface.
-    pub fields: Vec<u64>,
+    pub fields: Vec<Field>,
     /// Every byte of every lent buffer after the call.
     pub buffers: Vec<Vec<u8>>,
-    /// The bytes before and after each buffer and each result variable of one
-    /// byte, the plan, the sequence and the links are as they were.
+    /// The bytes before and after each buffer, each result variable of one byte and
+    /// a margin, the plan, the sequence and the links are as they were.
     pub surroundings_kept: bool,
 }
 
 impl Answer {
-    fn new(refusal: u8, fields: Vec<u64>) -> Self {
-        Answer { refusal, fields, buffers: Vec::new(), surroundings_kept: true }
+    fn new(refusal: u8, fields: impl Into<Vec<Field>>) -> Self {
+        Answer { refusal, fields: fields.into(), buffers: Vec::new(), surroundings_kept: true }
     }
 
-    /// An answer with one result variable of one byte.
-    fn of(refusal: u8, result: Flag) -> Self {
-        Answer::new(refusal, vec![u64::from(result.value)]).beside(result)
+    /// What a comparison that is not refused gave.
+    pub fn compared(&self) -> Compared {
+        let margin = (self.fields[1] == 1).then_some(self.fields[2] as i64);
+        (self.fields[0] as u8, margin)
     }
 
-    fn beside(mut self, result: Flag) -> Self {
+    fn beside<T>(mut self, result: Lent<T>) -> Self {
         self.surroundings_kept &= result.is_whole();
         self
     }
@@ -112,32 +119,30 @@ impl Guarded {
 pub fn perform(checker: &mut dyn Checker, plan: &[u8], call: &Call, prior: u64) -> Answer {
     let lent_plan = plan.to_vec();
     let mut answer = match call {
-        Call::Check => Answer::new(checker.check(&lent_plan), Vec::new()),
+        Call::Check => Answer::new(checker.check(&lent_plan), []),
         Call::Size => {
             let mut fields = SizeFields { routers: prior, lists: !prior };
             let refusal = checker.size(&lent_plan, &mut fields);
-            Answer::new(refusal, vec![fields.routers, fields.lists])
+            Answer::new(refusal, [fields.routers, fields.lists].map(Field::from))
         }
         Call::List { list } => {
             let mut fields = ListFields { start: prior, count: !prior };
             let refusal = checker.list(&lent_plan, *list, &mut fields);
-            Answer::new(refusal, vec![fields.start, fields.count])
+            Answer::new(refusal, [fields.start, fields.count].map(Field::from))
         }
         Call::Compare { router, first, second } => {
-            let mut better = Flag::new(prior as u8);
-            let refusal = checker.compare(&lent_plan, *router, (*first, *second), &mut better.value);
-            Answer::of(refusal, better)
+            perform_compare(checker, &lent_plan, *router, (*first, *second), prior)
         }
         Call::Relies { list, router, other } => {
             let mut relies = Flag::new(prior as u8);
             let refusal = checker.relies(&lent_plan, *list, (*router, *other), &mut relies.value);
-            Answer::of(refusal, relies)
+            Answer::new(refusal, [relies.value.into()]).beside(relies)
         }
         Call::Verdict { list, buffers } => perform_verdict(checker, &lent_plan, *list, buffers, prior),
         Call::Activate { list, router, table } => {
             let mut lent = [Guarded::new(table)];
             let refusal = checker.activate(&lent_plan, *list, *router, lent[0].lent());
-            Answer::new(refusal, Vec::new()).with(&lent)
+            Answer::new(refusal, []).with(&lent)
         }
         Call::Run { list, sequence, limit, table } => {
             let acts = Acts { sequence, limit: *limit };
@@ -146,13 +151,27 @@ pub fn perform(checker: &mut dyn Checker, plan: &[u8], call: &Call, prior: u64) 
         Call::Distances { n, links, out } => {
             let (lent_links, mut lent) = (links.clone(), [Guarded::new(out)]);
             let refusal = checker.distances(*n, &lent_links, lent[0].lent());
-            let mut answer = Answer::new(refusal, Vec::new()).with(&lent);
+            let mut answer = Answer::new(refusal, []).with(&lent);
             answer.surroundings_kept &= lent_links == *links;
             answer
         }
     };
     answer.surroundings_kept &= lent_plan == plan;
     answer
+}
+
+fn perform_compare(
+    checker: &mut dyn Checker,
+    plan: &[u8],
+    router: usize,
+    pair: (usize, usize),
+    prior: u64,
+) -> Answer {
+    let mut fields = CompareFields::new(prior as u8, !prior as u8, prior as i64);
+    let refusal = checker.compare(plan, router, pair, &mut fields);
+    let CompareFields { better, has_margin, margin } = fields;
+    let results = [better.value.into(), has_margin.value.into(), margin.value.into()];
+    Answer::new(refusal, results).beside(better).beside(has_margin).beside(margin)
 }
 
 fn perform_verdict(
@@ -166,7 +185,7 @@ fn perform_verdict(
     let mut lent = buffers.each_ref().map(|buffer| Guarded::new(buffer));
     let [labels, ranks, table, cycle] = lent.each_mut().map(Guarded::lent);
     let refusal = checker.verdict(plan, list, VerdictBuffers { labels, ranks, table, cycle }, &mut fields);
-    let results = vec![u64::from(fields.stable.value), fields.size];
+    let results = [fields.stable.value.into(), fields.size.into()];
     Answer::new(refusal, results).with(&lent).beside(fields.stable)
 }
 
@@ -176,7 +195,7 @@ fn perform_run(checker: &mut dyn Checker, plan: &[u8], list: usize, acts: Acts, 
     let mut lent = [Guarded::new(table)];
     let lent_acts = Acts { sequence: &lent_sequence, ..acts };
     let refusal = checker.run(plan, list, lent_acts, lent[0].lent(), &mut fields);
-    let results = vec![fields.applied, fields.rounds, u64::from(fields.exhausted.value)];
+    let results = [fields.applied.into(), fields.rounds.into(), fields.exhausted.value.into()];
     let mut answer = Answer::new(refusal, results).with(&lent).beside(fields.exhausted);
     answer.surroundings_kept &= lent_sequence == acts.sequence;
     answer

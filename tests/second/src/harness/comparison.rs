@@ -1,58 +1,17 @@
 //! The comparison: makes the same calls on the oracle and on a checker, and
-//! compares all that they answer and leave, to the last byte.
+//! compares all that they answer and leave, to the last byte; on small plans also
+//! with what follows from the plan's comparisons alone.
 
 use super::call::{perform, Answer, Call};
+use super::counts::Counts;
 use super::generate;
 use super::plan_calls;
+use super::preferences::Preferences;
 use super::random::Random;
 use super::sheet_calls;
 use crate::interface::Checker;
-use crate::oracle::rules::Right;
 use crate::oracle::Oracle;
-use std::fmt;
 use std::ops::Range;
-
-#[derive(Default)]
-pub struct Counts {
-    pub plans: u64,
-    pub sound_plans: u64,
-    /// Sound plans in which some router has no way to some other.
-    pub plans_with_cuts: u64,
-    pub lists: u64,
-    pub suspect_lists: u64,
-    pub sheets: u64,
-    /// Sheets whose distances are written.
-    pub sheets_with_distances: u64,
-    pub refusals: [u64; 13],
-    pub calls: u64,
-    pub series: u64,
-    pub series_with_cuts: u64,
-    pub acts_in_series: u64,
-    pub highest_rank: u64,
-    pub longest_cycle: u64,
-    /// Cycles that the walk enters from a router outside the cycle.
-    pub entered_cycles: u64,
-    pub mismatches: u64,
-}
-
-impl fmt::Display for Counts {
-    fn fmt(&self, out: &mut fmt::Formatter) -> fmt::Result {
-        writeln!(out, "sound plans {}, calls not refused {}", self.sound_plans, self.refusals[0])?;
-        writeln!(out, "plans with cuts {}, series on these {}", self.plans_with_cuts, self.series_with_cuts)?;
-        writeln!(out, "sheets with distances {}", self.sheets_with_distances)?;
-        writeln!(out, "highest rank {} longest cycle {}", self.highest_rank, self.longest_cycle)?;
-        writeln!(out, "cycles without the lowest router of their group {}", self.entered_cycles)?;
-        for (number, count) in self.refusals.iter().enumerate().skip(1) {
-            writeln!(out, "refusal {number}: {count} calls")?;
-        }
-        writeln!(out, "acts in series {}", self.acts_in_series)?;
-        write!(
-            out,
-            "second: {} plans, {} lists, {} suspect, {} sheets, {} calls, {} series settled, mismatches {}",
-            self.plans, self.lists, self.suspect_lists, self.sheets, self.calls, self.series, self.mismatches
-        )
-    }
-}
 
 /// What differs, with all that is needed to repeat it.
 pub struct Mismatch(pub String);
@@ -71,8 +30,8 @@ pub fn compare(
     numbers: Range<u64>,
     report: &mut dyn FnMut(u64, &str),
 ) -> Counts {
-    let mut comparison =
-        Comparison { oracle: Oracle::right(), subject, priors: Random::new(0), counts: Counts::default() };
+    let mut oracle = Oracle::right();
+    let mut comparison = Comparison::of(&mut oracle, subject);
     for number in numbers {
         if let Err(mismatch) = comparison.numbered(seed, number) {
             comparison.counts.mismatches += 1;
@@ -85,24 +44,38 @@ pub fn compare(
     comparison.counts
 }
 
+/// Whether a checker is told from the oracle, or from another in its place, by a
+/// plan or a sheet of these numbers.
+pub fn differ(oracle: &mut dyn Checker, subject: &mut dyn Checker, seed: u64, mut numbers: Range<u64>) -> bool {
+    let mut comparison = Comparison::of(oracle, subject);
+    numbers.any(|number| comparison.numbered(seed, number).is_err())
+}
+
 pub fn hex(bytes: &[u8]) -> String {
     bytes.iter().map(|byte| format!("{byte:02x}")).collect()
 }
 
 pub struct Comparison<'a> {
-    oracle: Oracle<Right>,
+    oracle: &'a mut dyn Checker,
     subject: &'a mut dyn Checker,
+    /// A plan, and a checker that knows its comparisons and no distance.
+    compared: Option<(Vec<u8>, Oracle<Preferences>)>,
     /// The content of result fields before a call.
     priors: Random,
     pub counts: Counts,
 }
 
-impl Comparison<'_> {
+impl<'a> Comparison<'a> {
+    fn of(oracle: &'a mut dyn Checker, subject: &'a mut dyn Checker) -> Self {
+        Comparison { oracle, subject, compared: None, priors: Random::new(0), counts: Counts::default() }
+    }
+
     /// All calls for one plan and one sheet of links; they depend on the seed and
     /// the number alone.
     fn numbered(&mut self, seed: u64, number: u64) -> Outcome {
         let (bytes, mut random) = generate::numbered(seed, number);
         self.priors = Random::new(random.word());
+        self.compared = None;
         plan_calls::compare(self, &mut random, &bytes)?;
         if number % 4000 == 50 {
             let few_routers = 1 + number as usize / 4000 % 4;
@@ -111,20 +84,34 @@ impl Comparison<'_> {
         sheet_calls::compare(self, &mut random)
     }
 
+    /// From now on calls on this plan must agree with its comparisons.
+    pub fn go_by(&mut self, plan: &[u8], preferences: Preferences) {
+        self.compared = Some((plan.to_vec(), Oracle::with(preferences)));
+    }
+
     /// Makes the call on both; the answer if they agree to the last byte.
     pub fn call(&mut self, plan: &[u8], call: &Call) -> Result<Answer, Box<Mismatch>> {
         let prior = self.priors.word();
-        let expected = perform(&mut self.oracle, plan, call, prior);
+        let expected = perform(self.oracle, plan, call, prior);
         let found = perform(self.subject, plan, call, prior);
-        self.counts.calls += 1;
-        self.counts.refusals[usize::from(expected.refusal)] += 1;
-        if expected == found {
-            return Ok(expected);
+        let differs = |who: &str, found: &Answer| {
+            Box::new(Mismatch(format!(
+                "plan {}\ncall {call:?}\nresult fields before the call {prior}\n\
+                 oracle     {expected:?}\n{who} {found:?}",
+                hex(plan)
+            )))
+        };
+        self.counts.count(call, &expected);
+        if expected != found {
+            return Err(differs("under test", &found));
         }
-        Err(Box::new(Mismatch(format!(
-            "plan {}\ncall {call:?}\nresult fields before the call {prior}\n\
-             oracle     {expected:?}\nunder test {found:?}",
-            hex(plan)
-        ))))
+        if let Some((_, checker)) = self.compared.as_mut().filter(|(of, _)| of == plan) {
+            let derived = perform(checker, plan, call, prior);
+            self.counts.calls_by_comparisons += 1;
+            if expected != derived {
+                return Err(differs("by comparisons", &derived));
+            }
+        }
+        Ok(expected)
     }
 }

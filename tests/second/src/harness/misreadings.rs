@@ -8,6 +8,7 @@ use std::collections::BTreeSet;
 #[derive(Clone, Copy, Debug, PartialEq, Eq)]
 pub enum Misreading {
     ScaledDistances,
+    ScaledDifferences,
     DistanceByItsLowByte,
     HigherNumberWinsTie,
     TieIsNoReliance,
@@ -35,8 +36,9 @@ pub enum Misreading {
     WayOfTheSenderCounts,
 }
 
-pub const MISREADINGS: [Misreading; 26] = [
+pub const MISREADINGS: [Misreading; 27] = [
     Misreading::ScaledDistances,
+    Misreading::ScaledDifferences,
     Misreading::DistanceByItsLowByte,
     Misreading::HigherNumberWinsTie,
     Misreading::TieIsNoReliance,
@@ -88,6 +90,10 @@ impl Rules for Misread {
     fn is_better(&self, plan: &Plan, at: Router, first: Router, second: Router) -> bool {
         let ways = [first, second].map(|egress| plan.has_way(at, egress));
         match self.0 {
+            Misreading::ScaledDifferences if ways == [true, true] => {
+                let scaled = self.margin(plan, at, first, second).map(|margin| margin / 10);
+                (scaled, first) < (Some(0), second)
+            }
             Misreading::LowerNumberWinsWithoutAWay if ways == [false, false] => first < second,
             Misreading::NoneBeatsAWay if ways[0] != ways[1] => ways[1],
             Misreading::AWayDoesNotBeatNone if ways[0] != ways[1] => false,

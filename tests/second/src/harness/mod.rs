@@ -4,14 +4,19 @@
 
 pub mod arguments;
 mod call;
+mod careless;
 pub mod cases;
+mod compare_slips;
 pub mod comparison;
+mod counts;
 mod cuts;
 mod damage;
 pub mod draft;
 pub mod generate;
 mod misreadings;
 mod plan_calls;
+mod preferences;
+pub mod questions;
 pub mod random;
 pub mod self_test;
 mod series;
@@ -19,5 +24,6 @@ mod sheet_calls;
 mod sheet_slips;
 pub mod sheets;
 mod slips;
+pub mod small_margins;
 pub mod small_plans;
 pub mod small_sheets;

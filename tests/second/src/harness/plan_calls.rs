@@ -4,10 +4,14 @@ use super::arguments;
 use super::call::{Answer, Call};
 use super::comparison::{Comparison, Mismatch, Outcome};
 use super::generate;
+use super::preferences::Preferences;
 use super::random::Random;
 use super::series;
 use crate::oracle::plan::{self, Plan};
 use crate::oracle::rules::Case;
+
+/// So many routers are few: every comparison and every reliance is asked for.
+const FEW: usize = 8;
 
 /// All calls for one plan.
 pub fn compare(comparison: &mut Comparison, random: &mut Random, bytes: &[u8]) -> Outcome {
@@ -55,6 +59,10 @@ fn loose_calls(random: &mut Random) -> [Call; 6] {
 fn sound(comparison: &mut Comparison, random: &mut Random, bytes: &[u8], plan: &Plan) -> Outcome {
     comparison.counts.sound_plans += 1;
     comparison.counts.plans_with_cuts += u64::from(plan.has_cuts());
+    if plan.n <= FEW {
+        let preferences = Preferences::ask(comparison, bytes, plan.n)?;
+        comparison.go_by(bytes, preferences);
+    }
     comparisons(comparison, random, bytes, plan)?;
     past_the_lists(comparison, random, bytes, plan)?;
     let verdicts = verdicts_of_lists(comparison, random, bytes, plan)?;
@@ -133,9 +141,9 @@ fn verdicts_of_lists(
             counts.suspect_lists += 1;
             let (labels, first) = (&answer.buffers[0], answer.buffers[3][0]);
             counts.entered_cycles += u64::from(labels[usize::from(first)] != first);
-            counts.longest_cycle = counts.longest_cycle.max(answer.fields[1]);
+            counts.longest_cycle = counts.longest_cycle.max(answer.fields[1] as u64);
         } else {
-            counts.highest_rank = counts.highest_rank.max(answer.fields[1]);
+            counts.highest_rank = counts.highest_rank.max(answer.fields[1] as u64);
         }
         verdicts.push(answer);
     }
@@ -162,7 +170,7 @@ fn all_reliances(comparison: &mut Comparison, bytes: &[u8], list: usize, n: usiz
 }
 
 fn reliances(comparison: &mut Comparison, random: &mut Random, bytes: &[u8], list: usize, plan: &Plan) -> Outcome {
-    if plan.n <= 8 {
+    if plan.n <= FEW {
         return all_reliances(comparison, bytes, list, plan.n);
     }
     for _ in 0..12 {

@@ -2,13 +2,14 @@
 //! fault.
 
 use super::arguments;
-use super::comparison::compare;
+use super::careless::Careless;
+use super::comparison::differ;
 use super::damage;
 use super::generate;
 use super::misreadings::{Misread, MISREADINGS};
 use super::random::Random;
 use super::sheets::{self, Sheet, DAMAGES};
-use super::slips::{Careless, SLIPS};
+use super::slips::SLIPS;
 use crate::interface::Checker;
 use crate::oracle::links::{self, Sums};
 use crate::oracle::plan::{self, Router};
@@ -28,23 +29,33 @@ const PLANS_FOR_A_FAULT: u64 = 4000;
 /// kind of damage.
 const DAMAGED: usize = 500;
 
-fn finds(subject: &mut dyn Checker, fault: &str) -> Result<(), String> {
-    let counts = compare(subject, SEED, 0..PLANS_FOR_A_FAULT, &mut |_, _| ());
-    if counts.mismatches == 0 {
-        return Err(format!("the fault {fault} was not found"));
+/// The comparison tells the subject from the oracle, or another in its place.
+fn finds(oracle: &mut dyn Checker, subject: &mut dyn Checker, fault: &str) -> Result<(), String> {
+    if differ(oracle, subject, SEED, 0..PLANS_FOR_A_FAULT) {
+        return Ok(());
     }
-    Ok(())
+    Err(format!("the fault {fault} was not found"))
 }
 
 /// The comparison finds every known fault; how many there are.
 pub fn faults() -> Result<usize, String> {
     for misreading in MISREADINGS {
-        finds(&mut Oracle::with(Misread(misreading)), &format!("{misreading:?}"))?;
+        finds(&mut Oracle::right(), &mut Oracle::with(Misread(misreading)), &format!("{misreading:?}"))?;
     }
     for slip in SLIPS {
-        finds(&mut Careless::new(slip), &format!("{slip:?}"))?;
+        finds(&mut Oracle::right(), &mut Careless::new(slip), &format!("{slip:?}"))?;
     }
     Ok(MISREADINGS.len() + SLIPS.len())
+}
+
+/// A checker with a misread rule is found even if compared with itself: its
+/// answers do not follow from its own comparisons by the rules. How many there are.
+pub fn misread_on_both_sides() -> Result<usize, String> {
+    for misreading in MISREADINGS {
+        let [mut one, mut other] = [misreading; 2].map(|misreading| Oracle::with(Misread(misreading)));
+        finds(&mut one, &mut other, &format!("{misreading:?} on both sides"))?;
+    }
+    Ok(MISREADINGS.len())
 }
 
 /// Damage aimed at a refusal is refused with it, nearly always.

@@ -45,7 +45,7 @@ pub fn compare(
 ) -> Outcome {
     let mut series = Series::new(random, bytes, plan, list);
     let start = series.table.clone();
-    let needed = verdict.fields[1] + 2;
+    let needed = verdict.fields[1] as u64 + 2;
     while series.rounds.whole < needed {
         series.step(comparison, random)?;
     }

@@ -1,12 +1,5 @@
-//! Checkers with a slip in one call each, to see that the comparison finds it.
-
-use super::sheet_slips;
-use crate::interface::{Acts, Checker, ListFields, RunFields, SizeFields, VerdictBuffers, VerdictFields};
-use crate::oracle::plan::{self, NO_WAY};
-use crate::oracle::rules::Right;
-use crate::oracle::tables::NONE;
-use crate::oracle::Oracle;
-use std::mem::swap;
+//! The slips that a checker may make in one call, to see that the comparison
+//! finds each.
 
 /// A slip in a call that reads the rules rightly.
 #[derive(Clone, Copy, Debug, PartialEq, Eq)]
@@ -20,8 +13,26 @@ pub enum Slip {
     TenBeforeNine,
     ListCutToAByte,
     LimitCutToAWord,
-    FieldsClearedOnRefusal,
     FirstAndSecondExchanged,
+    ComparedNumbersCutToAByte,
+    TieIsNeither,
+    MarginSignTurned,
+    MarginWithoutItsSign,
+    MarginInTens,
+    MarginCutToTwoBytes,
+    MarginOfTheWaysBack,
+    NoWayTakenForADistance,
+    MarginWithOneWay,
+    MarginOfTwoWithoutAWay,
+    NoMarginOfATie,
+    NoMarginOfTheSame,
+    MarginLeftWhereThereIsNone,
+    MarginOfFourBytes,
+    ByteAfterTheMargin,
+    HasMarginWrittenAsAWord,
+    BetterClearedOnRefusal,
+    HasMarginClearedOnRefusal,
+    MarginClearedOnRefusal,
     SizeZeroOnRefusal,
     SizeExchanged,
     ByteAfterTheTable,
@@ -62,7 +73,7 @@ pub enum Slip {
     ByteAfterTheDistances,
 }
 
-pub const SLIPS: [Slip; 49] = [
+pub const SLIPS: [Slip; 67] = [
     Slip::FirstActOnly,
     Slip::ActLeavesTable,
     Slip::ExhaustedAtTheLimit,
@@ -72,8 +83,26 @@ pub const SLIPS: [Slip; 49] = [
     Slip::TenBeforeNine,
     Slip::ListCutToAByte,
     Slip::LimitCutToAWord,
-    Slip::FieldsClearedOnRefusal,
     Slip::FirstAndSecondExchanged,
+    Slip::ComparedNumbersCutToAByte,
+    Slip::TieIsNeither,
+    Slip::MarginSignTurned,
+    Slip::MarginWithoutItsSign,
+    Slip::MarginInTens,
+    Slip::MarginCutToTwoBytes,
+    Slip::MarginOfTheWaysBack,
+    Slip::NoWayTakenForADistance,
+    Slip::MarginWithOneWay,
+    Slip::MarginOfTwoWithoutAWay,
+    Slip::NoMarginOfATie,
+    Slip::NoMarginOfTheSame,
+    Slip::MarginLeftWhereThereIsNone,
+    Slip::MarginOfFourBytes,
+    Slip::ByteAfterTheMargin,
+    Slip::HasMarginWrittenAsAWord,
+    Slip::BetterClearedOnRefusal,
+    Slip::HasMarginClearedOnRefusal,
+    Slip::MarginClearedOnRefusal,
     Slip::SizeZeroOnRefusal,
     Slip::SizeExchanged,
     Slip::ByteAfterTheTable,
@@ -113,141 +142,3 @@ pub const SLIPS: [Slip; 49] = [
     Slip::WhatFitsWrittenBeforeNine,
     Slip::ByteAfterTheDistances,
 ];
-
-pub struct Careless {
-    slip: Slip,
-    inner: Oracle<Right>,
-}
-
-impl Careless {
-    pub fn new(slip: Slip) -> Self {
-        Careless { slip, inner: Oracle::right() }
-    }
-
-    fn is(&self, slip: Slip) -> bool {
-        self.slip == slip
-    }
-}
-
-/// A plan refused with 6, with the distance 0 for each router that has no way to
-/// itself.
-fn with_ways_to_itself(plan: &[u8]) -> Vec<u8> {
-    let (mut plan, n) = (plan.to_vec(), usize::from(plan[4]));
-    let start = usize::from(u16::from_le_bytes([plan[17], plan[18]]));
-    let (distances, _) = plan[start..][..2 * n * n].as_chunks_mut();
-    let diagonal = distances.iter_mut().step_by(n + 1);
-    diagonal.filter(|distance| **distance == NO_WAY.to_le_bytes()).for_each(|distance| *distance = [0, 0]);
-    plan
-}
-
-/// Whether a sound table for a sound plan has an entry without a way.
-fn holds_without_way(bytes: &[u8], table: &[u8]) -> bool {
-    let Ok(plan) = plan::read(bytes) else { return false };
-    let (entries, _) = table.as_chunks();
-    let mut held = entries.iter().take(plan.n).enumerate().filter(|(_, entry)| **entry != [NONE, NONE]);
-    held.any(|(router, &[egress, _])| !plan.has_way(router, usize::from(egress)))
-}
-
-impl Checker for Careless {
-    fn check(&mut self, plan: &[u8]) -> u8 {
-        let refusal = self.inner.check(plan);
-        match self.slip {
-            Slip::LongPlanAccepted if plan.len() > 16_731 => 3,
-            Slip::NoWayRefused if refusal == 0 && plan::read(plan).is_ok_and(|plan| plan.has_cuts()) => 6,
-            Slip::NoWayToItselfAccepted if refusal == 6 => self.inner.check(&with_ways_to_itself(plan)),
-            _ => refusal,
-        }
-    }
-
-    fn size(&mut self, plan: &[u8], fields: &mut SizeFields) -> u8 {
-        let refusal = self.inner.size(plan, fields);
-        match self.slip {
-            Slip::SizeZeroOnRefusal if refusal != 0 => *fields = SizeFields { routers: 0, lists: 0 },
-            Slip::SizeExchanged if refusal == 0 => swap(&mut fields.routers, &mut fields.lists),
-            _ => (),
-        }
-        refusal
-    }
-
-    fn list(&mut self, plan: &[u8], list: usize, fields: &mut ListFields) -> u8 {
-        let list = if self.is(Slip::ListCutToAByte) { list % 256 } else { list };
-        self.inner.list(plan, list, fields)
-    }
-
-    fn compare(&mut self, plan: &[u8], router: usize, pair: (usize, usize), better: &mut u8) -> u8 {
-        let pair = if self.is(Slip::FirstAndSecondExchanged) { (pair.1, pair.0) } else { pair };
-        let refusal = self.inner.compare(plan, router, pair, better);
-        if self.is(Slip::FieldsClearedOnRefusal) && refusal != 0 {
-            *better = 0;
-        }
-        refusal
-    }
-
-    fn relies(&mut self, plan: &[u8], list: usize, pair: (usize, usize), relies: &mut u8) -> u8 {
-        self.inner.relies(plan, list, pair, relies)
-    }
-
-    fn verdict(&mut self, plan: &[u8], list: usize, lent: VerdictBuffers, fields: &mut VerdictFields) -> u8 {
-        let VerdictBuffers { labels, ranks, table, cycle } = lent;
-        let again = VerdictBuffers { labels, ranks, table, cycle: &mut *cycle };
-        let refusal = self.inner.verdict(plan, list, again, fields);
-        if refusal == 0 && self.is(Slip::SuspectToAll) {
-            fields.stable.value = 0;
-        }
-        if refusal == 0 && self.is(Slip::FlagWrittenAsAWord) {
-            fields.stable.after[..3].fill(0);
-        }
-        let after = fields.size as usize;
-        if refusal == 0 && fields.stable.value == 0 && self.is(Slip::ByteAfterTheCycle) && after < cycle.len() {
-            cycle[after] = 255;
-        }
-        refusal
-    }
-
-    fn activate(&mut self, plan: &[u8], list: usize, router: usize, table: &mut [u8]) -> u8 {
-        let before = table.to_vec();
-        let refusal = self.inner.activate(plan, list, router, table);
-        if refusal == 0 && self.is(Slip::ActLeavesTable) {
-            table.copy_from_slice(&before);
-        }
-        if refusal == 0 && self.is(Slip::ByteAfterTheTable) && table.len() > 2 * usize::from(plan[4]) {
-            table[2 * usize::from(plan[4])] = 0;
-        }
-        if refusal == 9 && self.is(Slip::TenBeforeNine) {
-            return 10;
-        }
-        if refusal == 0 && self.is(Slip::EntryWithoutAWayRefused) && holds_without_way(plan, &before) {
-            table.copy_from_slice(&before);
-            return 10;
-        }
-        refusal
-    }
-
-    fn run(&mut self, plan: &[u8], list: usize, acts: Acts, table: &mut [u8], fields: &mut RunFields) -> u8 {
-        let length = acts.sequence.len() as u64;
-        let mut acts = acts;
-        match self.slip {
-            Slip::SequenceCheckedToTheLimit if acts.limit < length => {
-                acts.sequence = &acts.sequence[..acts.limit as usize];
-            }
-            Slip::FirstActOnly => acts.limit = acts.limit.min(1),
-            Slip::LimitCutToAWord => acts.limit %= 1 << 32,
-            _ => (),
-        }
-        let refusal = self.inner.run(plan, list, acts, table, fields);
-        if refusal != 0 {
-            return refusal;
-        }
-        match self.slip {
-            Slip::ExhaustedAtTheLimit => fields.exhausted.value = u8::from(length >= acts.limit),
-            Slip::ExhaustedNever => fields.exhausted.value = 0,
-            Slip::RoundsByDivision => fields.rounds = fields.applied / u64::from(plan[4]),
-            _ => (),
-        }
-        refusal
-    }
-
-    fn distances(&mut self, n: usize, links: &[u8], out: &mut [u8]) -> u8 {
-        sheet_slips::distances(self.slip, n, links, out)
-    }
-}

@@ -2,7 +2,7 @@
 //! of the verdict program; what document 02 states of cut-off routers; and the
 //! rank of the deepest plan.
 
-use super::call::{perform, Answer, Call};
+use super::call::{perform, Answer, Call, Field};
 use super::draft::Draft;
 use super::generate;
 use crate::oracle::plan::NO_WAY;
@@ -41,22 +41,22 @@ pub fn same<T: PartialEq + Debug>(what: &str, found: T, expected: T) -> Result<(
     Err(format!("{what}: found {found:?}, expected {expected:?}"))
 }
 
-fn answer(draft: &Draft, call: &Call) -> Answer {
+pub fn answer(draft: &Draft, call: &Call) -> Answer {
     perform(&mut Oracle::right(), &draft.bytes(), call, 7)
 }
 
 /// The expected answer of a call that is not refused.
-fn due(fields: &[u64], buffers: &[&[u8]]) -> Answer {
+fn due(fields: &[Field], buffers: &[&[u8]]) -> Answer {
     let buffers = buffers.iter().map(|buffer| buffer.to_vec()).collect();
     Answer { refusal: 0, fields: fields.to_vec(), buffers, surroundings_kept: true }
 }
 
-fn verdict(what: &str, draft: &Draft, fields: [u64; 2], buffers: [&[u8]; 4]) -> Result<(), String> {
+fn verdict(what: &str, draft: &Draft, fields: [Field; 2], buffers: [&[u8]; 4]) -> Result<(), String> {
     let lent = [4, 4, 8, 4].map(|need| vec![99; need]);
     same(what, answer(draft, &Call::Verdict { list: 0, buffers: lent }), due(&fields, &buffers))
 }
 
-fn stable(what: &str, draft: &Draft, highest: u64, ranks: [u8; 4], table: [u8; 8]) -> Result<(), String> {
+fn stable(what: &str, draft: &Draft, highest: Field, ranks: [u8; 4], table: [u8; 8]) -> Result<(), String> {
     verdict(what, draft, [1, highest], [&[0, 1, 2, 3], &ranks, &table, &[99; 4]])
 }
 
@@ -113,7 +113,7 @@ fn bounds() -> Result<(), String> {
 
 /// M3's plan with this list and no way between these pairs, from the first to the
 /// second.
-fn with_cuts(list: &[usize], cuts: &[(usize, usize)]) -> Draft {
+pub fn with_cuts(list: &[usize], cuts: &[(usize, usize)]) -> Draft {
     let mut draft = draft(6, 6, &[list]);
     cuts.iter().for_each(|&(from, to)| draft.distances[from][to] = NO_WAY);
     draft
@@ -132,18 +132,7 @@ fn cuts() -> Result<(), String> {
     stable("a client without a way", &three(&[(2, 3)]), 3, [2, 1, 3, 0], [3, 1, 3, 3, 255, 255, 3, 3])?;
     stable("no way to the parent", &three(&[(2, 0)]), 3, [2, 1, 3, 0], [3, 1, 3, 3, 3, 0, 3, 3])?;
     let zero = with_cuts(&[0], &[(1, 0), (0, 1), (0, 2), (0, 3)]);
-    stable("a listed reflector cut off", &zero, 1, [0, 0, 1, 1], [0, 0, 255, 255, 0, 0, 255, 255])?;
-    compared()
-}
-
-/// At router 0, 1 and 2 without a way and 3 with one.
-fn compared() -> Result<(), String> {
-    let plan = with_cuts(&[0], &[(0, 1), (0, 2)]);
-    for (first, second, better) in [(3, 2, 1), (1, 3, 2), (1, 2, 0), (2, 1, 0), (2, 2, 0), (0, 1, 1)] {
-        let call = Call::Compare { router: 0, first, second };
-        same(&format!("{first} compared with {second}"), answer(&plan, &call), due(&[better], &[]))?;
-    }
-    Ok(())
+    stable("a listed reflector cut off", &zero, 1, [0, 0, 1, 1], [0, 0, 255, 255, 0, 0, 255, 255])
 }
 
 fn example() -> Result<(), String> {

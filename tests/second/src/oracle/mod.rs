@@ -10,9 +10,10 @@ pub mod tables;
 pub mod verdict;
 
 use crate::interface::{
-    store, Acts, Checker, Flag, ListFields, RunFields, SizeFields, VerdictBuffers, VerdictFields,
+    store, Acts, Checker, CompareFields, Compared, Flag, ListFields, RunFields, SizeFields, VerdictBuffers,
+    VerdictFields,
 };
-pub use lines::verdict_lines;
+pub use lines::{margin_line, verdict_lines};
 use plan::Plan;
 use rules::{Case, Right, Rules};
 use std::collections::VecDeque;
@@ -90,14 +91,15 @@ impl<R: Rules> Oracle<R> {
         Ok(ListFields { start: asked.start as u64, count: asked.listed.len() as u64 })
     }
 
-    fn try_compare(&mut self, plan: &[u8], at: usize, pair: (usize, usize)) -> Result<u8, u8> {
+    fn try_compare(&mut self, plan: &[u8], at: usize, pair: (usize, usize)) -> Result<Compared, u8> {
         let reading = self.reading(plan);
         let plan = plan_of(&reading)?;
         let (first, second) = pair;
         asked_for(plan, &[at, first, second])?;
         let first_wins = self.rules.is_better(plan, at, first, second);
         let second_wins = self.rules.is_better(plan, at, second, first);
-        Ok(u8::from(first_wins) + 2 * u8::from(second_wins))
+        let better = u8::from(first_wins) + 2 * u8::from(second_wins);
+        Ok((better, self.rules.margin(plan, at, first, second)))
     }
 
     fn try_relies(&mut self, plan: &[u8], list: usize, pair: (usize, usize)) -> Result<u8, u8> {
@@ -173,8 +175,8 @@ impl<R: Rules> Checker for Oracle<R> {
         store(self.try_list(plan, list), fields)
     }
 
-    fn compare(&mut self, plan: &[u8], router: usize, pair: (usize, usize), better: &mut u8) -> u8 {
-        store(self.try_compare(plan, router, pair), better)
+    fn compare(&mut self, plan: &[u8], router: usize, pair: (usize, usize), fields: &mut CompareFields) -> u8 {
+        store(self.try_compare(plan, router, pair).map(|answer| fields.put(answer)), &mut ())
     }
 
     fn relies(&mut self, plan: &[u8], list: usize, pair: (usize, usize), relies: &mut u8) -> u8 {

@@ -57,6 +57,13 @@ pub trait Rules {
         beats(self.value(plan, at, first), self.value(plan, at, second))
     }
 
+    /// The distance to the first minus the distance to the second, if there is a
+    /// way to both.
+    fn margin(&self, plan: &Plan, at: Router, first: Router, second: Router) -> Option<i64> {
+        let distance = |egress: Router| plan.distances[at][egress].map(i64::from);
+        Some(distance(first)? - distance(second)?)
+    }
+
     /// The best client of a reflector, by the ways and distances of the router `at`.
     fn best_client_valued_at(&self, case: Case, reflector: Router, at: Router) -> Option<Router> {
         let clients = case.neighbouring_listed_clients(reflector);

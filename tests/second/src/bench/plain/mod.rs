@@ -10,7 +10,7 @@ mod rules;
 mod verdict;
 
 use crate::interface::{
-    store, Acts, Checker, Flag, ListFields, RunFields, SizeFields, VerdictBuffers, VerdictFields,
+    store, Acts, Checker, CompareFields, Flag, ListFields, RunFields, SizeFields, VerdictBuffers, VerdictFields,
 };
 use links::distances;
 use reader::{check, read};
@@ -68,19 +68,20 @@ impl Checker for Plain {
         store(found.map(|(start, count)| ListFields { start: start as u64, count: count as u64 }), fields)
     }
 
-    fn compare(&mut self, plan: &[u8], router: usize, pair: (usize, usize), better: &mut u8) -> u8 {
+    fn compare(&mut self, plan: &[u8], router: usize, pair: (usize, usize), fields: &mut CompareFields) -> u8 {
         let compare = || {
             let plan = check(plan)?;
             let (at, e, f) = (plan.router(router)?, plan.router(pair.0)?, plan.router(pair.1)?);
-            Ok(if plan.better(at, e, f) {
+            let better = if plan.better(at, e, f) {
                 1
             } else if plan.better(at, f, e) {
                 2
             } else {
                 0
-            })
+            };
+            Ok((better, plan.margin(at, e, f)))
         };
-        store(compare(), better)
+        store(compare().map(|answer| fields.put(answer)), &mut ())
     }
 
     fn relies(&mut self, plan: &[u8], list: usize, pair: (usize, usize), relies: &mut u8) -> u8 {

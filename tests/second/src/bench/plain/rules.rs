@@ -17,6 +17,13 @@ impl Bodies<'_> {
         to_e < to_f || (to_e == to_f && e < f && to_e != NO_WAY)
     }
 
+    pub fn margin(&self, at: usize, e: usize, f: usize) -> Option<i64> {
+        if !self.has_way(at, e) || !self.has_way(at, f) {
+            return None;
+        }
+        Some(self.distance(at, e) as i64 - self.distance(at, f) as i64)
+    }
+
     /// Start in the plan and count of a list.
     pub fn list(&self, list: usize) -> Result<(usize, usize), u8> {
         if list >= usize::from(self.lists[0]) {

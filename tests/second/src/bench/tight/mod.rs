@@ -8,7 +8,8 @@ mod rules;
 mod verdict;
 
 use crate::interface::{
-    store, Acts, Checker, Flag, ListFields, RunFields, SizeFields, VerdictBuffers, VerdictFields,
+    store, Acts, Checker, CompareFields, Compared, Flag, ListFields, RunFields, SizeFields, VerdictBuffers,
+    VerdictFields,
 };
 use links::distances;
 use reader::{check, read, Bodies};
@@ -43,12 +44,15 @@ fn network(plan: &[u8], list: usize) -> Result<Network<'_>, u8> {
     Ok(Network { bodies, rows, listed })
 }
 
-fn compare(plan: &[u8], router: usize, pair: (usize, usize)) -> Result<u8, u8> {
+fn compare(plan: &[u8], router: usize, pair: (usize, usize)) -> Result<Compared, u8> {
     let plan = check(plan)?;
     let distances = plan.distances_from(plan.router(router)?);
     let [first, second] = [plan.router(pair.0)?, plan.router(pair.1)?].map(|egress| key(distances, egress));
     let best = first.min(second);
-    Ok(if first == second || best >= NO_WAY_KEY { 0 } else { 1 + u8::from(best == second) })
+    let better = if first == second || best >= NO_WAY_KEY { 0 } else { 1 + u8::from(best == second) };
+    let [to_first, to_second] = [first, second].map(|key| i64::from(key >> 8));
+    let margin = (first.max(second) < NO_WAY_KEY).then_some(to_first - to_second);
+    Ok((better, margin))
 }
 
 fn relies(plan: &[u8], list: usize, pair: (usize, usize)) -> Result<u8, u8> {
@@ -107,8 +111,8 @@ impl Checker for Tight {
         store(found.map(|(start, count)| ListFields { start: start as u64, count: count as u64 }), fields)
     }
 
-    fn compare(&mut self, plan: &[u8], router: usize, pair: (usize, usize), better: &mut u8) -> u8 {
-        store(compare(plan, router, pair), better)
+    fn compare(&mut self, plan: &[u8], router: usize, pair: (usize, usize), fields: &mut CompareFields) -> u8 {
+        store(compare(plan, router, pair).map(|answer| fields.put(answer)), &mut ())
     }
 
     fn relies(&mut self, plan: &[u8], list: usize, pair: (usize, usize), answer: &mut u8) -> u8 {

@@ -17,6 +17,13 @@ fn distance(name: &str, distance: u16) -> String {
     check(name, &plan) + &line("compared-to-10", &plan, |line| line.compare(0, 2, 3))
 }
 
+/// The small plan with these distances from 0 to 2 and to 3, pairs compared at 0.
+fn margins(name: &str, to_2: u16, to_3: u16, pairs: &[(usize, usize)]) -> String {
+    let mut draft = small_plans::draft(to_3, 14, &LISTS);
+    draft.distances[0][2] = to_2;
+    line(name, &draft.bytes(), |line| pairs.iter().for_each(|&(first, second)| line.compare(0, first, second)))
+}
+
 /// The small plan with p = q = 14 and no way from a router to itself.
 fn diagonal(name: &str, router: usize) -> String {
     let mut draft = small_plans::draft(14, 14, &LISTS);
@@ -33,6 +40,10 @@ pub fn lines() -> Vec<String> {
         check("n=65", &lone_reflectors(65).bytes()),
         distance("distance-65534", 65_534),
         distance("distance-65535", 65_535),
+        margins("margins-of-65534", 0, 65_534, &[(2, 3), (3, 2)]),
+        margins("margin-of-0", 65_534, 65_534, &[(2, 3), (3, 2)]),
+        margins("no-way-to-3", 10, NO_WAY, &[(3, 2)]),
+        margins("no-way-to-either", NO_WAY, NO_WAY, &[(2, 3), (3, 2), (3, 3)]),
         diagonal("diagonal-65535", 0),
         diagonal("last-diagonal-65535", 3),
         line("largest-bytes", &largest, |line| line.word(largest.len())),

@@ -57,8 +57,15 @@ impl Line<'_> {
         }
     }
 
+    /// The refusal, or which is better and the margin.
     pub fn compare(&mut self, router: usize, first: usize, second: usize) {
-        self.choice(&Call::Compare { router, first, second }, &["neither", "first", "second"]);
+        let call = Call::Compare { router, first, second };
+        self.choice(&call, &["neither", "first", "second"]);
+        let answer = self.answer(&call);
+        if answer.refusal == 0 {
+            self.word("margin");
+            self.word(answer.compared().1.map_or("none".to_string(), |margin| margin.to_string()));
+        }
     }
 
     pub fn relies(&mut self, list: usize, router: usize, other: usize) {

@@ -1,0 +1,1 @@
+// No code: what the margin program prints of its input is specs/Margin, with literal texts in specs/Examples.

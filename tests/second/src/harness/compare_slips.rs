@@ -1,0 +1,71 @@
+//! The slips of checkers in the comparison of two egress routers.
+
+use super::slips::Slip;
+use crate::interface::{Checker, CompareFields, Compared};
+use crate::oracle::plan::{self, Plan, NO_WAY};
+use crate::oracle::rules::Right;
+use crate::oracle::Oracle;
+
+/// The call with one slip, for a router, a first and a second egress router.
+pub fn compare(
+    slip: Slip,
+    inner: &mut Oracle<Right>,
+    bytes: &[u8],
+    asked: [usize; 3],
+    fields: &mut CompareFields,
+) -> u8 {
+    let [router, first, second] = match slip {
+        Slip::FirstAndSecondExchanged => [asked[0], asked[2], asked[1]],
+        Slip::ComparedNumbersCutToAByte => asked.map(|number| number % 256),
+        _ => asked,
+    };
+    let before = fields.margin.value;
+    let refusal = inner.compare(bytes, router, (first, second), fields);
+    if refusal != 0 {
+        clear(slip, fields);
+        return refusal;
+    }
+    let plan = plan::read(bytes).expect("a plan that is not refused");
+    let answer = (fields.better.value, (fields.has_margin.value == 1).then_some(fields.margin.value));
+    fields.put(misjudged(slip, &plan, [router, first, second], answer));
+    match slip {
+        Slip::MarginLeftWhereThereIsNone if fields.has_margin.value == 0 => fields.margin.value = before,
+        Slip::MarginOfFourBytes => fields.margin.value = before >> 32 << 32 | fields.margin.value & 0xFFFF_FFFF,
+        Slip::ByteAfterTheMargin => fields.margin.after[0] = 0,
+        Slip::HasMarginWrittenAsAWord => fields.has_margin.after[..3].fill(0),
+        _ => (),
+    }
+    refusal
+}
+
+/// A result variable cleared beside a refusal.
+fn clear(slip: Slip, fields: &mut CompareFields) {
+    match slip {
+        Slip::BetterClearedOnRefusal => fields.better.value = 0,
+        Slip::HasMarginClearedOnRefusal => fields.has_margin.value = 0,
+        Slip::MarginClearedOnRefusal => fields.margin.value = 0,
+        _ => (),
+    }
+}
+
+/// Another answer than the right one, for a router, a first and a second.
+fn misjudged(slip: Slip, plan: &Plan, [at, first, second]: [usize; 3], (better, margin): Compared) -> Compared {
+    let to = |egress: usize| plan.distances[at][egress].map(i64::from);
+    let back = |egress: usize| plan.distances[egress][at].map(i64::from);
+    let far = i64::from(NO_WAY);
+    let misjudged = match slip {
+        Slip::TieIsNeither if margin == Some(0) => return (0, margin),
+        Slip::MarginSignTurned => margin.map(|margin| -margin),
+        Slip::MarginWithoutItsSign => margin.map(i64::abs),
+        Slip::MarginInTens => margin.map(|margin| margin / 10),
+        Slip::MarginCutToTwoBytes => margin.map(|margin| i64::from(margin as i16)),
+        Slip::MarginOfTheWaysBack => back(first).zip(back(second)).map(|(first, second)| first - second),
+        Slip::NoWayTakenForADistance => Some(to(first).unwrap_or(far) - to(second).unwrap_or(far)),
+        Slip::MarginWithOneWay => margin.or(to(first)).or(to(second).map(|second| -second)),
+        Slip::MarginOfTwoWithoutAWay if to(first).or(to(second)).is_none() => Some(0),
+        Slip::NoMarginOfATie => margin.filter(|&margin| margin != 0 || first == second),
+        Slip::NoMarginOfTheSame => margin.filter(|_| first != second),
+        _ => margin,
+    };
+    (better, misjudged)
+}

@@ -1,0 +1,87 @@
+//! What a comparison counts and prints.
+
+use super::call::{Answer, Call};
+use std::fmt;
+
+/// What was compared, and how it came out.
+#[derive(Default)]
+pub struct Counts {
+    pub plans: u64,
+    pub sound_plans: u64,
+    /// Sound plans in which some router has no way to some other.
+    pub plans_with_cuts: u64,
+    pub lists: u64,
+    pub suspect_lists: u64,
+    pub sheets: u64,
+    /// Sheets whose distances are written.
+    pub sheets_with_distances: u64,
+    pub refusals: [u64; 13],
+    pub calls: u64,
+    /// Calls whose answers were worked out from comparisons alone too.
+    pub calls_by_comparisons: u64,
+    pub margins: Margins,
+    pub series: u64,
+    pub series_with_cuts: u64,
+    pub acts_in_series: u64,
+    pub highest_rank: u64,
+    pub longest_cycle: u64,
+    /// Cycles that the walk enters from a router outside the cycle.
+    pub entered_cycles: u64,
+    pub mismatches: u64,
+}
+
+/// The margins that comparisons gave.
+#[derive(Default)]
+pub struct Margins {
+    pub lowest: i64,
+    pub highest: i64,
+    pub zero: u64,
+    pub none: u64,
+}
+
+impl Margins {
+    fn count(&mut self, margin: Option<i64>) {
+        let given = margin.unwrap_or(0);
+        self.lowest = self.lowest.min(given);
+        self.highest = self.highest.max(given);
+        self.zero += u64::from(margin == Some(0));
+        self.none += u64::from(margin.is_none());
+    }
+}
+
+impl fmt::Display for Margins {
+    fn fmt(&self, out: &mut fmt::Formatter) -> fmt::Result {
+        write!(out, "margins from {} to {}, zero {}, none {}", self.lowest, self.highest, self.zero, self.none)
+    }
+}
+
+impl Counts {
+    pub fn count(&mut self, call: &Call, answer: &Answer) {
+        self.calls += 1;
+        self.refusals[usize::from(answer.refusal)] += 1;
+        if let (Call::Compare { .. }, 0) = (call, answer.refusal) {
+            self.margins.count(answer.compared().1);
+        }
+    }
+}
+
+impl fmt::Display for Counts {
+    fn fmt(&self, out: &mut fmt::Formatter) -> fmt::Result {
+        writeln!(out, "sound plans {}, calls not refused {}", self.sound_plans, self.refusals[0])?;
+        writeln!(out, "plans with cuts {}, series on these {}", self.plans_with_cuts, self.series_with_cuts)?;
+        writeln!(out, "sheets with distances {}", self.sheets_with_distances)?;
+        writeln!(out, "{}", self.margins)?;
+        writeln!(out, "calls answered from comparisons alone {}", self.calls_by_comparisons)?;
+        writeln!(out, "highest rank {} longest cycle {}", self.highest_rank, self.longest_cycle)?;
+        writeln!(out, "cycles without the lowest router of their group {}", self.entered_cycles)?;
+        for (number, count) in self.refusals.iter().enumerate().skip(1) {
+            writeln!(out, "refusal {number}: {count} calls")?;
+        }
+        writeln!(out, "acts in series {}", self.acts_in_series)?;
+        write!(
+            out,
+            "second: {} plans, {} lists, {} suspect, {} sheets, {} calls, {} series settled, mismatches {}",
+            self.plans, self.lists, self.suspect_lists, self.sheets, self.calls, self.series, self.mismatches
+        )
+    }
+}
