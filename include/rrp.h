@@ -41,7 +41,7 @@ enum rrp_refusal {
     RRP_BAD_ROUTER_COUNT = 2,
     /* a kind, an offset or a length in the table of contents is wrong */
     RRP_BAD_CONTENTS = 3,
-    /* a role is neither 1 nor 2, or the identifiers do not rise strictly */
+    /* a role is not 1, 2 or 3, or the identifiers do not rise strictly */
     RRP_BAD_ROUTERS = 4,
     /* a session has a number that is no router's or not its lower number first, or the sessions do not rise strictly */
     RRP_BAD_SESSIONS = 5,

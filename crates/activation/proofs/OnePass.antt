@@ -89,21 +89,27 @@ module _ (k : ℕ) where
   key-other l h = cc (lt-leb noKey k l, ne-eqb (k % 256) 0 h)
 
 module _ (I : Instance) where
-  -- what a reflector passes on, by whom it has it from
-  module _ (e s w : ℕ) where
-    pub reflects-reflectors : (r : Bool) → I .reflector s ≡ true → r ≡ I .reflector w → reflects I (via e s) w ≡ cond (not r) (some e) none
+  -- what a reflector v passes on, by whom it has it from
+  module _ (v e s w : ℕ) where
+    pub reflects-reflectors : (r : Bool) → I .reflector s ≡ true → r ≡ I .reflector w → reflects I v (via e s) w ≡ cond (not r) (some e) none
     unfolding reflects
     reflects-reflectors r p q = cc
 
-    pub reflects-clients : I .reflector s ≡ false → reflects I (via e s) w ≡ cond (not (eqb s w)) (some e) none
+    pub reflects-upwards : (r : Bool) → I .reflector s ≡ false → I .skips v ≡ true → r ≡ I .reflector w
+        → reflects I v (via e s) w ≡ cond r (some e) none
     unfolding reflects
-    reflects-clients p = cc
+    reflects-upwards r p k q = cc
+
+    pub reflects-clients : I .reflector s ≡ false → I .skips v ≡ false → reflects I v (via e s) w ≡ cond (not (eqb s w)) (some e) none
+    unfolding reflects
+    reflects-clients p k = cc
 
   -- what is told names routers below n if what is held does
-  reflects-below : (x : Route) (w : ℕ) → RouteBelow (I .n) x → RouterBelow (I .n) (reflects I x w)
+  reflects-below : (v : ℕ) (x : Route) (w : ℕ) → RouteBelow (I .n) x → RouterBelow (I .n) (reflects I v x w)
   unfolding reflects
-  reflects-below nothing w b = tt
-  reflects-below (via e s) w b = go (cond (I .reflector s) (not (I .reflector w)) (not (eqb s w)))
+  reflects-below v nothing w b = tt
+  reflects-below v (via e s) w b =
+      go (cond (I .reflector s) (not (I .reflector w)) (cond (I .skips v) (I .reflector w) (not (eqb s w))))
     where
       go : (p : Bool) → RouterBelow (I .n) (cond p (some e) none)
       go true = b .0
@@ -114,7 +120,7 @@ module _ (I : Instance) where
     where
       go : (p : Bool) → I .listed v ≡ p → (q : Bool) → I .reflector v ≡ q → RouterBelow (I .n) (advertises I v x w)
       go true p q r = rw (advertises-listed I v x w p) l
-      go false p true r = rw (advertises-reflector I v x w p r) (reflects-below x w b)
+      go false p true r = rw (advertises-reflector I v x w p r) (reflects-below v x w b)
       go false p false r = rw (advertises-client I v x w p r) tt
 
   module _ (w v : ℕ) where

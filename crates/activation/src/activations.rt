@@ -72,13 +72,17 @@ fn key_route(key: usize) -> RouteBytes
     }
 }
 
-// Whether an unlisted reflector passes on to w what it holds from this sender.
-fn passes_on(net: Network, sender: usize, w: usize) -> bool
-    requires { ⌜ (sender < 64) × (w < 64) ⌝ }
-    ensures { λ r. ⌜ ((rows distances : List ℕ) (e : ℕ) → reflects (decoded net rows distances) (via e sender) w ≡ cond r (some e) none) ⌝ }
+// Whether an unlisted reflector v passes on to w what it holds from this sender.
+fn passes_on(net: Network, v: usize, sender: usize, w: usize) -> bool
+    requires { ⌜ (v < 64) × (sender < 64) × (w < 64) ⌝ }
+    ensures { λ r. ⌜ ((rows distances : List ℕ) (e : ℕ)
+        → reflects (decoded net rows distances) v (via e sender) w ≡ cond r (some e) none) ⌝ }
 {
     if base::bits::has_bit(net.reflectors, sender) {
         return !base::bits::has_bit(net.reflectors, w);
+    }
+    if base::bits::has_bit(net.skips, v) {
+        return base::bits::has_bit(net.reflectors, w);
     }
     sender != w
 }
@@ -89,13 +93,13 @@ fn reflected(net: Network, distances: &[u8], w: usize, v: usize, route: RouteByt
     requires { ⌜ (net .n ≤ 64) × (w < net .n) × (v < net .n) × (2 * (net .n * net .n) ≤ length (now distances))
         × RouteBelow (net .n) (routeOf route) ⌝ }
     ensures { λ r. ⌜ ((rows : List ℕ) → r ≡ toldKey (decoded net rows (now (distances .entry))) w v
-        (reflects (decoded net rows (now (distances .entry))) (routeOf route) w)) ⌝ }
+        (reflects (decoded net rows (now (distances .entry))) v (routeOf route) w)) ⌝ }
 {
     if route.egress == NO_ROUTER {
         return NO_KEY;
     }
     let key = route_key(distances, net.n, w, base::wide(route.egress), v);
-    if passes_on(net, base::wide(route.sender), w) {
+    if passes_on(net, v, base::wide(route.sender), w) {
         return key;
     }
     NO_KEY

@@ -1,4 +1,4 @@
--- What the four bodies of a plan that is not refused are, in plain facts: document 01, "The plan's bytes", and of row 6 document 02.
+-- What the four bodies of a plan that is not refused are, in plain facts: document 01, "The plan's bytes", and of rows 4 and 6 document 02.
 -- `..-facts` and `..-holds` say that the check of a row passes exactly if its facts hold.
 use Prim.Native.Nat.{ℕ, _+_, _≤_, _<_}
 use mathlib.Core.List.{List}
@@ -10,10 +10,10 @@ use Rattle.bodies.specs.Sessions.{sessionCount, sessionFirst, sessionSec
 use Rattle.bodies.specs.Distances.{distanceIn}
 use Rattle.bodies.specs.Lists.{listCountIn, listPlace, memberCount, member}
 
--- row 4: every role 1 or 2, identifiers strictly rising
+-- row 4: every role 1 to 3, identifiers strictly rising
 pub record Routers (s : List ℕ) (n : ℕ) : Type 0 where
   pub roleLeast : (v : ℕ) → v < n → 1 ≤ role s v
-  pub roleMost : (v : ℕ) → v < n → role s v ≤ 2
+  pub roleMost : (v : ℕ) → v < n → role s v ≤ 3
   pub rising : (u v : ℕ) → u < v → v < n → identifier s u < identifier s v
 
 -- row 5: each session's numbers are `first < second < n`, sessions strictly rising

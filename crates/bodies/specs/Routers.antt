@@ -1,4 +1,5 @@
--- Document 01, "Kind 1, routers": role (1 reflector, 2 client), then a 4-byte identifier, low byte first.
+-- Document 01, "Kind 1, routers": role (1 reflector, 2 client), then a 4-byte identifier, low byte first. Document 02, "Reflectors that
+-- skip their own clients": "Refusal 4 now admits 1 to 3."
 -- `s` is the body of kind 1, `v` a router's number: its place, from 0.
 use Prim.Native.Nat.{ℕ, _+_, _*_}
 use mathlib.Core.List.{List}
@@ -20,7 +21,7 @@ abbrev pub identifierBefore : List ℕ → ℕ → ℕ → Bool
 identifierBefore s u v = ltb (identifier s u) (identifier s v)
 
 unfoldable pub routerOk : List ℕ → ℕ → Bool
-routerOk s v = leb 1 (role s v) && leb (role s v) 2 && risesAt (identifierBefore s) v
+routerOk s v = leb 1 (role s v) && leb (role s v) 3 && risesAt (identifierBefore s) v
 
 -- Row 4 refuses "a role or identifier breaks kind 1".
 unfoldable pub routersOk : List ℕ → ℕ → Bool

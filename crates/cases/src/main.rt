@@ -12,7 +12,7 @@ mod text;
 use libc::STDIN_FILENO;
 
 fn main() {
-    let mut input = [0u8; 16384];
+    let mut input = [0u8; 65536];
     let size = io::read_full(STDIN_FILENO, &mut input);
     cases::all(&input[0..size]);
 }

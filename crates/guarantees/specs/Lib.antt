@@ -6,5 +6,6 @@ pub mod SmallPlans
 pub mod TellingExamples
 pub mod CutOffExamples
 pub mod MarginExamples
+pub mod SkippingExamples
 pub mod SeriesExamples
 pub mod RefusedCalls

@@ -5,7 +5,7 @@ use mathlib.Core.Path.{_≡_, refl, _∙_, sym, ap, ap₂, fun-ext}
 use mathlib.Core.Bool.{Bool, true, false, not, _&&_, _||_, and-comm, or-comm}
 use mathlib.Core.List.{List}
 use mathlib.Core.Logic.{_⊎_, inl, inr, ⊎-elim}
-use borrow.Author.Tests.{eq-eqb, ne-eqb, eqb-true}
+use borrow.Author.Tests.{eq-eqb, lt-ltb, eqb-true}
 use lib.Dec.{eqb, lit<}
 use lib.ListN.{length, getD, take, drop}
 use Rattle.base.specs.Below.{anyBelow}
@@ -24,7 +24,7 @@ use Rattle.plan.proofs.Passed.{passed, part-length}
 use Rattle.plan.proofs.ListWithin.{numbers-of}
 use Rattle.network.specs.declared.Network.{Network}
 use Rattle.network.specs.Decoded.{decoded}
-use Rattle.network.specs.FromPlan.{pairs, inSession, named, instanceOf, ReadFrom, Trusted}
+use Rattle.network.specs.FromPlan.{reflectorIn, skipsIn, pairs, inSession, named, instanceOf, RoleOf, ReadFrom, Trusted}
 use Rattle.network.specs.WellFormed.{WellFormed}
 
 module _ (plan : List ℕ) (p : Passed plan) where
@@ -48,14 +48,16 @@ span-numbers plan k start count s =
 
 -- two networks whose parts agree at every number are one
 pub read-same : (plan : List ℕ) (k : ℕ) (net : Network) (rows : List ℕ) → net .n ≡ routerCount plan
-    → ((v : ℕ) → eqb (bitN (net .reflectors) v) 1 ≡ eqb (role (routersBody plan) v) 1)
+    → ((v : ℕ) → eqb (bitN (net .reflectors) v) 1 ≡ reflectorIn (routersBody plan) (routerCount plan) v)
+    → ((v : ℕ) → eqb (bitN (net .skips) v) 1 ≡ skipsIn (routersBody plan) (routerCount plan) v)
     → ((w v : ℕ) → eqb (bits rows w v) 1 ≡ inSession (sessionsBody plan) w v)
     → ((v : ℕ) → eqb (bitN (net .listed) v) 1 ≡ named (listNumbers plan k) v)
     → decoded net rows (distancesBody plan) ≡ instanceOf plan k
-read-same plan k net rows count roles sessions numbers =
+read-same plan k net rows count reflectors skips sessions numbers =
     λ i. record {
       n = count i;
-      reflector = λ v. roles v i;
+      reflector = λ v. reflectors v i;
+      skips = λ v. skips v i;
       neighbour = λ w v. sessions w v i;
       dist = distanceIn (distancesBody plan) (count i);
       way = wayIn (distancesBody plan) (count i);
@@ -111,14 +113,24 @@ module _ (plan : List ℕ) (p : Passed plan) where
       let found : Witness (λ j. eqb (getD (listNumbers plan k) j 0) v) (length (listNumbers plan k)) = any-at _ _ h in
       omega (arith, number-below plan p k l (found .at) (found .below), eqb-true (getD (listNumbers plan k) (found .at) 0) v (found .holds))
 
-  roles : (v : ℕ) → v < routerCount plan
-      → ((eqb (role (routersBody plan) v) 1 ≡ true) × (role (routersBody plan) v ≡ 1))
-      ⊎ ((eqb (role (routersBody plan) v) 1 ≡ false) × (role (routersBody plan) v ≡ 2))
-  roles v l =
-      let r = role (routersBody plan) v in
-      ⊎-elim (λ (e : r ≡ 1). inl (eq-eqb r 1 e, e))
-      (λ (e : r ≡ 1 → ⊥). inr (ne-eqb r 1 e, omega (arith, p .routers .roleLeast v l, p .routers .roleMost v l)))
-      (eq-or-ne r 1)
+  module _ (k v : ℕ) (l : v < routerCount plan) where
+    role-of : (number : ℕ) → role (routersBody plan) v ≡ number → RoleOf plan (instanceOf plan k) v number (not (eqb number 2)) (eqb number 3)
+    role-of number e =
+        (e, ap₂ (λ b r. b && not (eqb r 2)) (lt-ltb v _ l) e, ap₂ (λ b r. b && eqb r 3) (lt-ltb v _ l) e)
+
+    roles :
+        RoleOf plan (instanceOf plan k) v 1 true false
+        ⊎ RoleOf plan (instanceOf plan k) v 2 false false
+        ⊎ RoleOf plan (instanceOf plan k) v 3 true true
+    roles =
+        let r = role (routersBody plan) v in
+        ⊎-elim (λ (e : r ≡ 1). inl (role-of 1 e))
+        (λ (d : r ≡ 1 → ⊥).
+        inr
+        (⊎-elim (λ (e : r ≡ 2). inl (role-of 2 e))
+        (λ (f : r ≡ 2 → ⊥). inr (role-of 3 (omega (arith, p .routers .roleLeast v l, p .routers .roleMost v l))))
+        (eq-or-ne r 2)))
+        (eq-or-ne r 1)
 
 pub trusted : (plan : List ℕ) (k : ℕ) → planRefusal plan ≡ 0 → k < listCount plan → Trusted plan (instanceOf plan k)
 trusted plan k accepted l =
@@ -130,7 +142,7 @@ trusted plan k accepted l =
       listedBelow = listed-below plan p k l;
       distanceOwn = p .distances .diagonal;
       wayOwn = λ u l. ap (λ d. not (eqb d 65535)) (p .distances .diagonal u l);
-      roles = roles plan p;
+      roles = roles plan p k;
     }
 
 -- the body of kind 3 has a distance for every pair

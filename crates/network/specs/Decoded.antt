@@ -1,5 +1,5 @@
--- An instance as the code holds it: a word of bits for the reflectors, one for the listed routers, a row of bits for each router's
--- neighbours, and the plan's distances as they stand.
+-- An instance as the code holds it: a word of bits for the reflectors, one for those that skip their clients, one for the listed
+-- routers, a row of bits for each router's neighbours, and the plan's distances as they stand.
 use Prim.Native.Nat.{ℕ}
 use mathlib.Core.List.{List}
 use lib.Dec.{eqb}
@@ -14,6 +14,7 @@ decoded net rows distances =
     record {
       n = net .n;
       reflector = λ v. eqb (bitN (net .reflectors) v) 1;
+      skips = λ v. eqb (bitN (net .skips) v) 1;
       neighbour = λ w v. eqb (bits rows w v) 1;
       dist = distanceIn distances (net .n);
       way = wayIn distances (net .n);

@@ -4,6 +4,7 @@ use Prim.Native.Nat.{ℕ}
 use mathlib.Core.Path.{_≡_}
 use mathlib.Core.Bool.{true, false}
 use mathlib.Core.List.{List, [], _∷_}
+use lib.ListN.{set}
 use Rattle.routing.specs.Instance.{Instance}
 use Rattle.network.specs.FromPlan.{instanceOf}
 
@@ -34,12 +35,20 @@ withList0 = instanceOf threeRouters 0
 abbrev pub withList1 : Instance
 withList1 = instanceOf threeRouters 1
 
+-- .. and with role 3 for router 0, in byte 26
+abbrev pub withRole3 : Instance
+withRole3 = instanceOf (set threeRouters 26 3) 0
+
 pub record NetworkExamples : Type 0 where
   -- "n, the number of routers"
   pub count : withList0 .n ≡ 3
   -- "role (1 reflector, 2 client)"
   pub reflector : withList0 .reflector 0 ≡ true  -- role 2 for reflector: false
   pub client : withList0 .reflector 2 ≡ false  -- role 2 for reflector: true
+  -- "Role 3 is such a reflector"
+  pub role3 : withRole3 .reflector 0 ≡ true  -- role 3 for client: false
+  pub role3Skips : withRole3 .skips 0 ≡ true  -- role 3 as role 1: false
+  pub role1DoesNot : withList0 .skips 0 ≡ false  -- each reflector: true
   -- "Two routers of a pair are neighbours."
   pub neighbours : withList0 .neighbour 1 2 ≡ true
   pub inEitherOrder : withList0 .neighbour 2 1 ≡ true  -- in one order alone: false

@@ -1,10 +1,11 @@
--- The network of a plan with one of its lists (document 01, "The plan's bytes"; document 02, "Cut-off routers").
+-- The network of a plan with one of its lists (document 01, "The plan's bytes"; document 02, "Cut-off routers" and
+-- "Reflectors that skip their own clients").
 use Prim.Native.Nat.{ℕ, _≤_, _<_}
 use mathlib.Core.Path.{_≡_}
-use mathlib.Core.Bool.{Bool, true, false, _&&_, _||_}
+use mathlib.Core.Bool.{Bool, true, false, not, _&&_, _||_}
 use mathlib.Core.List.{List}
 use mathlib.Core.Logic.{_⊎_}
-use lib.Dec.{eqb}
+use lib.Dec.{ltb, eqb}
 use lib.ListN.{length, getD}
 use Rattle.base.specs.Below.{anyBelow}
 use Rattle.contents.specs.Header.{routerCount}
@@ -16,6 +17,14 @@ use Rattle.plan.specs.EgressLists.{listNumbers}
 use Rattle.network.specs.declared.Network.{Network}
 use Rattle.routing.specs.Instance.{Instance}
 use Rattle.network.specs.Decoded.{decoded}
+
+-- "role (1 reflector, 2 client)"; "Role 3 is such a reflector": each router that is no client. s is the body of kind 1.
+abbrev pub reflectorIn : List ℕ → ℕ → ℕ → Bool
+reflectorIn s n v = ltb v n && not (eqb (role s v) 2)
+
+-- "Role 3 is such a reflector", one that skips its own clients
+abbrev pub skipsIn : List ℕ → ℕ → ℕ → Bool
+skipsIn s n v = ltb v n && eqb (role s v) 3
 
 -- "Two routers of a pair are neighbours": w and v are those of session j, in either order; s is the body of kind 2
 unfoldable pub pairs : List ℕ → ℕ → ℕ → ℕ → Bool
@@ -35,8 +44,9 @@ instanceOf plan k =
     record {
       -- "n, the number of routers"
       n = routerCount plan;
-      -- "role (1 reflector, 2 client)"
-      reflector = λ v. eqb (role (routersBody plan) v) 1;
+      -- "role (1 reflector, 2 client)"; "Role 3 is such a reflector"
+      reflector = reflectorIn (routersBody plan) (routerCount plan);
+      skips = skipsIn (routersBody plan) (routerCount plan);
       -- "Two routers of a pair are neighbours."
       neighbour = inSession (sessionsBody plan);
       -- "row u, column e is the distance from u to e"
@@ -53,6 +63,11 @@ pub record ReadFrom (plan : List ℕ) (k : ℕ) (net : Network) (rows : List ℕ
   pub count : net .n ≡ routerCount plan
   pub most : net .n ≤ 64
 
+-- v's role is the given number, and whether v is a reflector and skips its clients
+abbrev pub RoleOf : List ℕ → Instance → ℕ → (number : ℕ) (reflector skips : Bool) → Type 0
+RoleOf plan I v number reflector skips =
+    (role (routersBody plan) v ≡ number) × (I .reflector v ≡ reflector) × (I .skips v ≡ skips)
+
 -- What holds of the network of a plan that is not refused, for any of its lists.
 pub record Trusted (plan : List ℕ) (I : Instance) : Type 0 where
   -- "Two routers of a pair are neighbours": each of the other, and no router of itself
@@ -64,6 +79,5 @@ pub record Trusted (plan : List ℕ) (I : Instance) : Type 0 where
   -- "The diagonal is 0.": every router has a way to itself
   pub distanceOwn : (u : ℕ) → u < I .n → I .dist u u ≡ 0
   pub wayOwn : (u : ℕ) → u < I .n → I .way u u ≡ true
-  -- "role (1 reflector, 2 client)": a router is the one or the other
-  pub roles : (v : ℕ) → v < I .n
-      → ((I .reflector v ≡ true) × (role (routersBody plan) v ≡ 1)) ⊎ ((I .reflector v ≡ false) × (role (routersBody plan) v ≡ 2))
+  -- "role (1 reflector, 2 client)"; "Role 3 is such a reflector": a router is one of the three
+  pub roles : (v : ℕ) → v < I .n → RoleOf plan I v 1 true false ⊎ RoleOf plan I v 2 false false ⊎ RoleOf plan I v 3 true true

@@ -5,32 +5,55 @@ use contents::entries::ROUTERS;
 use contents::entries::SESSIONS;
 use contents::header::ROUTER_COUNT;
 ghost use mathlib.Core.Path.{_≡_};
+ghost use mathlib.Core.Bool.{_&&_, _||_};
 ghost use Prim.Native.Nat.{ℕ, _*_, _≤_, _<_};
 ghost use lib.Dec.{eqb};
 ghost use lib.ListN.{length, getD, replicate};
 ghost use Rattle.base.specs.Bits.{bitN, bits};
 ghost use Rattle.plan.specs.Refusal.{planRefusal};
-ghost use Rattle.bodies.specs.Routers.{role};
 ghost use Rattle.bodies.specs.Sessions.{sessionCount, sessionFirst, sessionSecond};
 ghost use Rattle.plan.specs.EgressLists.{listCount};
-ghost use Rattle.network.specs.FromPlan.{inSession, named, ReadFrom};
+ghost use Rattle.network.specs.FromPlan.{reflectorIn, skipsIn, inSession, named, ReadFrom};
 
-// The routers whose role is 1; s is the body of kind 1.
-fn reflector_word(s: &[u8], n: usize) -> u64
-    requires { ⌜ (n ≤ 64) × (length (now s) ≡ 5 * n) ⌝ }
-    ensures { λ r. ⌜ ((v : ℕ) → eqb (bitN r v) 1 ≡ eqb (role (now (s .entry)) v) 1) ⌝ }
+// The role of a client; each other role is a reflector's.
+const CLIENT: u8 = 2;
+
+// The role of a reflector that skips its clients.
+const SKIPPING: u8 = 3;
+
+// The routers by what their role says of them: bit v of a word stands for router v.
+struct RoleWords {
+    reflectors: u64,
+    skips: u64,
+}
+
+// A word with bit v set too, if that is asked for.
+fn marked(word: u64, v: usize, asked: bool) -> u64
+    requires { ⌜ v < 64 ⌝ }
+    ensures { λ r. ⌜ ((u : ℕ) → eqb (bitN r u) 1 ≡ (eqb (bitN word u) 1 || (eqb v u && asked))) ⌝ }
 {
-    let mut word = 0;
-    let mut v = 0;
-    while v < n {
-        if s[5 * v] == 1 {
-            word = base::bits::with_bit(word, v);
-            v += 1;
-        } else {
-            v += 1;
-        }
+    if asked {
+        return base::bits::with_bit(word, v);
     }
     word
+}
+
+// The reflectors, and those of them that skip their clients; s is the body of kind 1.
+fn role_words(s: &[u8], n: usize) -> RoleWords
+    requires { ⌜ (n ≤ 64) × (length (now s) ≡ 5 * n) ⌝ }
+    ensures { λ r. ⌜ ((v : ℕ) → eqb (bitN (r .reflectors) v) 1 ≡ reflectorIn (now (s .entry)) n v)
+        × ((v : ℕ) → eqb (bitN (r .skips) v) 1 ≡ skipsIn (now (s .entry)) n v) ⌝ }
+{
+    let mut reflectors = 0;
+    let mut skips = 0;
+    let mut v = 0;
+    while v < n {
+        let role = s[5 * v];
+        reflectors = marked(reflectors, v, role != CLIENT);
+        skips = marked(skips, v, role == SKIPPING);
+        v += 1;
+    }
+    RoleWords { reflectors, skips }
 }
 
 // The routers that a list's numbers name.
@@ -70,7 +93,7 @@ pub fn decode(plan: &[u8], list: usize, rows: &mut [u64; 64]) -> Network
     ensures { λ r. ⌜ ReadFrom (now (plan .entry)) list r (now (rows .exit)) ⌝ }
 {
     let n = base::wide(plan[ROUTER_COUNT]);
-    let reflectors = reflector_word(plan::parts::part(plan, ROUTERS), n);
+    let roles = role_words(plan::parts::part(plan, ROUTERS), n);
     neighbour_rows(plan::parts::part(plan, SESSIONS), rows);
     let span = plan::lists::list_span(plan, list);
     let start = span.start;
@@ -78,7 +101,8 @@ pub fn decode(plan: &[u8], list: usize, rows: &mut [u64; 64]) -> Network
     let listed = listed_word(&plan[start..stop]);
     Network {
         n,
-        reflectors,
+        reflectors: roles.reflectors,
+        skips: roles.skips,
         listed,
     }
 }

@@ -10,5 +10,6 @@ pub const NO_ROUTER: u8 = 255;
 pub struct Network {
     pub n: usize,
     pub reflectors: u64,
+    pub skips: u64,
     pub listed: u64,
 }

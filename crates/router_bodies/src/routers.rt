@@ -13,7 +13,7 @@ fn router_ok(s: &[u8], v: usize) -> bool
     if role < 1 {
         return false;
     }
-    if 2 < role {
+    if 3 < role {
         return false;
     }
     if v == 0 {

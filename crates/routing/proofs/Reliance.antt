@@ -1,8 +1,8 @@
 -- What the best client is; the rules of reliance, pair by pair; no router relies on itself.
 use Prim.Native.Nat.{ℕ, _≤_, _<_}
 use native.Mathlib.Omega.{arith}
-use mathlib.Core.Path.{_≡_, refl, _∙_, sym, ap}
-use mathlib.Core.Bool.{Bool, true, false, not, _&&_, _||_, and-false, and-true, or-false}
+use mathlib.Core.Path.{_≡_, refl, _∙_, sym, ap, ap₂}
+use mathlib.Core.Bool.{Bool, true, false, not, cond, _&&_, _||_, and-false, and-true, or-false}
 use mathlib.Core.Option.{Option, none, some}
 use borrow.Author.Tests.{ne-eqb, not-true}
 use Rattle.base.proofs.Numbers.{both-left, both-right, not-both}
@@ -10,7 +10,7 @@ use Rattle.base.specs.Best.{best}
 use Rattle.base.proofs.Best.{BestIs, best-is}
 use Rattle.routing.specs.Instance.{Instance, isRouter}
 use Rattle.routing.specs.Preference.{prefers}
-use Rattle.routing.specs.Reliance.{listedClientOf, bestClient, offer, betterOffer, relies}
+use Rattle.routing.specs.Reliance.{listedClientOf, bestClient, offer, betterOffer, relies, withSkips}
 use Rattle.routing.specs.RouterBytes.{RouterBelow}
 use Rattle.routing.proofs.Preference.{prefers-order}
 
@@ -151,3 +151,32 @@ module _ (I : Instance) where
 
       pub client-on-client : I .neighbour w v ≡ true → I .reflector v ≡ false → relies I w v ≡ I .listed v
       client-on-client p q = relies-client w v unlisted role ∙ cc
+
+-- no rule of reliance asks who skips its clients
+module _ (I : Instance) (skips : ℕ → Bool) where
+  abbrev other : Instance
+  other = withSkips I skips
+
+  pub skips-best-client : (v : ℕ) → bestClient other v ≡ bestClient I v
+  unfolding bestClient listedClientOf prefers
+  skips-best-client v = refl
+
+  pub skips-offer : (v : ℕ) → offer other v ≡ offer I v
+  unfolding offer
+  skips-offer v = ap (cond (I .listed v) (some v)) (skips-best-client v)
+
+  skips-better : (w : ℕ) (o own : Option ℕ) → betterOffer other w o own ≡ betterOffer I w o own
+  unfolding betterOffer prefers
+  skips-better w none own = refl
+  skips-better w (some e) none = refl
+  skips-better w (some e) (some c) = refl
+
+  pub skips-relies : (w v : ℕ) → relies other w v ≡ relies I w v
+  unfolding relies
+  skips-relies w v =
+      ap₂
+      (λ own b.
+      cond (I .listed w) false
+      (cond (I .reflector w) (isRouter v own || (I .neighbour w v && I .reflector v && b)) (I .neighbour w v && (I .reflector v || I .listed v))))
+      (skips-best-client w)
+      (skips-better w (offer other v) (bestClient other w) ∙ ap₂ (betterOffer I w) (skips-offer v) (skips-best-client w))

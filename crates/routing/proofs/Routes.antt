@@ -37,31 +37,48 @@ module _ (I : Instance) where
   unfolding advertises
   advertises-client v x w h r = cc
 
-  pub advertises-reflector : (v : ℕ) (x : Route) (w : ℕ) → I .listed v ≡ false → I .reflector v ≡ true → advertises I v x w ≡ reflects I x w
+  pub advertises-reflector :
+      (v : ℕ) (x : Route) (w : ℕ) → I .listed v ≡ false → I .reflector v ≡ true → advertises I v x w ≡ reflects I v x w
   unfolding advertises
   advertises-reflector v x w h r = cc
 
   -- what a reflector passes on, case by case
-  pub reflects-nothing : (w : ℕ) → reflects I nothing w ≡ none
+  pub reflects-nothing : (v w : ℕ) → reflects I v nothing w ≡ none
   unfolding reflects
-  reflects-nothing w = refl
+  reflects-nothing v w = refl
 
-  module _ (e s w : ℕ) where
-    pub reflects-apart : I .reflector s ≡ true → I .reflector w ≡ true → reflects I (via e s) w ≡ none
+  module _ (v e s w : ℕ) where
+    pub reflects-apart : I .reflector s ≡ true → I .reflector w ≡ true → reflects I v (via e s) w ≡ none
     unfolding reflects
     reflects-apart p q = cc
 
-    pub reflects-down : I .reflector s ≡ true → I .reflector w ≡ false → reflects I (via e s) w ≡ some e
+    pub reflects-down : I .reflector s ≡ true → I .reflector w ≡ false → reflects I v (via e s) w ≡ some e
     unfolding reflects
     reflects-down p q = cc
 
-    pub reflects-back : I .reflector s ≡ false → s ≡ w → reflects I (via e s) w ≡ none
+    pub reflects-up : I .reflector s ≡ false → I .skips v ≡ true → I .reflector w ≡ true → reflects I v (via e s) w ≡ some e
     unfolding reflects
-    reflects-back p q = cc (eq-eqb s w q)
+    reflects-up p k q = cc
 
-    pub reflects-on : I .reflector s ≡ false → (s ≡ w → ⊥) → reflects I (via e s) w ≡ some e
+    pub reflects-skips : I .reflector s ≡ false → I .skips v ≡ true → I .reflector w ≡ false → reflects I v (via e s) w ≡ none
     unfolding reflects
-    reflects-on p q = cc (ne-eqb s w q)
+    reflects-skips p k q = cc
+
+    pub reflects-back : I .reflector s ≡ false → I .skips v ≡ false → s ≡ w → reflects I v (via e s) w ≡ none
+    unfolding reflects
+    reflects-back p k q = cc (eq-eqb s w q)
+
+    pub reflects-on : I .reflector s ≡ false → I .skips v ≡ false → (s ≡ w → ⊥) → reflects I v (via e s) w ≡ some e
+    unfolding reflects
+    reflects-on p k q = cc (ne-eqb s w q)
+
+  -- no reflector passes a client's route back to it, whether it skips its clients or not
+  reflects-not-back : (v e s : ℕ) → I .reflector s ≡ false → reflects I v (via e s) s ≡ none
+  reflects-not-back v e s p = go (I .skips v) refl
+    where
+      go : (b : Bool) → I .skips v ≡ b → reflects I v (via e s) s ≡ none
+      go true k = reflects-skips v e s s p k p
+      go false k = reflects-back v e s s p k refl
 
   -- what each router advertises, in plain facts
   pub advertising : (v : ℕ) → Advertising I v
@@ -69,11 +86,13 @@ module _ (I : Instance) where
       record {
         listed = λ h x w. advertises-listed v x w h;
         client = λ h r x w. advertises-client v x w h r;
-        holds-nothing = λ h r w. advertises-reflector v nothing w h r ∙ reflects-nothing w;
-        from-client = λ h r e s w p d. advertises-reflector v (via e s) w h r ∙ reflects-on e s w p d;
-        not-back = λ h r e s p. advertises-reflector v (via e s) s h r ∙ reflects-back e s s p refl;
-        to-client = λ h r e s w p q. advertises-reflector v (via e s) w h r ∙ reflects-down e s w p q;
-        to-no-reflector = λ h r e s w p q. advertises-reflector v (via e s) w h r ∙ reflects-apart e s w p q;
+        holds-nothing = λ h r w. advertises-reflector v nothing w h r ∙ reflects-nothing v w;
+        from-client = λ h r k e s w p d. advertises-reflector v (via e s) w h r ∙ reflects-on v e s w p k d;
+        not-back = λ h r e s p. advertises-reflector v (via e s) s h r ∙ reflects-not-back v e s p;
+        to-client = λ h r e s w p q. advertises-reflector v (via e s) w h r ∙ reflects-down v e s w p q;
+        to-no-reflector = λ h r e s w p q. advertises-reflector v (via e s) w h r ∙ reflects-apart v e s w p q;
+        skips-to-reflector = λ h r k e s w p q. advertises-reflector v (via e s) w h r ∙ reflects-up v e s w p k q;
+        skips-its-clients = λ h r k e s w p q. advertises-reflector v (via e s) w h r ∙ reflects-skips v e s w p k q;
       }
 
   -- a route that comes from a client
@@ -83,15 +102,16 @@ module _ (I : Instance) where
     pub client : I .reflector sender ≡ false
 
   -- what reaches a reflector through another comes from a client
-  pub reflects-client : (x : Route) (w e : ℕ) → I .reflector w ≡ true → reflects I x w ≡ some e → FromClient x e
+  pub reflects-client : (v : ℕ) (x : Route) (w e : ℕ) → I .reflector w ≡ true → reflects I v x w ≡ some e → FromClient x e
   unfolding reflects
-  reflects-client nothing w e r h = let z : _≡_ {A = ℕ} 0 1 = cc in absurd (omega arith)
-  reflects-client (via f s) w e r h = go (I .reflector s) refl (eqb s w) refl
+  reflects-client v nothing w e r h = let z : _≡_ {A = ℕ} 0 1 = cc in absurd (omega arith)
+  reflects-client v (via f s) w e r h = go (I .reflector s) refl (I .skips v) refl (eqb s w) refl
     where
-      go : (a : Bool) → I .reflector s ≡ a → (b : Bool) → eqb s w ≡ b → FromClient (via f s) e
-      go true p b q = let z : _≡_ {A = ℕ} 0 1 = cc in absurd (omega arith)
-      go false p true q = let z : _≡_ {A = ℕ} 0 1 = cc in absurd (omega arith)
-      go false p false q = record { sender = s; holds = cc; client = p }
+      go : (a : Bool) → I .reflector s ≡ a → (k : Bool) → I .skips v ≡ k → (b : Bool) → eqb s w ≡ b → FromClient (via f s) e
+      go true p k l b q = let z : _≡_ {A = ℕ} 0 1 = cc in absurd (omega arith)
+      go false p true l b q = record { sender = s; holds = cc; client = p }
+      go false p false l true q = let z : _≡_ {A = ℕ} 0 1 = cc in absurd (omega arith)
+      go false p false l false q = record { sender = s; holds = cc; client = p }
 
   module _ (view : ℕ → Route) (w v e : ℕ) where
     pub hears-neighbour : hears I view w v e ≡ true → I .neighbour w v ≡ true

@@ -1,5 +1,5 @@
 -- What a router advertises, and what an activation leaves (document 01, "Choosing and announcing"; there the words are "announces" and
--- "act"; document 02, "Cut-off routers").
+-- "act"; document 02, "Cut-off routers" and "Reflectors that skip their own clients").
 use Prim.Native.Nat.{ℕ}
 use mathlib.Core.Path.{_≡_}
 use mathlib.Core.Bool.{Bool, true, false, not, cond, _&&_}
@@ -13,15 +13,21 @@ use Rattle.routing.specs.Instance.{Instance, Route, nothing, via, isRout
 use Rattle.routing.specs.Preference.{prefers}
 
 -- "An unlisted reflector announces the route it holds: one heard from a client to all neighbours but that client, one heard from a
--- reflector to its clients only." What it passes on to w, if anything.
-unfoldable pub reflects : Instance → Route → ℕ → Option ℕ
-reflects I nothing w = none
-reflects I (via e s) w = cond (cond (I .reflector s) (not (I .reflector w)) (not (eqb s w))) (some e) none
+-- reflector to its clients only." "Role 3 is such a reflector: what it hears from a client it announces to reflectors only."
+-- What v, holding the given route, passes on to w, if anything.
+unfoldable pub reflects : Instance → ℕ → Route → ℕ → Option ℕ
+reflects I v nothing w = none
+reflects I v (via e s) w =
+    cond
+    (cond (I .reflector s) (not (I .reflector w))
+    (cond (I .skips v) (I .reflector w)
+    (not (eqb s w))))
+    (some e) none
 
 -- "A listed router holds its own route always and announces it to every neighbour. An unlisted client announces nothing."
 -- The egress of what v, holding the given route, advertises to its neighbour w.
 unfoldable pub advertises : Instance → ℕ → Route → ℕ → Option ℕ
-advertises I v held w = cond (I .listed v) (some v) (cond (I .reflector v) (reflects I held w) none)
+advertises I v held w = cond (I .listed v) (some v) (cond (I .reflector v) (reflects I v held w) none)
 
 -- The same in plain facts, sentence by sentence; x is what v holds. The theorem `advertising` says that they hold.
 pub record Advertising (I : Instance) (v : ℕ) : Type 0 where
@@ -33,7 +39,7 @@ pub record Advertising (I : Instance) (v : ℕ) : Type 0 where
   pub holds-nothing : I .listed v ≡ false → I .reflector v ≡ true → (w : ℕ) → advertises I v nothing w ≡ none
   -- "one heard from a client to all neighbours but that client,
   pub from-client :
-      I .listed v ≡ false → I .reflector v ≡ true → (e s w : ℕ) →
+      I .listed v ≡ false → I .reflector v ≡ true → I .skips v ≡ false → (e s w : ℕ) →
       I .reflector s ≡ false → (s ≡ w → ⊥) → advertises I v (via e s) w ≡ some e
   pub not-back :
       I .listed v ≡ false → I .reflector v ≡ true → (e s : ℕ) →
@@ -45,6 +51,14 @@ pub record Advertising (I : Instance) (v : ℕ) : Type 0 where
   pub to-no-reflector :
       I .listed v ≡ false → I .reflector v ≡ true → (e s w : ℕ) →
       I .reflector s ≡ true → I .reflector w ≡ true → advertises I v (via e s) w ≡ none
+  -- Of role 3: "what it hears from a client it announces to reflectors only." `to-client` and `to-no-reflector` hold of it too: "It is
+  -- otherwise a reflector in every rule".
+  pub skips-to-reflector :
+      I .listed v ≡ false → I .reflector v ≡ true → I .skips v ≡ true → (e s w : ℕ) →
+      I .reflector s ≡ false → I .reflector w ≡ true → advertises I v (via e s) w ≡ some e
+  pub skips-its-clients :
+      I .listed v ≡ false → I .reflector v ≡ true → I .skips v ≡ true → (e s w : ℕ) →
+      I .reflector s ≡ false → I .reflector w ≡ false → advertises I v (via e s) w ≡ none
 
 -- w hears e from its neighbour v, where `view v` is what w sees v hold. The view need not be the table of one moment.
 -- "A route whose egress the hearer has no way to is not heard".

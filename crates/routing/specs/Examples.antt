@@ -42,12 +42,14 @@ distances =
     ∷ (30 ∷ 30 ∷ 30 ∷ 30 ∷ 30 ∷ 0 ∷ [])
     ∷ []
 
--- reflectors 0, 1, 2 and clients 3, 4, 5, with the given routers listed; `cut` has for each router those that it has no way to
-unfoldable pub sixWith : (cut : List (List ℕ)) (listed : List ℕ) → Instance
-sixWith cut listed =
+-- reflectors 0, 1, 2 and clients 3, 4, 5, with the given routers listed; `cut` has for each router those that it has no way to, and
+-- `skipping` the reflectors of role 3
+unfoldable pub sixWith : (cut : List (List ℕ)) (skipping listed : List ℕ) → Instance
+sixWith cut skipping listed =
     record {
       n = 6;
       reflector = among (0 ∷ 1 ∷ 2 ∷ []);
+      skips = among skipping;
       neighbour = λ w v. among (getD neighbours w []) v;
       dist = λ w e. getD (getD distances w []) e 0;
       way = λ w e. not (among (getD cut w []) e);
@@ -55,12 +57,16 @@ sixWith cut listed =
     }
 
 abbrev pub six : (listed : List ℕ) → Instance
-six = sixWith []
+six = sixWith [] []
 
 -- reflector 1 has no way to client 5, the nearest to it, nor 0 to 4, nor reflector 2 to 0, nor client 4 back to 2, nor 5 to any router,
 -- not even itself
 abbrev pub cutSix : (listed : List ℕ) → Instance
-cutSix = sixWith ((4 ∷ []) ∷ (5 ∷ []) ∷ (0 ∷ []) ∷ [] ∷ (2 ∷ []) ∷ (0 ∷ 1 ∷ 2 ∷ 3 ∷ 4 ∷ 5 ∷ []) ∷ [])
+cutSix = sixWith ((4 ∷ []) ∷ (5 ∷ []) ∷ (0 ∷ []) ∷ [] ∷ (2 ∷ []) ∷ (0 ∷ 1 ∷ 2 ∷ 3 ∷ 4 ∷ 5 ∷ []) ∷ []) []
+
+-- reflector 1 has role 3: its clients are 4 and 5, of which 5 has a session with client 3 too
+abbrev pub skipSix : (listed : List ℕ) → Instance
+skipSix = sixWith [] (1 ∷ [])
 
 -- its lists
 abbrev pub clients34 : Instance
@@ -105,11 +111,22 @@ pub record RoutingExamples : Type 0 where
   pub noWayToTheSecond : marginOf (cutSix (3 ∷ [])) 1 4 5 ≡ none  -- no way as a distance: some (pos 10)
   pub noWayToEither : marginOf (cutSix (3 ∷ [])) 5 3 4 ≡ none  -- two without a way as equal: some (pos 0)
   -- "one heard from a client to all neighbours but that client"
-  pub notBackToItsClient : reflects client4 (via 4 5) 5 ≡ none  -- to that client too: some 4
-  pub clientsRouteToAReflector : reflects client4 (via 4 5) 0 ≡ some 4  -- to clients only: none
+  pub notBackToItsClient : reflects client4 1 (via 4 5) 5 ≡ none  -- to that client too: some 4
+  pub clientsRouteToAReflector : reflects client4 1 (via 4 5) 0 ≡ some 4  -- to clients only: none
   -- "one heard from a reflector to its clients only"
-  pub notFromAThird : reflects client4 (via 4 2) 0 ≡ none  -- to all neighbours: some 4
-  pub reflectorsRouteToAClient : reflects client4 (via 4 2) 5 ≡ some 4  -- to no one: none
+  pub notFromAThird : reflects client4 1 (via 4 2) 0 ≡ none  -- to all neighbours: some 4
+  pub reflectorsRouteToAClient : reflects client4 1 (via 4 2) 5 ≡ some 4  -- to no one: none
+  -- "Role 3 is such a reflector: what it hears from a client it announces to reflectors only."
+  pub role3NotToAClient : reflects (skipSix (4 ∷ [])) 1 (via 4 4) 5 ≡ none  -- as role 1 does: some 4
+  pub role3ToAReflector : reflects (skipSix (4 ∷ [])) 1 (via 4 4) 0 ≡ some 4  -- to no one: none
+  pub role1ToAClient : reflects (skipSix (4 ∷ [])) 2 (via 4 4) 5 ≡ some 4  -- every reflector as role 3: none
+  pub role3ByTheSender : reflects (skipSix (4 ∷ [])) 1 (via 0 4) 5 ≡ none  -- as from the egress, a reflector: some 0
+  -- "It is otherwise a reflector in every rule"
+  pub role3FromAReflector : reflects (skipSix (4 ∷ [])) 1 (via 4 2) 5 ≡ some 4  -- to reflectors only, whoever told it: none
+  pub role3NotFromAThird : reflects (skipSix (4 ∷ [])) 1 (via 4 2) 0 ≡ none  -- to reflectors, whoever told it: some 4
+  pub role3AsTheSender : reflects (skipSix (4 ∷ [])) 2 (via 4 1) 0 ≡ none  -- role 3 taken for a client: some 4
+  pub role3AsTheHearer : reflects (skipSix (4 ∷ [])) 0 (via 4 2) 1 ≡ none  -- role 3 taken for a client: some 4
+  pub listedRole3AnnouncesItself : advertises (skipSix (1 ∷ [])) 1 (via 1 1) 5 ≡ some 1  -- to reflectors only: none
   -- "A listed router holds its own route always and announces it to every neighbour. An unlisted client announces nothing."
   pub listedAnnouncesItself : advertises reflector1And34 1 (via 1 1) 0 ≡ some 1  -- as one heard from a reflector: none
   pub clientAnnouncesNothing : advertises client4 5 (via 4 3) 1 ≡ none  -- as a reflector does: some 4
@@ -131,6 +148,11 @@ pub record RoutingExamples : Type 0 where
   pub onlyRouteWithoutAWay : choose (cutSix (4 ∷ [])) 0 (held start) ≡ nothing  -- no way as a very long way: via 4 1
   pub nextBestIsHeld : choose (cutSix (3 ∷ 4 ∷ 5 ∷ [])) 1 (held start) ≡ via 4 4  -- no way as a distance: via 5 5
   pub ownRouteIsHeld : choose (cutSix (5 ∷ [])) 5 (held start) ≡ via 5 5  -- a way asked for: nothing
+  -- "A client with no mesh around it may end with nothing": what 1 has from client 4 reaches reflector 0 and not client 5, and the
+  -- session of clients 3 and 5 brings 5 what 3 has
+  pub role3IsHeard : choose (skipSix (4 ∷ [])) 0 (held start) ≡ via 4 1  -- role 3 taken for a client: via 4 2
+  pub clientWithoutAMesh : choose (skipSix (4 ∷ [])) 5 (held start) ≡ nothing  -- told as by role 1: via 4 1
+  pub clientMesh : choose (skipSix (3 ∷ 4 ∷ [])) 5 (held start) ≡ via 3 3
   -- "A listed router's entry names itself twice. Any other entry is 255 255, or an egress below n with a neighbour as sender."
   pub neighbourAsSender : entryOk client4 0 (via 5 1) ≡ true  -- with a listed egress only: false
   pub strangerAsSender : entryOk client4 0 (via 4 5) ≡ false  -- with any router below n: true
@@ -184,6 +206,14 @@ pub record RoutingExamples : Type 0 where
   pub rule3ListedReflector : relies reflector1And34 0 1 ≡ false  -- the client of 1 as its offer: true
   pub rule3WithoutAWay : relies (cutSix (3 ∷ 4 ∷ [])) 0 1 ≡ false  -- no way as a distance: true
   pub rule3ListedReflectorWithoutAWay : relies (cutSix (0 ∷ [])) 2 0 ≡ false  -- a listed reflector's offer always counts: true
+  -- "It is otherwise a reflector in every rule, and rule 2 of the reliances is unchanged for its clients."
+  pub role3IsNoClient : bestClient (skipSix (1 ∷ [])) 0 ≡ none  -- role 3 taken for a client: some 1
+  pub role3HasABestClient : bestClient (skipSix (4 ∷ 5 ∷ [])) 1 ≡ some 5  -- a client has none: none
+  pub role3OffersItsClient : offer (skipSix (4 ∷ 5 ∷ [])) 1 ≡ some 5  -- a client offers nothing: none
+  pub rule2OnRole3 : relies (skipSix (4 ∷ [])) 5 1 ≡ true  -- on who can tell it something: false
+  pub rule3OnRole3 : relies (skipSix (5 ∷ [])) 0 1 ≡ true  -- role 3 taken for a client: false
+  pub rule3OfRole3 : relies (skipSix (3 ∷ 4 ∷ [])) 1 2 ≡ false  -- by rule 2, as a client: true
+  pub rule3OfRole3OnItsClient : relies (skipSix (3 ∷ 4 ∷ [])) 1 4 ≡ true  -- on reflectors alone: false
   -- a router in a byte, 255 for none
   pub noRouter : asRouter 255 ≡ none
   pub lastRouterByte : asRouter 254 ≡ some 254

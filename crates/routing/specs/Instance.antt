@@ -8,8 +8,10 @@ use lib.Dec.{eqb}
 pub record Instance : Type 0 where
   -- the number of routers
   pub n : ℕ
-  -- its role is reflector; every other router is a client
+  -- its role is that of a reflector; every other router is a client
   pub reflector : ℕ → Bool
+  -- "Role 3 is such a reflector": it skips its own clients. Asked of reflectors alone.
+  pub skips : ℕ → Bool
   -- "Two routers of a pair are neighbours."
   pub neighbour : ℕ → ℕ → Bool
   -- the distance from the first to the second; "it need not equal the distance back"

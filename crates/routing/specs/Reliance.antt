@@ -36,3 +36,16 @@ relies I w v =
     (cond (I .reflector w)
     (isRouter v (bestClient I w) || (I .neighbour w v && I .reflector v && betterOffer I w (offer I v) (bestClient I w)))
     (I .neighbour w v && (I .reflector v || I .listed v)))
+
+-- the same network, with the given reflectors as those that skip their clients
+abbrev pub withSkips : Instance → (ℕ → Bool) → Instance
+withSkips I skips =
+    record {
+      n = I .n;
+      reflector = I .reflector;
+      skips = skips;
+      neighbour = I .neighbour;
+      dist = I .dist;
+      way = I .way;
+      listed = I .listed;
+    }

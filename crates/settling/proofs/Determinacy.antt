@@ -120,7 +120,7 @@ module _ (I : Instance) (w : ℕ) (unlisted : I .listed w ≡ false) where
     offered p r k q = go (bestClient I w) refl (sym same ∙ q)
       where
         f : FromClient I (t v) e
-        f = reflects-client I (t v) w e k (sym (advertises-reflector I v (t v) w p r) ∙ hears-told I t w v e h)
+        f = reflects-client I v (t v) w e k (sym (advertises-reflector I v (t v) w p r) ∙ hears-told I t w v e h)
 
         offers : offer I v ≡ some e
         offers = offer-unlisted I v p ∙ clean e (f .sender) (f .holds) p r (f .client)

@@ -29,6 +29,7 @@ network =
     record {
       n = 5;
       reflector = λ v. ltb v 2;
+      skips = λ v. false;
       neighbour = λ w v. session 0 1 w v || session 0 2 w v || session 1 3 w v;
       dist = λ w e. 0;
       way = λ w e. true;

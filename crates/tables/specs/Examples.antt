@@ -2,7 +2,7 @@
 -- what a misreading gives.
 use Prim.Native.Nat.{ℕ}
 use mathlib.Core.Path.{_≡_}
-use mathlib.Core.Bool.{true, not, _&&_, _||_}
+use mathlib.Core.Bool.{true, false, not, _&&_, _||_}
 use mathlib.Core.List.{List, [], _∷_}
 use lib.Dec.{eqb}
 use Rattle.routing.specs.Instance.{Instance, nothing, via}
@@ -14,6 +14,7 @@ threeRouters =
     record {
       n = 3;
       reflector = λ v. eqb v 0;
+      skips = λ v. false;
       neighbour = λ w v. not (eqb w v) && (eqb w 0 || eqb v 0);
       dist = λ u e. 0;
       way = λ u e. true;

@@ -16,7 +16,7 @@ pub use harness::cases::lines as case_lines;
 pub use harness::comparison::compare;
 pub use harness::generate::{deepest, largest, numbered};
 pub use harness::random::Random;
-pub use harness::{questions, self_test, small_margins, small_plans, small_sheets};
+pub use harness::{questions, self_test, small_margins, small_plans, small_roles, small_sheets};
 pub use interface::Checker;
 #[cfg(feature = "library")]
 pub use library::Library;

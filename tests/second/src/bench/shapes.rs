@@ -1,9 +1,9 @@
 //! The plans and the sheets of links that the bench times.
 
 use crate::harness::draft::Draft;
-use crate::harness::generate::all_pairs;
 use crate::harness::random::Random;
 use crate::harness::sheets::Sheet;
+use crate::harness::topology::all_pairs;
 use crate::oracle::links::MOST_LINKS;
 use crate::oracle::plan::NO_WAY;
 use crate::oracle::verdict_lines;
@@ -22,12 +22,15 @@ pub struct Shape {
     all_sessions: bool,
     /// So many of a hundred pairs have no way.
     cut: usize,
+    /// Every second reflector skips its own clients.
+    half_skip: bool,
 }
 
 impl Shape {
     /// A quarter reflectors, all in a mesh; clients with two parents.
     pub fn mesh(n: usize) -> Self {
-        Shape { n, reflectors: (n / 4).max(2), reach: n, parents: 2, all_sessions: false, cut: 0 }
+        let reflectors = (n / 4).max(2);
+        Shape { n, reflectors, reach: n, parents: 2, all_sessions: false, cut: 0, half_skip: false }
     }
 
     /// A mesh; half reflectors in a mesh, and clients with four parents (for four
@@ -51,6 +54,11 @@ impl Shape {
     /// A mesh in which a fifth of the pairs have no way.
     pub fn fifth_cut(n: usize) -> Self {
         Shape { cut: 20, ..Shape::mesh(n) }
+    }
+
+    /// A mesh in which every second reflector skips its own clients.
+    pub fn half_skip(n: usize) -> Self {
+        Shape { half_skip: true, ..Shape::mesh(n) }
     }
 
     pub fn name(&self) -> String {
@@ -90,6 +98,7 @@ impl Shape {
         };
         Draft {
             reflector: (0..n).map(|router| router < self.reflectors).collect(),
+            skips: (0..self.reflectors).filter(|router| self.half_skip && router % 2 == 1).collect(),
             identifiers: (1..=n as u32).collect(),
             sessions: self.sessions(),
             distances: (0..n).map(|from| (0..n).map(|to| distance(from, to)).collect()).collect(),

@@ -252,6 +252,11 @@ fn time_cuts(bench: &Bench, random: &mut Random) {
     time_sheet(bench, &two_parts(random, 64), "distances, two parts");
 }
 
+/// Plans with reflectors that skip their own clients.
+fn time_skips(bench: &Bench, random: &mut Random) {
+    time_shape(bench, random, &Shape::half_skip(64), "half skip, n = 64");
+}
+
 /// Prints the lines whose names have the word.
 pub fn bench(word: &str) {
     println!("library (ours), plain, tight: the best of {TURNS} turns, for a run that of one of its activations");
@@ -263,4 +268,5 @@ pub fn bench(word: &str) {
     time_growth(&bench, &mut random);
     time_sheets(&bench, &mut random);
     time_cuts(&bench, &mut random);
+    time_skips(&bench, &mut random);
 }

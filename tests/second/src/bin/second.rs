@@ -1,6 +1,7 @@
 //! Compares a checker of route-reflection plans with the second one.
 
-use second_checker::{margin_line, questions, self_test, small_margins, small_plans, small_sheets, verdict_lines};
+use second_checker::{margin_line, questions, self_test, verdict_lines};
+use second_checker::{small_margins, small_plans, small_roles, small_sheets};
 use second_checker::{Checker, Plain, Random, Tight};
 use std::env;
 use std::error::Error;
@@ -77,6 +78,8 @@ fn test_self(options: &Options) -> Result<bool, Box<dyn Error>> {
     println!("small plans M1 to M9, bounds, cuts, example output, rank of the deepest plan: as stated");
     small_margins::test()?;
     println!("margins of small plans, and the lines of them: as stated");
+    small_roles::test()?;
+    println!("a small plan with role 3: as stated");
     small_sheets::test()?;
     println!("small sheets of links, their refusals in order: as stated");
     self_test::aimed_damage()?;
@@ -89,7 +92,8 @@ fn test_self(options: &Options) -> Result<bool, Box<dyn Error>> {
     let without_a_walk = self_test::least_sums(options.seed, options.plans)?;
     println!("least sums on {} sheets: as due, {without_a_walk} pairs without a walk", options.plans);
     let counts = self_test::consistency(options.seed, options.plans)?;
-    println!("starts on plans with cuts {}", counts.starts_with_cuts);
+    println!("starts on plans with cuts {}, with role 3 {}", counts.starts_with_cuts, counts.starts_with_skips);
+    println!("stable lists that role 3 lets settle otherwise {}", counts.changed_by_skips);
     println!(
         "second self: {} plans, {} lists, {} suspect, {} starts settled",
         options.plans, counts.lists, counts.suspect, counts.starts

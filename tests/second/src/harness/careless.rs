@@ -6,7 +6,7 @@ use super::slips::Slip;
 use crate::interface::{
     Acts, Checker, CompareFields, ListFields, RunFields, SizeFields, VerdictBuffers, VerdictFields,
 };
-use crate::oracle::plan::{self, NO_WAY};
+use crate::oracle::plan::{self, FIRST_BODY, NO_WAY};
 use crate::oracle::rules::Right;
 use crate::oracle::tables::NONE;
 use crate::oracle::Oracle;
@@ -39,6 +39,14 @@ fn with_ways_to_itself(plan: &[u8]) -> Vec<u8> {
     plan
 }
 
+/// A plan refused with 4, with role 3 for each router of role 4.
+fn with_role_3_for_4(plan: &[u8]) -> Vec<u8> {
+    let (mut plan, n) = (plan.to_vec(), usize::from(plan[4]));
+    let roles = plan[FIRST_BODY..][..5 * n].iter_mut().step_by(5);
+    roles.filter(|role| **role == 4).for_each(|role| *role = 3);
+    plan
+}
+
 /// Whether a sound table for a sound plan has an entry without a way.
 fn holds_without_way(bytes: &[u8], table: &[u8]) -> bool {
     let Ok(plan) = plan::read(bytes) else { return false };
@@ -54,6 +62,8 @@ impl Checker for Careless {
             Slip::LongPlanAccepted if plan.len() > 16_731 => 3,
             Slip::NoWayRefused if refusal == 0 && plan::read(plan).is_ok_and(|plan| plan.has_cuts()) => 6,
             Slip::NoWayToItselfAccepted if refusal == 6 => self.inner.check(&with_ways_to_itself(plan)),
+            Slip::Role3Refused if refusal == 0 && plan::read(plan).is_ok_and(|plan| !plan.skipping.is_empty()) => 4,
+            Slip::Role4Accepted if refusal == 4 => self.inner.check(&with_role_3_for_4(plan)),
             _ => refusal,
         }
     }

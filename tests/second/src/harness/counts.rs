@@ -10,6 +10,8 @@ pub struct Counts {
     pub sound_plans: u64,
     /// Sound plans in which some router has no way to some other.
     pub plans_with_cuts: u64,
+    /// .. in which some reflector skips its own clients.
+    pub plans_with_skips: u64,
     pub lists: u64,
     pub suspect_lists: u64,
     pub sheets: u64,
@@ -22,6 +24,7 @@ pub struct Counts {
     pub margins: Margins,
     pub series: u64,
     pub series_with_cuts: u64,
+    pub series_with_skips: u64,
     pub acts_in_series: u64,
     pub highest_rank: u64,
     pub longest_cycle: u64,
@@ -69,6 +72,7 @@ impl fmt::Display for Counts {
     fn fmt(&self, out: &mut fmt::Formatter) -> fmt::Result {
         writeln!(out, "sound plans {}, calls not refused {}", self.sound_plans, self.refusals[0])?;
         writeln!(out, "plans with cuts {}, series on these {}", self.plans_with_cuts, self.series_with_cuts)?;
+        writeln!(out, "plans with role 3 {}, series on these {}", self.plans_with_skips, self.series_with_skips)?;
         writeln!(out, "sheets with distances {}", self.sheets_with_distances)?;
         writeln!(out, "{}", self.margins)?;
         writeln!(out, "calls answered from comparisons alone {}", self.calls_by_comparisons)?;

@@ -1,11 +1,11 @@
 //! Plans with cut-off routers: ways taken out of a plan.
 
-use super::generate::{all_pairs, ordered, Topology};
 use super::random::Random;
+use super::topology::{all_pairs, ordered, Topology};
 use crate::oracle::plan::{Router, NO_WAY};
 use std::collections::BTreeSet;
 
-/// Takes ways out of a plan, none of two in five plans.
+/// Takes ways out of a plan, none in two of five plans.
 pub fn cut(random: &mut Random, topology: &Topology, distances: &mut [Vec<u16>]) {
     let n = topology.0.len();
     match random.below(10) {

@@ -159,7 +159,7 @@ fn routers(random: &mut Random, bodies: &mut Bodies) {
     let n = usize::from(bodies.n);
     let routers = &mut bodies.routers;
     if n == 1 || random.chance(50) {
-        routers[5 * random.below(n)] = random.pick(&[0, 3, 4, 129, 130, 255]);
+        routers[5 * random.below(n)] = random.pick(&[0, 4, 5, 129, 130, 131, 255]);
         return;
     }
     // An identifier equal to the one before it, or the two the wrong way round.

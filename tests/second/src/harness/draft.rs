@@ -1,11 +1,13 @@
 //! Plans before they become bytes.
 
-use crate::oracle::plan::{Router, FIRST_BODY};
+use crate::oracle::plan::{Router, CLIENT, FIRST_BODY, REFLECTOR, SKIPPING};
 use std::collections::BTreeSet;
 
 /// What a plan says.
 pub struct Draft {
     pub reflector: Vec<bool>,
+    /// Those of the reflectors that skip their own clients.
+    pub skips: BTreeSet<Router>,
     pub identifiers: Vec<u32>,
     pub sessions: BTreeSet<(Router, Router)>,
     pub distances: Vec<Vec<u16>>,
@@ -23,14 +25,18 @@ pub struct Bodies {
 
 impl Draft {
     pub fn bodies(&self) -> Bodies {
-        let role = |&reflector: &bool| if reflector { 1 } else { 2 };
-        let routers = self.reflector.iter().zip(&self.identifiers);
+        let role = |router: Router| match (self.reflector[router], self.skips.contains(&router)) {
+            (false, _) => CLIENT,
+            (true, false) => REFLECTOR,
+            (true, true) => SKIPPING,
+        };
+        let routers = self.identifiers.iter().enumerate();
         let numbers = |list: &BTreeSet<Router>| list.iter().map(|&router| router as u8).collect::<Vec<u8>>();
         let lists = self.lists.iter().flat_map(|list| [vec![list.len() as u8], numbers(list)].concat());
         Bodies {
             n: self.reflector.len() as u8,
             routers: routers
-                .flat_map(|(reflector, id)| [vec![role(reflector)], id.to_le_bytes().to_vec()].concat())
+                .flat_map(|(router, id)| [vec![role(router)], id.to_le_bytes().to_vec()].concat())
                 .collect(),
             sessions: self.sessions.iter().flat_map(|&(one, other)| [one as u8, other as u8]).collect(),
             distances: self.distances.iter().flatten().flat_map(|distance| distance.to_le_bytes()).collect(),

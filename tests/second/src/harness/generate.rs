@@ -5,6 +5,7 @@ use super::cuts;
 use super::damage;
 use super::draft::Draft;
 use super::random::Random;
+use super::topology::{all_pairs, ordered, skipping, topology, Topology};
 use crate::oracle::plan::{Router, MOST_LISTS, MOST_ROUTERS};
 use std::collections::BTreeSet;
 
@@ -42,8 +43,11 @@ pub fn sound_of(random: &mut Random, n: usize) -> Draft {
     let mut distances = distances(random, &topology);
     cuts::cut(random, &topology, &mut distances);
     let (reflector, sessions) = topology;
-    let lists = lists(random, &reflector);
-    Draft { identifiers: identifiers(random, n), reflector, sessions, distances, lists }
+    let skips = skipping(random, &reflector);
+    // A reflector that skips its clients shows at those that are not listed.
+    let nearly_all = if skips.is_empty() { 70 } else { 30 };
+    let lists = lists(random, &reflector, nearly_all);
+    Draft { identifiers: identifiers(random, n), reflector, skips, sessions, distances, lists }
 }
 
 /// The largest plan: 64 routers, all sessions, 64 full lists.
@@ -53,7 +57,7 @@ pub fn largest(random: &mut Random) -> Draft {
     let distances = distances(random, &topology);
     let (reflector, sessions) = topology;
     let lists = vec![(0..n).collect(); MOST_LISTS];
-    Draft { identifiers: identifiers(random, n), reflector, sessions, distances, lists }
+    Draft { identifiers: identifiers(random, n), reflector, skips: BTreeSet::new(), sessions, distances, lists }
 }
 
 /// A plan whose highest rank is 61, the highest that any plan can have, with
@@ -86,6 +90,7 @@ pub fn deepest() -> Draft {
     };
     Draft {
         reflector: (0..n).map(|router| reflectors.contains(&router)).collect(),
+        skips: BTreeSet::new(),
         identifiers: (1..=n as u32).map(|place| 10 * place).collect(),
         sessions,
         distances: (0..n).map(|from| (0..n).map(|to| distance(from, to)).collect()).collect(),
@@ -114,96 +119,6 @@ fn identifiers(random: &mut Random, n: usize) -> Vec<u32> {
         chosen.insert(base + (random.word() as u32 & mask));
     }
     chosen.into_iter().collect()
-}
-
-/// All pairs of routers below n, the lower one first.
-pub fn all_pairs(n: usize) -> impl Iterator<Item = (Router, Router)> {
-    (0..n).flat_map(move |one| (one + 1..n).map(move |other| (one, other)))
-}
-
-/// Which routers are reflectors, and the sessions.
-pub type Topology = (Vec<bool>, BTreeSet<(Router, Router)>);
-
-fn topology(random: &mut Random, n: usize) -> Topology {
-    match random.below(16) {
-        0 => scattered(random, n, 75),
-        1 => {
-            let percent = random.pick(&[0, 15, 100]);
-            scattered(random, n, percent)
-        }
-        2 => scattered(random, n, (250 / n).min(100)),
-        3..=5 => ring_of_reflectors(random, n),
-        _ => mesh_of_reflectors(random, n),
-    }
-}
-
-/// Random roles; each session is there with the given chance.
-fn scattered(random: &mut Random, n: usize, percent: usize) -> Topology {
-    let share = random.pick(&[0, 30, 50, 70, 100]);
-    let reflector = (0..n).map(|_| random.chance(share)).collect();
-    (reflector, all_pairs(n).filter(|_| random.chance(percent)).collect())
-}
-
-pub fn ordered(one: Router, other: Router) -> (Router, Router) {
-    (one.min(other), one.max(other))
-}
-
-/// Chooses which routers are reflectors: `count` of them, anywhere.
-fn choose_reflectors(random: &mut Random, n: usize, count: usize) -> (Vec<Router>, Vec<Router>) {
-    let mut routers: Vec<Router> = (0..n).collect();
-    random.shuffle(&mut routers);
-    let clients = routers.split_off(count);
-    if random.chance(50) {
-        routers.sort_unstable();
-    }
-    (routers, clients)
-}
-
-fn roles(n: usize, reflectors: &[Router]) -> Vec<bool> {
-    (0..n).map(|router| reflectors.contains(&router)).collect()
-}
-
-/// Reflectors in a ring, each with clients of its own.
-fn ring_of_reflectors(random: &mut Random, n: usize) -> Topology {
-    let count = random.between(1, n.div_ceil(2));
-    let (reflectors, clients) = choose_reflectors(random, n, count);
-    let mut sessions = BTreeSet::new();
-    for place in 1..=count {
-        let (one, other) = (reflectors[place - 1], reflectors[place % count]);
-        if one != other {
-            sessions.insert(ordered(one, other));
-        }
-    }
-    for (place, &client) in clients.iter().enumerate() {
-        sessions.insert(ordered(client, reflectors[place % count]));
-    }
-    (roles(n, &reflectors), sessions)
-}
-
-/// Reflectors in a mesh, full or with gaps; clients own or shared, and at
-/// times sessions between clients.
-fn mesh_of_reflectors(random: &mut Random, n: usize) -> Topology {
-    let count = random.between(n.div_ceil(4), (2 * n).div_ceil(3));
-    let (reflectors, clients) = choose_reflectors(random, n, count);
-    let kept = random.pick(&[100, 100, 100, 60]);
-    let shared = random.pick(&[0, 0, 10, 40]);
-    let between_clients = random.pick(&[0, 0, 5, 20]);
-    let is_reflector = roles(n, &reflectors);
-    let mut sessions: BTreeSet<(Router, Router)> = all_pairs(n)
-        .filter(|&(one, other)| match (is_reflector[one], is_reflector[other]) {
-            (true, true) => random.chance(kept),
-            (false, false) => random.chance(between_clients),
-            _ => false,
-        })
-        .collect();
-    for (place, &client) in clients.iter().enumerate() {
-        let first = if random.chance(60) { reflectors[place % count] } else { random.pick(&reflectors) };
-        sessions.insert(ordered(client, first));
-        while random.chance(shared) {
-            sessions.insert(ordered(client, random.pick(&reflectors)));
-        }
-    }
-    (is_reflector, sessions)
 }
 
 /// The neighbouring reflector with the next higher number, around the end.
@@ -247,21 +162,21 @@ fn distances(random: &mut Random, topology: &Topology) -> Vec<Vec<u16>> {
     (0..n).map(&mut row).collect()
 }
 
-fn lists(random: &mut Random, reflector: &[bool]) -> Vec<BTreeSet<Router>> {
+/// Lists, of which so many in a hundred name all clients or nearly all.
+fn lists(random: &mut Random, reflector: &[bool], nearly_all: usize) -> Vec<BTreeSet<Router>> {
     let count = match random.below(40) {
         0..=15 => 1,
         16..=37 => random.between(2, 4),
         38 => random.between(5, 63),
         _ => MOST_LISTS,
     };
-    (0..count).map(|_| egress_list(random, reflector)).collect()
+    (0..count).map(|_| egress_list(random, reflector, nearly_all)).collect()
 }
 
-fn egress_list(random: &mut Random, reflector: &[bool]) -> BTreeSet<Router> {
+fn egress_list(random: &mut Random, reflector: &[bool], nearly_all: usize) -> BTreeSet<Router> {
     let n = reflector.len();
     let shares = [(100, 0), (100, 2), (95, 0), (90, 2), (75, 0), (75, 5), (50, 10), (50, 50), (15, 15), (0, 0)];
-    // Most lists name all clients or nearly all.
-    let kinds = if random.chance(70) { 4 } else { shares.len() };
+    let kinds = if random.chance(nearly_all) { 4 } else { shares.len() };
     let (clients, reflectors) = random.pick(&shares[..kinds]);
     let mut listed: BTreeSet<Router> =
         (0..n).filter(|&router| random.chance(if reflector[router] { reflectors } else { clients })).collect();

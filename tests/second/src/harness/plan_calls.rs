@@ -59,6 +59,7 @@ fn loose_calls(random: &mut Random) -> [Call; 6] {
 fn sound(comparison: &mut Comparison, random: &mut Random, bytes: &[u8], plan: &Plan) -> Outcome {
     comparison.counts.sound_plans += 1;
     comparison.counts.plans_with_cuts += u64::from(plan.has_cuts());
+    comparison.counts.plans_with_skips += u64::from(!plan.skipping.is_empty());
     if plan.n <= FEW {
         let preferences = Preferences::ask(comparison, bytes, plan.n)?;
         comparison.go_by(bytes, preferences);

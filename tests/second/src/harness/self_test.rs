@@ -9,11 +9,12 @@ use super::generate;
 use super::misreadings::{Misread, MISREADINGS};
 use super::random::Random;
 use super::sheets::{self, Sheet, DAMAGES};
+use super::skip_misreadings::{MisreadSkip, SKIP_MISREADINGS};
 use super::slips::SLIPS;
 use crate::interface::Checker;
 use crate::oracle::links::{self, Sums};
 use crate::oracle::plan::{self, Router};
-use crate::oracle::rules::{Case, Right, Rules};
+use crate::oracle::rules::{Case, Right, Rules, Table};
 use crate::oracle::tables::{self, Rounds};
 use crate::oracle::verdict::{self, Outcome, Ranks, Reliances};
 use crate::oracle::Oracle;
@@ -42,10 +43,13 @@ pub fn faults() -> Result<usize, String> {
     for misreading in MISREADINGS {
         finds(&mut Oracle::right(), &mut Oracle::with(Misread(misreading)), &format!("{misreading:?}"))?;
     }
+    for misreading in SKIP_MISREADINGS {
+        finds(&mut Oracle::right(), &mut Oracle::with(MisreadSkip(misreading)), &format!("{misreading:?}"))?;
+    }
     for slip in SLIPS {
         finds(&mut Oracle::right(), &mut Careless::new(slip), &format!("{slip:?}"))?;
     }
-    Ok(MISREADINGS.len() + SLIPS.len())
+    Ok(MISREADINGS.len() + SKIP_MISREADINGS.len() + SLIPS.len())
 }
 
 /// A checker with a misread rule is found even if compared with itself: its
@@ -55,7 +59,11 @@ pub fn misread_on_both_sides() -> Result<usize, String> {
         let [mut one, mut other] = [misreading; 2].map(|misreading| Oracle::with(Misread(misreading)));
         finds(&mut one, &mut other, &format!("{misreading:?} on both sides"))?;
     }
-    Ok(MISREADINGS.len())
+    for misreading in SKIP_MISREADINGS {
+        let [mut one, mut other] = [misreading; 2].map(|misreading| Oracle::with(MisreadSkip(misreading)));
+        finds(&mut one, &mut other, &format!("{misreading:?} on both sides"))?;
+    }
+    Ok(MISREADINGS.len() + SKIP_MISREADINGS.len())
 }
 
 /// Damage aimed at a refusal is refused with it, nearly always.
@@ -128,6 +136,10 @@ pub struct Consistency {
     pub starts: u64,
     /// Of these, those on plans in which some router has no way to some other.
     pub starts_with_cuts: u64,
+    /// .. in which some reflector skips its own clients.
+    pub starts_with_skips: u64,
+    /// Stable lists that settle otherwise than if no reflector skipped its clients.
+    pub changed_by_skips: u64,
 }
 
 /// Groups, ranks, cycles and settling on random plans.
@@ -159,14 +171,23 @@ fn consistent(random: &mut Random, case: Case, counts: &mut Consistency) -> Resu
             ranks_fit(&reliances, &ranks)?;
             let highest = verdict::highest(&ranks);
             let settled = tables::bytes(&table, case.plan.n);
+            counts.changed_by_skips += u64::from(table != settled_without_skips(case));
             for _ in 0..2 {
                 counts.starts += 1;
                 counts.starts_with_cuts += u64::from(case.plan.has_cuts());
+                counts.starts_with_skips += u64::from(!case.plan.skipping.is_empty());
                 settles(random, case, &settled, highest)?;
             }
             Ok(())
         }
     }
+}
+
+/// What a list settles on if role 3 is taken for role 1, which leaves it stable.
+fn settled_without_skips(case: Case) -> Table {
+    let mut plan = case.plan.clone();
+    plan.skipping.clear();
+    tables::settle(&Right, Case { plan: &plan, ..case })
 }
 
 fn reached(reliances: &Reliances, from: Router) -> BTreeSet<Router> {

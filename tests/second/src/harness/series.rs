@@ -59,6 +59,7 @@ pub fn compare(
     }
     comparison.counts.series += 1;
     comparison.counts.series_with_cuts += u64::from(plan.has_cuts());
+    comparison.counts.series_with_skips += u64::from(!plan.skipping.is_empty());
     comparison.counts.acts_in_series += series.acts;
     Ok(())
 }

@@ -42,6 +42,8 @@ pub enum Slip {
     LongPlanAccepted,
     NoWayRefused,
     NoWayToItselfAccepted,
+    Role3Refused,
+    Role4Accepted,
     EntryWithoutAWayRefused,
     TransposedDistances,
     DirectLinksOnly,
@@ -73,7 +75,7 @@ pub enum Slip {
     ByteAfterTheDistances,
 }
 
-pub const SLIPS: [Slip; 67] = [
+pub const SLIPS: [Slip; 69] = [
     Slip::FirstActOnly,
     Slip::ActLeavesTable,
     Slip::ExhaustedAtTheLimit,
@@ -112,6 +114,8 @@ pub const SLIPS: [Slip; 67] = [
     Slip::LongPlanAccepted,
     Slip::NoWayRefused,
     Slip::NoWayToItselfAccepted,
+    Slip::Role3Refused,
+    Slip::Role4Accepted,
     Slip::EntryWithoutAWayRefused,
     Slip::TransposedDistances,
     Slip::DirectLinksOnly,

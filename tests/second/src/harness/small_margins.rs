@@ -65,6 +65,7 @@ fn ring_of_four() -> Result<(), String> {
     };
     let plan = Draft {
         reflector: (0..8).map(|router| router < 4).collect(),
+        skips: BTreeSet::new(),
         identifiers: (1..=8).collect(),
         sessions: BTreeSet::from([(0, 1), (1, 2), (2, 3), (0, 3), (0, 4), (1, 5), (2, 6), (3, 7)]),
         distances: (0..8).map(|from| (0..8).map(|to| distance(from, to)).collect()).collect(),

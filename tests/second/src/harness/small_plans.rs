@@ -16,6 +16,7 @@ pub fn draft(p: u16, q: u16, lists: &[&[usize]]) -> Draft {
     let distances = [[0, 30, 10, p], [30, 0, q, 10], [30, 30, 0, 30], [30, 30, 30, 0]];
     Draft {
         reflector: vec![true, true, false, false],
+        skips: BTreeSet::new(),
         identifiers: vec![10, 20, 30, 40],
         sessions: BTreeSet::from([(0, 1), (0, 2), (1, 3)]),
         distances: distances.map(Vec::from).to_vec(),
@@ -91,6 +92,7 @@ fn runs() -> Result<(), String> {
 pub fn lone_reflectors(n: usize) -> Draft {
     Draft {
         reflector: vec![true; n],
+        skips: BTreeSet::new(),
         identifiers: (0..n as u32).collect(),
         sessions: BTreeSet::new(),
         distances: vec![vec![0; n]; n],

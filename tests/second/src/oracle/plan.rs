@@ -16,15 +16,25 @@ pub const MOST_LISTS: usize = 64;
 /// What stands for the distance to a router that there is no way to.
 pub const NO_WAY: u16 = 65_535;
 
+/// The roles: of a reflector, of a client, and of a reflector that skips its clients.
+pub const REFLECTOR: u8 = 1;
+pub const CLIENT: u8 = 2;
+pub const SKIPPING: u8 = 3;
+
 /// An egress list, and where in the plan its router numbers start.
+#[derive(Clone)]
 pub struct EgressList {
     pub start: usize,
     pub listed: Listed,
 }
 
+#[derive(Clone)]
 pub struct Plan {
     pub n: usize,
+    /// The routers of role 1 or 3.
     pub reflectors: BTreeSet<Router>,
+    /// The reflectors of role 3, which skip their own clients.
+    pub skipping: BTreeSet<Router>,
     pub neighbours: Vec<BTreeSet<Router>>,
     /// From each router to each; none if there is no way.
     pub distances: Vec<Vec<Option<u16>>>,
@@ -35,6 +45,10 @@ pub struct Plan {
 impl Plan {
     pub fn is_reflector(&self, router: Router) -> bool {
         self.reflectors.contains(&router)
+    }
+
+    pub fn skips(&self, router: Router) -> bool {
+        self.skipping.contains(&router)
     }
 
     /// The place of an egress router in the order of preference at `at`: all
@@ -59,12 +73,15 @@ pub fn read(bytes: &[u8]) -> Result<Plan, u8> {
     read_letters(bytes)?;
     let n = read_router_count(bytes)?;
     let [routers, sessions, distances, lists] = read_contents(bytes, n)?;
-    let reflectors = read_routers(routers)?;
+    let roles = read_routers(routers)?;
+    let with_role = |role: u8| (0..n).filter(|&router| roles[router] == role).collect::<BTreeSet<_>>();
+    let skipping = with_role(SKIPPING);
+    let reflectors = &with_role(REFLECTOR) | &skipping;
     let neighbours = read_sessions(sessions, n)?;
     let distances = read_distances(distances, n)?;
     let lists = read_lists(lists, bytes.len() - lists.len(), n)?;
     let places = distances.iter().map(|row| order_of_preference(row)).collect();
-    Ok(Plan { n, reflectors, neighbours, distances, lists, places })
+    Ok(Plan { n, reflectors, skipping, neighbours, distances, lists, places })
 }
 
 fn read_letters(bytes: &[u8]) -> Result<(), u8> {
@@ -101,15 +118,14 @@ fn rises<T: Ord>(sequence: &[T]) -> bool {
     sequence.iter().collect::<BTreeSet<_>>().into_iter().eq(sequence.iter())
 }
 
-fn read_routers(body: &[u8]) -> Result<BTreeSet<Router>, u8> {
+/// The roles of the routers, in their order.
+fn read_routers(body: &[u8]) -> Result<Vec<u8>, u8> {
     let entries = body.chunks_exact(5);
     let roles: Vec<u8> = entries.clone().map(|entry| entry[0]).collect();
     let identifiers: Vec<u32> =
         entries.map(|entry| entry[1..].iter().rev().fold(0, |sum, &byte| sum << 8 | u32::from(byte))).collect();
-    if !roles.iter().all(|role| [1, 2].contains(role)) || !rises(&identifiers) {
-        return Err(4);
-    }
-    Ok(roles.iter().enumerate().filter(|(_, &role)| role == 1).map(|(router, _)| router).collect())
+    let known = |role: &u8| [REFLECTOR, CLIENT, SKIPPING].contains(role);
+    (roles.iter().all(known) && rises(&identifiers)).then_some(roles).ok_or(4)
 }
 
 fn read_sessions(body: &[u8], n: usize) -> Result<Vec<BTreeSet<Router>>, u8> {

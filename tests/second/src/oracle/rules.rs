@@ -122,9 +122,12 @@ pub trait Rules {
             return None;
         }
         let held = table.get(&from)?;
-        let from_reflector = case.plan.is_reflector(held.sender);
-        let advertises = if from_reflector { !case.plan.is_reflector(to) } else { to != held.sender };
-        advertises.then_some(held.egress)
+        let told = match (case.plan.is_reflector(held.sender), case.plan.is_reflector(to)) {
+            (true, true) => false,
+            (true, false) | (false, true) => true,
+            (false, false) => !case.plan.skips(from) && to != held.sender,
+        };
+        told.then_some(held.egress)
     }
 
     /// How a router values a route it receives: the egress router first, then

@@ -21,8 +21,8 @@ returns c rows =
     let d = c .before .before .before in
     let a = d .args in
     let I = decoded (a .net) rows (a .distances .now) in
-    sym (ap (λ x. toldKey I (a .w) (a .v) (reflects I x (a .w))) (route-none _ _ _ (d .pre .0) (d .pre .4) (c .if1 .taken))
-    ∙ ap (toldKey I (a .w) (a .v)) (reflects-nothing I (a .w))
+    sym (ap (λ x. toldKey I (a .w) (a .v) (reflects I (a .v) x (a .w))) (route-none _ _ _ (d .pre .0) (d .pre .4) (c .if1 .taken))
+    ∙ ap (toldKey I (a .w) (a .v)) (reflects-nothing I (a .v) (a .w))
     ∙ told-nothing I (a .w) (a .v))
 
 -- a route is held, of routers
@@ -37,8 +37,11 @@ route-key-requires c κs =
 
 passes-on-requires : tie.Need-passes-on-requires
 passes-on-requires c κs =
-    let p = c .before .before .before .before .before .before .pre in
-    (omega (arith, c .wide2 .ensures .0, held-below (c .before .before .before) .1, p .0), omega (arith, p .0, p .1))
+    let p = c .before .before .before .before .before .before .pre in (
+      omega (arith, p .0, p .2),
+      omega (arith, c .wide2 .ensures .0, held-below (c .before .before .before) .1, p .0),
+      omega (arith, p .0, p .1),
+    )
 
 module _ (c : tie.After-passes-on) (rows : List ℕ) where
   abbrev start : tie.Start
@@ -51,9 +54,9 @@ module _ (c : tie.After-passes-on) (rows : List ℕ) where
   told = toldKey I (start .args .w) (start .args .v)
 
   passed : {t : Option ℕ} → cond (c .passes-on .result) (some (c .before .before .before .wide .result)) none ≡ t
-      → told (reflects I (routeOf (start .args .route)) (start .args .w)) ≡ told t
+      → told (reflects I (start .args .v) (routeOf (start .args .route)) (start .args .w)) ≡ told t
   passed h =
-      ap (λ x. told (reflects I x (start .args .w)))
+      ap (λ x. told (reflects I (start .args .v) x (start .args .w)))
       (read-via _ _ (c .before .before .before .before .if1 .left) ∙ ap₂ via (sym (c .before .before .before .wide .ensures .0)) (sym (c .before .wide2 .ensures .0)))
       ∙ ap told (c .passes-on .ensures rows (start .args .distances .now) _ ∙ h)
 

@@ -1,12 +1,10 @@
 use Prim.Native.Nat.{_*_}
 use native.Mathlib.Omega.{arith}
-use mathlib.Core.Path.{_∙_, sym, ap}
+use mathlib.Core.Path.{_∙_, sym, ap, ap₂}
 use borrow.Author.Needs.{needs}
-use lib.Dec.{eqb}
 use lib.ListN.{length}
-use Rattle.bodies.specs.Routers.{role}
 use Rattle.plan.proofs.Passed.{passed}
-use Rattle.network.specs.FromPlan.{inSession, named}
+use Rattle.network.specs.FromPlan.{reflectorIn, skipsIn, inSession, named}
 use Rattle.network.proofs.FromPlan.{routers-length, session-below, number-below, span-numbers, read-same}
 use Rattle.network.proofs.decode.decode.Statement.{statement}
 use Rattle.network.proofs.decode.decode.Tie as tie
@@ -14,8 +12,8 @@ use Rattle.network.proofs.decode.decode.Tie as tie
 shared-slice-read-wide : tie.Need-shared-slice-read-wide
 shared-slice-read-wide c = omega (arith, passed _ (c .before .before .pre .0) .header .least)
 
-reflector-word-requires : tie.Need-reflector-word-requires
-reflector-word-requires c κs =
+role-words-requires : tie.Need-role-words-requires
+role-words-requires c κs =
     let start = c .before .before .before .before in
     let p = passed _ (start .pre .0) in
     let count = c .before .wide .ensures .0 in
@@ -43,7 +41,8 @@ returns c =
     record {
       same =
           read-same plan (start .args .list) _ (sessions .neighbour-rows .last .1 .0) (count .wide .ensures .0)
-          (λ v. roles .reflector-word .ensures v ∙ ap (λ s. eqb (role s v) 1) (roles .before .part .ensures))
+          (λ v. roles .role-words .ensures .0 v ∙ ap₂ (λ s n. reflectorIn s n v) (roles .before .part .ensures) (count .wide .ensures .0))
+          (λ v. roles .role-words .ensures .1 v ∙ ap₂ (λ s n. skipsIn s n v) (roles .before .part .ensures) (count .wide .ensures .0))
           (λ w v. sessions .neighbour-rows .ensures w v ∙ ap (λ s. inSession s w v) (sessions .before .before .part2 .ensures))
           (λ v. c .listed-word .ensures v ∙ ap (λ s. named s v) (span-numbers _ _ _ _ (c .before .before .before .list-span .ensures)));
       count = count .wide .ensures .0;
@@ -57,7 +56,7 @@ decode-spec =
     shared-slice-read-wide
     (λ c κs. search needs)
     (λ c κs. search needs)
-    reflector-word-requires
+    role-words-requires
     (λ c κs. search needs)
     neighbour-rows-requires
     (λ c κs. search needs)

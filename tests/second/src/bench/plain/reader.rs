@@ -2,7 +2,8 @@
 
 use super::{Matrix, MOST};
 
-const REFLECTOR: u8 = 1;
+const CLIENT: u8 = 2;
+const SKIPPING: u8 = 3;
 
 /// The bodies of a plan found sound.
 pub struct Bodies<'a> {
@@ -17,6 +18,8 @@ pub struct Bodies<'a> {
 pub struct PlanView<'a> {
     pub bodies: Bodies<'a>,
     pub reflector: [bool; MOST],
+    /// The reflectors that skip their own clients.
+    pub skips: [bool; MOST],
     pub neighbour: Matrix,
 }
 
@@ -55,10 +58,12 @@ pub fn read(plan: &[u8]) -> Result<PlanView<'_>, u8> {
         neighbour[v][u] = true;
     })?;
     let mut reflector = [false; MOST];
+    let mut skips = [false; MOST];
     for u in 0..bodies.n {
-        reflector[u] = bodies.routers[5 * u] == REFLECTOR;
+        reflector[u] = bodies.routers[5 * u] != CLIENT;
+        skips[u] = bodies.routers[5 * u] == SKIPPING;
     }
-    Ok(PlanView { bodies, reflector, neighbour })
+    Ok(PlanView { bodies, reflector, skips, neighbour })
 }
 
 fn read_contents(plan: &[u8], n: usize) -> Result<[usize; 4], u8> {
@@ -85,7 +90,7 @@ fn check_routers(body: &[u8], n: usize) -> Result<(), u8> {
     for u in 0..n {
         let entry = &body[5 * u..5 * u + 5];
         let identifier = u32::from_le_bytes([entry[1], entry[2], entry[3], entry[4]]);
-        if entry[0] == 0 || entry[0] > 2 || last.is_some_and(|last| identifier <= last) {
+        if entry[0] == 0 || entry[0] > SKIPPING || last.is_some_and(|last| identifier <= last) {
             return Err(4);
         }
         last = Some(identifier);

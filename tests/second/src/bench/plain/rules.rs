@@ -156,7 +156,13 @@ impl PlanView<'_> {
             return None;
         }
         let sender = usize::from(table[2 * from + 1]);
-        let advertises = if self.reflector[sender] { !self.reflector[to] } else { sender != to };
+        let advertises = if self.reflector[sender] {
+            !self.reflector[to]
+        } else if self.skips[from] {
+            self.reflector[to]
+        } else {
+            sender != to
+        };
         advertises.then(|| usize::from(table[2 * from]))
     }
 }

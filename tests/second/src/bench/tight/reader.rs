@@ -7,6 +7,8 @@ use super::{Pair, MOST};
 pub struct Bodies<'a> {
     pub n: usize,
     pub reflectors: u64,
+    /// The reflectors that skip their own clients.
+    pub skipping: u64,
     distances: &'a [Pair],
     lists: &'a [u8],
     lists_at: usize,
@@ -36,12 +38,12 @@ fn sound(plan: &[u8], session: impl FnMut(usize, usize)) -> Result<Bodies<'_>, u
         return Err(2);
     }
     let [routers, sessions, distances, lists] = cut(plan, n)?;
-    let reflectors = read_routers(routers)?;
+    let (reflectors, skipping) = read_routers(routers)?;
     read_sessions(sessions.as_chunks().0, n, session)?;
     let (distances, _) = distances.as_chunks();
     check_distances(distances, n)?;
     check_lists(lists, n)?;
-    Ok(Bodies { n, reflectors, distances, lists, lists_at: plan.len() - lists.len() })
+    Ok(Bodies { n, reflectors, skipping, distances, lists, lists_at: plan.len() - lists.len() })
 }
 
 /// Cuts a plan into its bodies by the table of contents.
@@ -64,18 +66,21 @@ fn cut(plan: &[u8], n: usize) -> Result<[&[u8]; 4], u8> {
     Ok(bodies)
 }
 
-fn read_routers(body: &[u8]) -> Result<u64, u8> {
+/// The reflectors, and those of them that skip their own clients.
+fn read_routers(body: &[u8]) -> Result<(u64, u64), u8> {
     let mut reflectors = 0;
+    let mut skipping = 0;
     let mut least = 0;
     for (u, &[role, a, b, c, d]) in body.as_chunks().0.iter().enumerate() {
         let identifier = u64::from(u32::from_le_bytes([a, b, c, d]));
-        if role == 0 || role > 2 || identifier < least {
+        if role == 0 || role > 3 || identifier < least {
             return Err(4);
         }
-        reflectors |= u64::from(role == 1) << u;
+        reflectors |= u64::from(role != 2) << u;
+        skipping |= u64::from(role == 3) << u;
         least = identifier + 1;
     }
-    Ok(reflectors)
+    Ok((reflectors, skipping))
 }
 
 fn read_sessions(pairs: &[Pair], n: usize, mut session: impl FnMut(usize, usize)) -> Result<(), u8> {

@@ -73,7 +73,7 @@ impl Network<'_> {
         if has(self.listed, router) {
             return;
         }
-        let reflectors = self.bodies.reflectors;
+        let (reflectors, skipping) = (self.bodies.reflectors, self.bodies.skipping);
         let distances = self.bodies.distances_from(router);
         let mut best = u32::MAX;
         for from in bits(self.rows[router] & (self.listed | reflectors)) {
@@ -81,8 +81,11 @@ impl Network<'_> {
                 continue;
             }
             let [egress, sender] = table[from].map(usize::from);
-            let withheld =
-                if has(reflectors, router) { sender != from && has(reflectors, sender) } else { sender == router };
+            let withheld = if has(reflectors, router) {
+                sender != from && has(reflectors, sender)
+            } else {
+                sender == router || has(skipping, from) && !has(reflectors, sender)
+            };
             let preference = if egress == from { 0 } else { from as u32 + 1 };
             let key = key(distances, egress) << 8 | preference;
             best = best.min(if withheld { u32::MAX } else { key });

@@ -3,6 +3,7 @@
 use super::line::line;
 use super::small;
 use crate::harness::draft::Draft;
+use std::collections::BTreeSet;
 
 fn relies(name: &str, plan: &[u8], list: usize, router: usize, other: usize) -> String {
     line(name, plan, |line| line.relies(list, router, other))
@@ -30,6 +31,7 @@ fn plan<const N: usize>(
 ) -> Vec<u8> {
     let draft = Draft {
         reflector: (0..N).map(|router| router < reflectors).collect(),
+        skips: BTreeSet::new(),
         identifiers: (1..=N as u32).collect(),
         sessions: sessions.iter().copied().collect(),
         distances: distances.map(Vec::from).to_vec(),

@@ -8,6 +8,7 @@ mod limits;
 mod line;
 mod misread;
 mod runs;
+mod skips;
 
 use super::small_plans;
 
@@ -24,6 +25,7 @@ fn small(p: u16, q: u16) -> Vec<u8> {
 
 /// All lines of the program.
 pub fn lines() -> String {
-    let parts = [limits::lines(), damaged::lines(), asked::lines(), misread::lines(), runs::lines(), cuts::lines()];
-    parts.concat().concat()
+    let plans = [limits::lines(), damaged::lines(), asked::lines()];
+    let rules = [misread::lines(), runs::lines(), cuts::lines(), skips::lines()];
+    [plans.concat(), rules.concat()].concat().concat()
 }

@@ -1,0 +1,81 @@
+//! What document 02 states of reflectors that skip their own clients, on a small
+//! plan.
+
+use super::call::{Answer, Call};
+use super::draft::Draft;
+use super::small_plans::{answer, same};
+use crate::interface::Checker;
+use crate::oracle::Oracle;
+use std::collections::BTreeSet;
+
+/// Reflector 0 with clients 2, 3 and 4, and reflector 1 with client 5; sessions
+/// between the reflectors and between clients 3 and 4. Client 2 is in no mesh.
+pub fn two_sites(skips: &[usize], lists: &[&[usize]]) -> Draft {
+    let distances = [[0, 30, 5, 10, 30, 6], [4, 0, 30, 6, 30, 10]].map(Vec::from);
+    let of_clients = (2..6).map(|from| (0..6).map(|to| if from == to { 0 } else { 30 }).collect());
+    Draft {
+        reflector: (0..6).map(|router| router < 2).collect(),
+        skips: skips.iter().copied().collect(),
+        identifiers: (1..=6).map(|place| 10 * place).collect(),
+        sessions: BTreeSet::from([(0, 1), (0, 2), (0, 3), (0, 4), (1, 5), (3, 4)]),
+        distances: distances.into_iter().chain(of_clients).collect(),
+        lists: lists.iter().map(|list| list.iter().copied().collect()).collect(),
+    }
+}
+
+/// All that is stated, or the first thing that is otherwise.
+pub fn test() -> Result<(), String> {
+    roles()?;
+    settled()?;
+    reliances()
+}
+
+fn roles() -> Result<(), String> {
+    let mut bodies = two_sites(&[0], &[&[3]]).bodies();
+    for (role, refusal) in [(0, 4), (1, 0), (2, 0), (3, 0), (4, 4), (255, 4)] {
+        bodies.routers[0] = role;
+        same(&format!("role {role}"), Oracle::right().check(&bodies.bytes()), refusal)?;
+    }
+    Ok(())
+}
+
+fn verdict(draft: &Draft) -> Answer {
+    let buffers = [6, 6, 12, 6].map(|need| vec![99; need]);
+    answer(draft, &Call::Verdict { list: 0, buffers })
+}
+
+/// Ranks and settled table of a stable list.
+fn stable(what: &str, draft: &Draft, ranks: [u8; 6], table: [u8; 12]) -> Result<(), String> {
+    let found = verdict(draft);
+    let highest = ranks.into_iter().max().unwrap_or(0).into();
+    same(what, (found.fields, &found.buffers[1..3]), (vec![1, highest], &[ranks.to_vec(), table.to_vec()]))
+}
+
+/// Router 0 skips its clients, or does not.
+fn settled() -> Result<(), String> {
+    let skips = |list: &[usize]| two_sites(&[0], &[list]);
+    let (ranks, nothing) = ([1, 2, 2, 0, 2, 3], 255);
+    // Client 2 ends with nothing; the mesh brings 4 the route.
+    stable("a client's route", &skips(&[3]), ranks, [3, 3, 3, 0, nothing, nothing, 3, 3, 3, 3, 3, 1])?;
+    stable("role 1", &two_sites(&[], &[&[3]]), ranks, [3, 3, 3, 0, 3, 0, 3, 3, 3, 3, 3, 1])?;
+    stable("a reflector's route", &skips(&[5]), [2, 1, 3, 3, 3, 0], [5, 1, 5, 5, 5, 0, 5, 0, 5, 0, 5, 5])?;
+    stable("its own route", &skips(&[0]), [0, 1, 1, 1, 1, 2], [0, 0, 0, 0, 0, 0, 0, 0, 0, 0, 0, 1])?;
+    let found = verdict(&skips(&[3, 5]));
+    same("a cycle", (found.fields, &found.buffers[3][..2]), (vec![0, 2], &[0, 1]))
+}
+
+/// It is a reflector in every rule of the reliances.
+fn reliances() -> Result<(), String> {
+    let cases: [(&[usize], usize, usize, bool); 6] = [
+        (&[3], 2, 0, true),
+        (&[0], 1, 0, true),
+        (&[2, 3], 0, 2, true),
+        (&[2, 3], 0, 3, false),
+        (&[3], 1, 0, true),
+        (&[0, 5], 1, 5, true),
+    ];
+    cases.into_iter().try_for_each(|(list, router, other, relies)| {
+        let found = answer(&two_sites(&[0], &[list]), &Call::Relies { list: 0, router, other });
+        same(&format!("{router} on {other}, list {list:?}"), found.fields, vec![relies.into()])
+    })
+}

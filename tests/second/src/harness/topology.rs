@@ -1,0 +1,121 @@
+//! Who is a reflector and who has a session with whom, in several shapes.
+
+use super::random::Random;
+use crate::oracle::plan::Router;
+use std::collections::BTreeSet;
+
+/// All pairs of routers below n, the lower one first.
+pub fn all_pairs(n: usize) -> impl Iterator<Item = (Router, Router)> {
+    (0..n).flat_map(move |one| (one + 1..n).map(move |other| (one, other)))
+}
+
+/// Which routers are reflectors, and the sessions.
+pub type Topology = (Vec<bool>, BTreeSet<(Router, Router)>);
+
+/// A random topology; in some the clients of a reflector have sessions with one
+/// another.
+pub fn topology(random: &mut Random, n: usize) -> Topology {
+    let mut topology = match random.below(16) {
+        0 => scattered(random, n, 75),
+        1 => {
+            let percent = random.pick(&[0, 15, 100]);
+            scattered(random, n, percent)
+        }
+        2 => scattered(random, n, (250 / n).min(100)),
+        3..=5 => ring_of_reflectors(random, n),
+        _ => mesh_of_reflectors(random, n),
+    };
+    if random.chance(25) {
+        mesh_clients(random, &mut topology);
+    }
+    topology
+}
+
+/// The clients of each reflector, or of some of them, in a mesh.
+fn mesh_clients(random: &mut Random, (reflector, sessions): &mut Topology) {
+    let share = random.pick(&[40, 100]);
+    let n = reflector.len();
+    for router in (0..n).filter(|&router| reflector[router]) {
+        if random.chance(share) {
+            let is_client = |other: Router| !reflector[other] && sessions.contains(&ordered(router, other));
+            let clients: Vec<Router> = (0..n).filter(|&other| is_client(other)).collect();
+            sessions.extend(all_pairs(clients.len()).map(|(one, other)| (clients[one], clients[other])));
+        }
+    }
+}
+
+/// Which reflectors skip their own clients: none in two of five plans, else some
+/// or all.
+pub fn skipping(random: &mut Random, reflector: &[bool]) -> BTreeSet<Router> {
+    let share = random.pick(&[0, 0, 30, 60, 100]);
+    (0..reflector.len()).filter(|&router| reflector[router] && random.chance(share)).collect()
+}
+
+/// Random roles; each session is there with the given chance.
+fn scattered(random: &mut Random, n: usize, percent: usize) -> Topology {
+    let share = random.pick(&[0, 30, 50, 70, 100]);
+    let reflector = (0..n).map(|_| random.chance(share)).collect();
+    (reflector, all_pairs(n).filter(|_| random.chance(percent)).collect())
+}
+
+pub fn ordered(one: Router, other: Router) -> (Router, Router) {
+    (one.min(other), one.max(other))
+}
+
+/// Chooses which routers are reflectors: `count` of them, anywhere.
+fn choose_reflectors(random: &mut Random, n: usize, count: usize) -> (Vec<Router>, Vec<Router>) {
+    let mut routers: Vec<Router> = (0..n).collect();
+    random.shuffle(&mut routers);
+    let clients = routers.split_off(count);
+    if random.chance(50) {
+        routers.sort_unstable();
+    }
+    (routers, clients)
+}
+
+fn roles(n: usize, reflectors: &[Router]) -> Vec<bool> {
+    (0..n).map(|router| reflectors.contains(&router)).collect()
+}
+
+/// Reflectors in a ring, each with clients of its own.
+fn ring_of_reflectors(random: &mut Random, n: usize) -> Topology {
+    let count = random.between(1, n.div_ceil(2));
+    let (reflectors, clients) = choose_reflectors(random, n, count);
+    let mut sessions = BTreeSet::new();
+    for place in 1..=count {
+        let (one, other) = (reflectors[place - 1], reflectors[place % count]);
+        if one != other {
+            sessions.insert(ordered(one, other));
+        }
+    }
+    for (place, &client) in clients.iter().enumerate() {
+        sessions.insert(ordered(client, reflectors[place % count]));
+    }
+    (roles(n, &reflectors), sessions)
+}
+
+/// Reflectors in a mesh, full or with gaps; clients own or shared, and at
+/// times sessions between clients.
+fn mesh_of_reflectors(random: &mut Random, n: usize) -> Topology {
+    let count = random.between(n.div_ceil(4), (2 * n).div_ceil(3));
+    let (reflectors, clients) = choose_reflectors(random, n, count);
+    let kept = random.pick(&[100, 100, 100, 60]);
+    let shared = random.pick(&[0, 0, 10, 40]);
+    let between_clients = random.pick(&[0, 0, 5, 20]);
+    let is_reflector = roles(n, &reflectors);
+    let mut sessions: BTreeSet<(Router, Router)> = all_pairs(n)
+        .filter(|&(one, other)| match (is_reflector[one], is_reflector[other]) {
+            (true, true) => random.chance(kept),
+            (false, false) => random.chance(between_clients),
+            _ => false,
+        })
+        .collect();
+    for (place, &client) in clients.iter().enumerate() {
+        let first = if random.chance(60) { reflectors[place % count] } else { random.pick(&reflectors) };
+        sessions.insert(ordered(client, first));
+        while random.chance(shared) {
+            sessions.insert(ordered(client, random.pick(&reflectors)));
+        }
+    }
+    (is_reflector, sessions)
+}
