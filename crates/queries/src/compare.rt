@@ -30,7 +30,7 @@ pub enum CompareAnswer {
 }
 
 // The first number minus the second, of any two that are distances in four bytes.
-fn difference(first: usize, second: usize) -> i64
+pub fn difference(first: usize, second: usize) -> i64
     requires { ⌜ (first ≤ 4294967294) × (second ≤ 4294967294) ⌝ }
     ensures { λ r. ⌜ r ≡ pos first -ℤ pos second ⌝ }
 {

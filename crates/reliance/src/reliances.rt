@@ -45,7 +45,7 @@ fn keep_client(distances: &[u8], n: usize, v: usize, e: usize, best: u8) -> u8
     best
 }
 
-fn best_client(net: Network, rows: &[u64; 64], distances: &[u8], v: usize) -> u8
+pub fn best_client(net: Network, rows: &[u64; 64], distances: &[u8], v: usize) -> u8
     requires { ⌜ WellFormed net (now rows) (now distances) × (v < net .n) ⌝ }
     ensures { λ r. ⌜ asRouter r ≡ bestClient (instance net (rows .entry) (distances .entry)) v ⌝ }
 {
@@ -71,7 +71,7 @@ fn own_client(net: Network, rows: &[u64; 64], distances: &[u8], v: usize) -> u8
 }
 
 // What v offers, where `own` is its best client.
-fn offered(net: Network, v: usize, own: u8) -> u8
+pub fn offered(net: Network, v: usize, own: u8) -> u8
     requires { ⌜ (net .n ≤ 64) × (v < net .n) ⌝ }
     ensures { λ r. ⌜ ((rows distances : List ℕ)
         → asRouter own ≡ bestClient (decoded net rows distances) v → asRouter r ≡ offer (decoded net rows distances) v) ⌝ }

@@ -54,13 +54,17 @@ module _ (I : Instance) where
   unfolding offer
   offer-unlisted v h = cc
 
-  -- a reflector is nobody's best client
-  not-best-client : (w v : ℕ) → I .reflector v ≡ true → isRouter v (bestClient I w) ≡ false
-  not-best-client w v r = go (bestClient I w) (bestClient-is w)
+  -- who is no listed client of w is not its best client, and so no reflector is
+  pub not-best-client : (w v : ℕ) → listedClientOf I w v ≡ false → isRouter v (bestClient I w) ≡ false
+  not-best-client w v stranger = go (bestClient I w) (bestClient-is w)
     where
       go : (b : Option ℕ) → BestIs (prefers I w) (listedClientOf I w) (I .n) b → isRouter v b ≡ false
       go none h = refl
-      go (some c) h = ne-eqb c v (λ e. not-both (I .reflector v) r (sym (ap (I .reflector) e) ∙ client-no-reflector w c (h .among)))
+      go (some c) h = ne-eqb c v (λ e. not-both (listedClientOf I w v) (ap (listedClientOf I w) (sym e) ∙ h .among) stranger)
+
+  reflector-no-client : (w v : ℕ) → I .reflector v ≡ true → listedClientOf I w v ≡ false
+  unfolding listedClientOf
+  reflector-no-client w v r = cc (and-false (I .neighbour w v && I .listed v))
 
   -- rule 1
   pub relies-listed : (w v : ℕ) → I .listed w ≡ true → relies I w v ≡ false
@@ -80,7 +84,7 @@ module _ (I : Instance) where
   pub relies-offer : (w v : ℕ) → I .listed w ≡ false → I .reflector w ≡ true → I .reflector v ≡ true
       → relies I w v ≡ (I .neighbour w v && betterOffer I w (offer I v) (bestClient I w))
   unfolding relies
-  relies-offer w v a b c = cc (not-best-client w v c, and-true (I .neighbour w v))
+  relies-offer w v a b c = cc (not-best-client w v (reflector-no-client w v c), and-true (I .neighbour w v))
 
   own-no-better : (w : ℕ) (b : Option ℕ) → betterOffer I w b b ≡ false
   unfolding betterOffer

@@ -1,0 +1,19 @@
+// Why one router relies on another for a list, or does not.
+
+use crate::explanation::Explanation;
+use contents::entries::DISTANCES;
+ghost use Rattle.explaining.specs.Explain.{Explains};
+
+// By which rule a router relies on another, or the first reason why it does not.
+pub fn explain(plan: &[u8], list: usize, router: usize, other: usize) -> Explanation
+    ensures { λ r. ⌜ Explains (now (plan .entry)) list router other r ⌝ }
+{
+    let refused = refusals::numbers::relies_refusal(plan, list, router, other);
+    if refused != 0 {
+        return Explanation::Refused(refused);
+    }
+    let mut rows = [0u64; 64];
+    let net = network::decode::decode(plan, list, &mut rows);
+    let distances = plan::parts::part(plan, DISTANCES);
+    crate::explanation::explained(net, &rows, distances, router, other)
+}

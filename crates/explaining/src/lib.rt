@@ -1,0 +1,4 @@
+// Why one router relies on another, or does not: a public call.
+
+pub mod explain;
+pub mod explanation;
