@@ -3,8 +3,8 @@ use borrow.Author.Needs.{needs}
 use mir.Syntax.{w64}
 use mir.ValLaws.{toZ-ofZ}
 use Rattle.queries.specs.Compare.{marginValue}
-use Rattle.rrp.proofs.margin_value.Statement.{statement}
-use Rattle.rrp.proofs.margin_value.Tie as tie
+use Rattle.query_results.proofs.margin_value.Statement.{statement}
+use Rattle.query_results.proofs.margin_value.Tie as tie
 
 -- an arm knows the margin that it matched
 pub margin-value-spec : {M : Type 1} → statement M

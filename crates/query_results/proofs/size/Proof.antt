@@ -1,10 +1,10 @@
 use borrow.Author.Needs.{needs}
-use Rattle.rrp.proofs.Exporting.{size-refused, size-given}
-use Rattle.rrp.proofs.rrp_size.Statement.{statement}
-use Rattle.rrp.proofs.rrp_size.Tie as tie
+use Rattle.query_results.proofs.Given.{size-refused, size-given}
+use Rattle.query_results.proofs.size.Statement.{statement}
+use Rattle.query_results.proofs.size.Tie as tie
 
-pub rrp-size-spec : {M : Type 1} → statement M
-rrp-size-spec =
+pub size-spec : {M : Type 1} → statement M
+size-spec =
     tie.close
     (tie.spec
     (λ c κs. search needs)

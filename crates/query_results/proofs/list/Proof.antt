@@ -2,16 +2,16 @@ use mathlib.Core.Path.{_≡_, _∙_, sym}
 use borrow.Author.Needs.{needs}
 use Rattle.refusals.specs.Refusals.{egressListRefusal}
 use Rattle.refusals.proofs.Granted.{list-asked}
-use Rattle.rrp.proofs.Exporting.{list-refused, list-given}
-use Rattle.rrp.proofs.rrp_list.Statement.{statement}
-use Rattle.rrp.proofs.rrp_list.Tie as tie
+use Rattle.query_results.proofs.Given.{list-refused, list-given}
+use Rattle.query_results.proofs.list.Statement.{statement}
+use Rattle.query_results.proofs.list.Tie as tie
 
 -- nothing is refused
 given : (c : tie.Else1) → let a = c .before .before .before .args in egressListRefusal (a .plan .now) (a .list) ≡ 0
 given c = sym (c .before .egress-list-refusal .ensures) ∙ c .if1 .left
 
-pub rrp-list-spec : {M : Type 1} → statement M
-rrp-list-spec =
+pub list-spec : {M : Type 1} → statement M
+list-spec =
     tie.close
     (tie.spec
     (λ c κs. search needs)

@@ -2,13 +2,13 @@ use mathlib.Core.Path.{ap}
 use mathlib.Core.Bool.{true, false}
 use borrow.Author.Needs.{needs}
 use Rattle.queries.specs.Relies.{reliesNumber, reliesFlag}
-use Rattle.rrp.proofs.Exporting.{relies-refused, relies-given}
-use Rattle.rrp.proofs.rrp_relies.Statement.{statement}
-use Rattle.rrp.proofs.rrp_relies.Tie as tie
+use Rattle.query_results.proofs.Given.{relies-refused, relies-given}
+use Rattle.query_results.proofs.relies.Statement.{statement}
+use Rattle.query_results.proofs.relies.Tie as tie
 
 -- an arm knows the answer that it matched
-pub rrp-relies-spec : {M : Type 1} → statement M
-rrp-relies-spec =
+pub relies-spec : {M : Type 1} → statement M
+relies-spec =
     tie.close
     (tie.spec
     (λ c κs. search needs)

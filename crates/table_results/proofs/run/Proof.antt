@@ -3,9 +3,9 @@ use mathlib.Core.Bool.{Bool, true, false}
 use borrow.Author.Needs.{needs}
 use mir.Val.{boolByte}
 use Rattle.base.specs.Seek.{flag}
-use Rattle.rrp.proofs.Exporting.{run-refused, run-given}
-use Rattle.rrp.proofs.rrp_run.Statement.{statement}
-use Rattle.rrp.proofs.rrp_run.Tie as tie
+use Rattle.table_results.proofs.Given.{run-refused, run-given}
+use Rattle.table_results.proofs.run.Statement.{statement}
+use Rattle.table_results.proofs.run.Tie as tie
 
 as-byte : (b : Bool) → boolByte b ≡ flag b
 as-byte true = refl
@@ -16,8 +16,8 @@ returns-2 c =
     let run = c .before .before .before .before .before .run in
     run-given _ _ _ _ _ (run .result) (run .ensures) _ _ _ _ (as-byte (run .result .exhausted)) (c .before .if1 .left)
 
-pub rrp-run-spec : {M : Type 1} → statement M
-rrp-run-spec =
+pub run-spec : {M : Type 1} → statement M
+run-spec =
     tie.close
     (tie.spec
     (λ c κs. search needs)

@@ -2,8 +2,14 @@
 use Prim.Native.Nat.{ℕ}
 use native.Mathlib.Omega.{arith}
 use mathlib.Core.Path.{_≡_, _∙_, sym, ap}
+use mathlib.Core.Bool.{Bool, true, false, cond}
+use Rattle.base.specs.Lent.{Lent}
 use Rattle.plan.specs.Refused.{unlessRefused}
 use Rattle.plan.proofs.Refused.{when-given}
+
+-- a variable that a call writes
+abbrev pub wrote : {A : Type 0} → A → A → Lent A
+wrote x y = record { before = x; after = y }
 
 -- nothing is refused: the variable holds the call's field
 pub written : {A : Type 0} (number : ℕ) (before zeroed value x : A) → number ≡ 0 → x ≡ unlessRefused number zeroed value
@@ -16,3 +22,8 @@ pub refused-by : {A : Type 0} (saysRefused : A → ℕ) (number : ℕ) (answer r
 refused-by saysRefused number answer refused otherwise h says not given =
     let z : _≡_ {A = ℕ} 1 0 = sym says ∙ ap saysRefused (h ∙ when-given number refused otherwise given) ∙ not in
     omega (arith, z)
+
+pub cond-answers : {A : Type 0} (saysRefused : A → ℕ) (b : Bool) (x y : A) → saysRefused x ≡ 0 → saysRefused y ≡ 0
+    → saysRefused (cond b x y) ≡ 0
+cond-answers f true x y hx hy = hx
+cond-answers f false x y hx hy = hy

@@ -1,10 +1,9 @@
--- The exported calls, case by case of the answers.
+-- What the variables hold, case by case of the answers.
 use Prim.Native.Nat.{ℕ}
 use mathlib.Core.Path.{_≡_, refl, _∙_, sym, ap}
-use mathlib.Core.Bool.{Bool, true, false, cond}
+use mathlib.Core.Bool.{Bool}
 use mathlib.Core.List.{List}
 use lib.IntN.{ℤ}
-use Rattle.base.specs.Lent.{Lent}
 use Rattle.base.specs.Seek.{flag}
 use Rattle.routing.specs.Reliance.{relies}
 use Rattle.network.specs.FromPlan.{instanceOf}
@@ -14,27 +13,18 @@ use Rattle.queries.specs.declared.compare.CompareAnswer.{CompareAnswer}
 use Rattle.queries.specs.declared.compare.CompareAnswer.the-variants as compares
 use Rattle.queries.specs.declared.relies.ReliesAnswer.{ReliesAnswer}
 use Rattle.queries.specs.declared.relies.ReliesAnswer.the-variants as relying
-use Rattle.checker.specs.declared.verdict.VerdictAnswer.{VerdictAnswer}
-use Rattle.checker.specs.declared.verdict.VerdictAnswer.the-variants as verdicts
-use Rattle.running.specs.declared.run.RunAnswer.{RunAnswer}
 use Rattle.queries.specs.declared.size.SizeAnswer.{SizeAnswer}
 use Rattle.plan.specs.Refusal.{planRefusal}
-use Rattle.refusals.specs.Refusals.{egressListRefusal, compareRefusal, reliesRefusal, verdictRefusal, runRefusal}
+use Rattle.refusals.specs.Refusals.{egressListRefusal, compareRefusal, reliesRefusal}
 use Rattle.queries.specs.Compare.{preferredNumber, marginPresent, marginValue, compared}
 use Rattle.queries.specs.Compare.{compareNumber, compareBetter, compareHasMargin, compareMargin, Compares}
 use Rattle.queries.specs.Relies.{relied, reliesNumber, reliesFlag, Relied}
-use Rattle.checker.specs.Verdict.{isStable, verdictOf, verdictAnswer, verdictNumber, verdictIsStable, verdictSize, VerdictCall}
-use Rattle.running.specs.Run.{Runs}
 use Rattle.queries.specs.Size.{sizeRouters, sizeLists, Sizes}
 use Rattle.plan.proofs.Refused.{when-refused, when-given}
 use Rattle.checker.proofs.Judging.{kept}
 use Rattle.plan.specs.EgressLists.{SpanOf}
-use Rattle.exports.specs.Exports.{SizeExport, ListExport, CompareExport, ReliesExport, VerdictExport, RunExport}
-use Rattle.rrp.proofs.Written.{written, refused-by}
-
--- a variable that a call writes
-abbrev wrote : {A : Type 0} → A → A → Lent A
-wrote x y = record { before = x; after = y }
+use Rattle.exports.specs.Exports.{SizeExport, ListExport, CompareExport, ReliesExport}
+use Rattle.exports.proofs.Written.{wrote, written, refused-by, cond-answers}
 
 module _ (plan : List ℕ) (r : SizeAnswer) (call : Sizes plan r) (routers lists : ℕ) where
   pub size-refused : (r .refused ≡ 0 → ⊥) → SizeExport plan (r .refused) (kept routers) (kept lists)
@@ -67,10 +57,6 @@ module _ (plan : List ℕ) (k : ℕ) (start count : ℕ) where
 abbrev compareRefuses : CompareAnswer → ℕ
 compareRefuses (compares.Refused number) = 1
 compareRefuses (compares.Compared preferred margin) = 0
-
-cond-answers : {A : Type 0} (f : A → ℕ) (b : Bool) (x y : A) → f x ≡ 0 → f y ≡ 0 → f (cond b x y) ≡ 0
-cond-answers f true x y hx hy = hx
-cond-answers f false x y hx hy = hy
 
 module _ (plan : List ℕ) (w e f : ℕ) (r : CompareAnswer) (call : Compares plan w e f r) (better present : ℕ) (margin : ℤ) where
   compared-answers : compareRefuses (compared plan w e f) ≡ 0
@@ -124,76 +110,4 @@ module _ (plan : List ℕ) (k w v : ℕ) (r : ReliesAnswer) (call : Relied plan 
       record {
         number = sym n;
         answered = ap flag (sym is ∙ call .value ∙ when-given _ _ _ n) ∙ sym (when-given _ _ _ n);
-      }
-
-abbrev verdictRefuses : VerdictAnswer → ℕ
-verdictRefuses (verdicts.Refused number) = 1
-verdictRefuses (verdicts.Stable highest) = 0
-verdictRefuses (verdicts.Suspect count) = 0
-
-module _ (plan : List ℕ) (k : ℕ) (r : VerdictAnswer) (labels ranks table shown : Lent (List ℕ))
-    (call : VerdictCall plan k r labels ranks table shown) (stable size : ℕ) where
-  verdict-answers : verdictRefuses (verdictOf plan k) ≡ 0
-  unfolding verdictOf
-  verdict-answers = cond-answers verdictRefuses (isStable plan k) _ _ refl refl
-
-  abbrev number₀ : ℕ
-  number₀ = verdictRefusal plan k (labels .before) (ranks .before) (table .before) (shown .before)
-
-  refusal-not-0 : verdictRefuses r ≡ 1 → number₀ ≡ 0 → ⊥
-  unfolding verdictAnswer
-  refusal-not-0 says = refused-by verdictRefuses _ r _ _ (call .answer) says verdict-answers
-
-  pub verdict-refused : (number : ℕ) → r ≡ verdicts.Refused number
-      → VerdictExport plan k number labels ranks table shown (kept stable) (kept size)
-  verdict-refused number is =
-      let n = refusal-not-0 (ap verdictRefuses is) in
-      record {
-        numbered = sym (ap verdictNumber is) ∙ call .numbered;
-        labelled = call .labelled;
-        ranked = call .ranked;
-        settled = call .settled;
-        cycled = call .cycled;
-        judged = sym (when-refused _ _ _ n);
-        sized = sym (when-refused _ _ _ n);
-      }
-
-  pub verdict-given : (judged : Bool) (size′ : ℕ) → verdictNumber r ≡ 0 → verdictIsStable r ≡ judged → verdictSize r ≡ size′
-      → VerdictExport plan k 0 labels ranks table shown (wrote stable (flag judged)) (wrote size size′)
-  verdict-given judged size′ zero is long =
-      let n : number₀ ≡ 0 = sym (call .numbered) ∙ zero in
-      record {
-        numbered = sym n;
-        labelled = call .labelled;
-        ranked = call .ranked;
-        settled = call .settled;
-        cycled = call .cycled;
-        judged = ap flag (sym is ∙ call .stable ∙ when-given _ _ _ n) ∙ sym (when-given _ _ _ n);
-        sized = written _ _ _ _ _ n (sym long ∙ call .size);
-      }
-
-module _ (plan : List ℕ) (k : ℕ) (acts : List ℕ) (limit : ℕ) (table : Lent (List ℕ)) (r : RunAnswer)
-    (call : Runs plan k acts limit (table .before) r (table .after)) (applied rounds exhausted : ℕ) where
-  pub run-refused : (r .refused ≡ 0 → ⊥)
-      → RunExport plan k acts limit (r .refused) table (kept applied) (kept rounds) (kept exhausted)
-  run-refused h =
-      let n : runRefusal plan k acts (table .before) ≡ 0 → ⊥ = λ z. h (call .number ∙ z) in
-      record {
-        numbered = call .number;
-        bytes = call .bytes;
-        acted = sym (when-refused _ _ _ n);
-        whole = sym (when-refused _ _ _ n);
-        cut = sym (when-refused _ _ _ n);
-      }
-
-  pub run-given : (exhausted′ : ℕ) → exhausted′ ≡ flag (r .exhausted) → r .refused ≡ 0
-      → RunExport plan k acts limit 0 table (wrote applied (r .applied)) (wrote rounds (r .rounds)) (wrote exhausted exhausted′)
-  run-given exhausted′ is zero =
-      let n : runRefusal plan k acts (table .before) ≡ 0 = sym (call .number) ∙ zero in
-      record {
-        numbered = sym n;
-        bytes = call .bytes;
-        acted = call .applied ∙ sym (when-given _ _ _ n);
-        whole = call .whole ∙ sym (when-given _ _ _ n);
-        cut = is ∙ ap flag (call .exhausted) ∙ sym (when-given _ _ _ n);
       }

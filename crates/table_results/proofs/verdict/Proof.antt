@@ -2,9 +2,9 @@ use mathlib.Core.Path.{ap}
 use mathlib.Core.Bool.{true, false}
 use borrow.Author.Needs.{needs}
 use Rattle.checker.specs.Verdict.{verdictNumber, verdictIsStable, verdictSize}
-use Rattle.rrp.proofs.Exporting.{verdict-refused, verdict-given}
-use Rattle.rrp.proofs.rrp_verdict.Statement.{statement}
-use Rattle.rrp.proofs.rrp_verdict.Tie as tie
+use Rattle.table_results.proofs.Given.{verdict-refused, verdict-given}
+use Rattle.table_results.proofs.verdict.Statement.{statement}
+use Rattle.table_results.proofs.verdict.Tie as tie
 
 returns : tie.Need-returns
 returns c =
@@ -23,8 +23,8 @@ returns-3 c =
     let is = c .before .answer3 .given .1 in
     verdict-given _ _ _ _ _ _ _ (d .verdict .ensures) _ _ false _ (ap verdictNumber is) (ap verdictIsStable is) (ap verdictSize is)
 
-pub rrp-verdict-spec : {M : Type 1} → statement M
-rrp-verdict-spec =
+pub verdict-spec : {M : Type 1} → statement M
+verdict-spec =
     tie.close
     (tie.spec
     (λ c κs. search needs)

@@ -2,9 +2,9 @@ use mathlib.Core.Path.{_∙_}
 use borrow.Author.Needs.{needs}
 use mir.Syntax.{w64}
 use mir.ValLaws.{toZ-ofZ}
-use Rattle.rrp.proofs.Exporting.{compare-refused, compare-given}
-use Rattle.rrp.proofs.rrp_compare.Statement.{statement}
-use Rattle.rrp.proofs.rrp_compare.Tie as tie
+use Rattle.query_results.proofs.Given.{compare-refused, compare-given}
+use Rattle.query_results.proofs.compare.Statement.{statement}
+use Rattle.query_results.proofs.compare.Tie as tie
 
 returns-2 : tie.Need-returns-2
 returns-2 c =
@@ -15,8 +15,8 @@ returns-2 c =
     (a .preferred-number .ensures) (b .margin-flag .ensures) (toZ-ofZ w64 _ (search needs) ∙ c .margin-value .ensures)
 
 -- an arm knows the answer that it matched
-pub rrp-compare-spec : {M : Type 1} → statement M
-rrp-compare-spec =
+pub compare-spec : {M : Type 1} → statement M
+compare-spec =
     tie.close
     (tie.spec
     (λ c κs. search needs)
