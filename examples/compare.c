@@ -3,36 +3,19 @@
  * Build, at the root of the repository and after `rt staticlib rrp`:
  * gcc -O2 -Iinclude examples/compare.c -Ltarget/staticlib -lrrp -o target/compare */
 #include <inttypes.h>
-#include <stdio.h>
-#include <stdlib.h>
 
-#include "rrp.h"
-
-/* Reads the three numbers; says whether they are numbers. */
-static int read_numbers(char **words, size_t numbers[3])
-{
-    for (int i = 0; i < 3; i++) {
-        char *end;
-        numbers[i] = strtoull(words[i], &end, 10);
-        if (end == words[i] || *end != '\0')
-            return 0;
-    }
-    return 1;
-}
+#include "read_plan.h"
 
 int main(int count, char **words)
 {
     static const char *const names[] = { "neither", "first", "second" };
-    /* one byte more than the longest plan, so that a longer file is refused and not cut */
     static uint8_t plan[RRP_MAX_PLAN + 1];
     size_t asked[3];
-    FILE *file = count == 5 && read_numbers(words + 2, asked) ? fopen(words[1], "rb") : NULL;
-    if (file == NULL) {
+    if (count != 5 || !read_numbers(words + 2, asked)) {
         fprintf(stderr, "usage: compare FILE ROUTER FIRST SECOND\n");
         return 2;
     }
-    size_t length = fread(plan, 1, sizeof plan, file);
-    fclose(file);
+    size_t length = read_plan(words[1], plan);
 
     uint8_t better, has_margin;
     int64_t margin;

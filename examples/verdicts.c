@@ -1,9 +1,7 @@
 /* Prints the verdicts of a plan file: verdicts FILE.
  * Build, at the root of the repository and after `rt staticlib rrp`:
  * gcc -O2 -Iinclude examples/verdicts.c -Ltarget/staticlib -lrrp -o target/verdicts */
-#include <stdio.h>
-
-#include "rrp.h"
+#include "read_plan.h"
 
 /* One line: the list's number, then "suspect", the cycle's length and the cycle, or "stable" and the highest rank. */
 static void print_verdict(const uint8_t *plan, size_t length, size_t list)
@@ -26,15 +24,12 @@ static void print_verdict(const uint8_t *plan, size_t length, size_t list)
 
 int main(int count, char **words)
 {
-    /* one byte more than the longest plan, so that a longer file is refused and not cut */
     static uint8_t plan[RRP_MAX_PLAN + 1];
-    FILE *file = count == 2 ? fopen(words[1], "rb") : NULL;
-    if (file == NULL) {
+    if (count != 2) {
         fprintf(stderr, "usage: verdicts FILE\n");
         return 2;
     }
-    size_t length = fread(plan, 1, sizeof plan, file);
-    fclose(file);
+    size_t length = read_plan(words[1], plan);
 
     uint64_t routers, lists;
     uint8_t refused = rrp_size(plan, length, &routers, &lists);

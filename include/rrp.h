@@ -64,6 +64,37 @@ enum rrp_refusal {
     RRP_TOO_FAR = 12
 };
 
+/* By which rule a router relies on another. */
+enum rrp_rule {
+    /* the router is an unlisted client, and the other a neighbouring reflector */
+    RRP_PARENT = 1,
+    /* the router is an unlisted client, and the other a neighbouring client of the list */
+    RRP_PEER_CLIENT = 2,
+    /* the router is a reflector, and the other its best client: of the clients of the list that it neighbours and has a way to, the
+     * one that is best at the router */
+    RRP_OWN_BEST_CLIENT = 3,
+    /* the other, a neighbouring reflector, offers a route that is better at the router than its own best client's, if it has one */
+    RRP_BETTER_OFFER = 4
+};
+
+/* Why a router does not rely on another: the first of these that applies. 5 is never given. */
+enum rrp_reason {
+    RRP_SAME_ROUTER = 1,
+    RRP_NOT_NEIGHBOURS = 2,
+    /* the router is in the list */
+    RRP_FIRST_LISTED = 3,
+    /* the other is a client that is not in the list */
+    RRP_UNLISTED_CLIENT = 4,
+    /* the other is a client of the list, but not the router's best one */
+    RRP_NOT_BEST_CLIENT = 6,
+    /* the other, a reflector, is not in the list and has no best client */
+    RRP_NO_OFFER = 7,
+    /* the router has no way to what the other offers */
+    RRP_NO_WAY_TO_OFFER = 8,
+    /* what the other offers is not better at the router than its own best client */
+    RRP_OFFER_NOT_BETTER = 9
+};
+
 enum {
     /* the most routers and egress lists that a plan has, and the most bytes */
     RRP_MAX_ROUTERS = 64,
@@ -101,6 +132,13 @@ uint8_t rrp_compare(const uint8_t *plan, size_t plan_len, size_t router, size_t 
 
 /* Says whether a router relies on another for a list: *relies is 1 if it does, else 0. Refusals 1 to 8. */
 uint8_t rrp_relies(const uint8_t *plan, size_t plan_len, size_t list, size_t router, size_t other, uint8_t *relies);
+
+/* Says why a router relies on another for a list, or does not. *relies is what rrp_relies gives; *code is the rule, a number of enum
+ * rrp_rule, if it relies, and else the reason, one of enum rrp_reason. With RRP_BETTER_OFFER *offer is the egress router of the route
+ * that the other offers; *has_own is 1 if the router has a best client of its own, *own is then that client and *margin the distance to
+ * the offer minus the distance to it, as rrp_compare gives it. What an answer does not have is 0. Refusals 1 to 8. */
+uint8_t rrp_explain(const uint8_t *plan, size_t plan_len, size_t list, size_t router, size_t other, uint8_t *relies, uint8_t *code,
+                    uint64_t *offer, uint8_t *has_own, uint64_t *own, int64_t *margin);
 
 /* Gives the verdict of the plan for a list. Needs n bytes of labels, n of ranks, 2n of table and n of cycle, whatever the
  * verdict. labels[v] becomes the lowest router of v's group: v itself and every router that v reaches by reliances and that

@@ -47,6 +47,26 @@ compares() {
         [ "$("$out/compare" "$m3" 0 2 4)" = "refused 8" ]
 }
 
+# Why one router relies on another by the C example, or does not; or the refusal.
+explains() {
+    local asked expected
+    while IFS='|' read -r asked expected; do
+        # shellcheck disable=SC2086
+        [ "$("$out/why" examples/m3.plan $asked)" = "$expected" ] || { echo "embedding: why $asked is not: $expected"; return 1; }
+    done <<'END'
+0 0 1|yes, better offer 3 against 2, margin -4
+1 0 1|yes, better offer 3
+0 0 2|yes, own best client
+1 2 0|yes, parent
+0 0 0|no, same router
+0 0 3|no, not neighbours
+0 2 0|no, first router listed
+1 0 2|no, second an unlisted client
+1 1 0|no, no offer
+0 0 4|refused 8
+END
+}
+
 # A program reads on where its input comes in parts.
 reads_in_parts() {
     local m3=examples/m3.plan
@@ -96,7 +116,7 @@ second() {
 }
 
 mkdir -p "$out"
-rm -f "$out/verdicts" "$out/compare" "$out/stack"
+rm -f "$out/verdicts" "$out/compare" "$out/why" "$out/stack"
 try "the library" rt staticlib rrp
 try "the header as C99" gcc -std=c99 -pedantic -Wall -Wextra -Werror -Iinclude -fsyntax-only -x c include/rrp.h
 try "the header as C++" g++ -std=c++11 -pedantic -Wall -Wextra -Werror -Iinclude -fsyntax-only -x c++ include/rrp.h
@@ -105,6 +125,8 @@ try "the C example's verdicts" writes examples/m3.verdicts "$out/verdicts" examp
 try "the C example's refusal" refuses_cut_plan
 try "the C example of a comparison" gcc -std=c11 -Wall -Wextra -Werror -O2 -Iinclude examples/compare.c -L"$archive" -lrrp -o "$out/compare"
 try "the C example's margins" compares
+try "the C example of an explanation" gcc -std=c11 -Wall -Wextra -Werror -O2 -Iinclude examples/why.c -L"$archive" -lrrp -o "$out/why"
+try "the C example's explanations" explains
 try "the second checker alone" second self
 try "the library against the second checker" second --seed "$seed" --plans "$plans"
 try "the yardstick plain against the second checker" second --against plain --seed "$seed" --plans 2000

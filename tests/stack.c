@@ -19,8 +19,8 @@ static size_t length, router, other;
 static uint8_t labels[RRP_MAX_ROUTERS], ranks[RRP_MAX_ROUTERS], settled[RRP_MAX_TABLE], cycle[RRP_MAX_ROUTERS];
 static uint8_t table[RRP_MAX_TABLE], sequence[ACTIVATIONS];
 static uint8_t links[4 * LINKS], body[2 * RRP_MAX_ROUTERS * RRP_MAX_ROUTERS];
-static uint8_t refused, better, has_margin, relied, stable, exhausted;
-static uint64_t routers, lists, start, count, found, applied, rounds;
+static uint8_t refused, better, has_margin, relied, code, has_own, stable, exhausted;
+static uint64_t routers, lists, start, count, offer, own, found, applied, rounds;
 static int64_t margin;
 
 static void nothing(void) {}
@@ -29,6 +29,10 @@ static void plan_size(void) { refused = rrp_size(plan, length, &routers, &lists)
 static void list(void) { refused = rrp_list(plan, length, 0, &start, &count); }
 static void compare(void) { refused = rrp_compare(plan, length, router, router, other, &better, &has_margin, &margin); }
 static void relies(void) { refused = rrp_relies(plan, length, 0, router, other, &relied); }
+static void explain(void)
+{
+    refused = rrp_explain(plan, length, 0, router, other, &relied, &code, &offer, &has_own, &own, &margin);
+}
 static void verdict(void)
 {
     refused = rrp_verdict(plan, length, 0, labels, sizeof labels, ranks, sizeof ranks, settled, sizeof settled, cycle, sizeof cycle,
@@ -45,9 +49,9 @@ static const struct {
     const char *name;
     void (*make)(void);
 } calls[] = {
-    { "rrp_check", check },   { "rrp_size", plan_size },  { "rrp_list", list },         { "rrp_compare", compare },
-    { "rrp_relies", relies }, { "rrp_verdict", verdict }, { "rrp_activate", activate }, { "rrp_run", run },
-    { "rrp_distances", distances },
+    { "rrp_check", check },   { "rrp_size", plan_size },  { "rrp_list", list },       { "rrp_compare", compare },
+    { "rrp_relies", relies }, { "rrp_explain", explain }, { "rrp_verdict", verdict }, { "rrp_activate", activate },
+    { "rrp_run", run },       { "rrp_distances", distances },
 };
 
 /* Ends the program if the last call was refused. */

@@ -1,8 +1,10 @@
-// The public calls, those of crates queries and running among them. None has a `requires`: any bytes and numbers get a result or a
-// refusal number.
+// The public calls, those of crates queries, explaining and running among them. None has a `requires`: any bytes and numbers get a result
+// or a refusal number.
 
 pub mod verdict;
 
+pub use explaining::explain;
+pub use explanations::explanation;
 pub use queries::check;
 pub use queries::compare;
 pub use queries::lists;

@@ -8,13 +8,13 @@ use lib.IntN.{pos, _-ℤ_}
 use Rattle.routing.specs.Instance.{Instance, isRouter}
 use Rattle.routing.specs.Preference.{prefers, marginOf}
 use Rattle.routing.specs.Reliance.{bestClient, offer}
-use Rattle.explaining.specs.Explained.{againstOwn, byOffer, onReflector, onClient, explained}
-use Rattle.explaining.specs.declared.explanation.Explanation.the-variants.{Yes, No}
-use Rattle.explaining.specs.declared.explanation.Rule.the-variants.{Parent, PeerClient, OwnBestClient, OnlyOffer, BetterOffer}
-use Rattle.explaining.specs.declared.explanation.Reason.the-variants.{SameRouter, NotNeighbours, FirstListed, SecondUnlistedClient, NotTheBestClient, NoOffer, NoWayToTheOffer, OfferNotBetter}
+use Rattle.explanations.specs.Explained.{againstOwn, byOffer, onReflector, onClient, explained}
+use Rattle.explanations.specs.declared.explanation.Explanation.the-variants.{Yes, No}
+use Rattle.explanations.specs.declared.explanation.Rule.the-variants.{Parent, PeerClient, OwnBestClient, AnyOffer, BetterOffer}
+use Rattle.explanations.specs.declared.explanation.Reason.the-variants.{SameRouter, NotNeighbours, FirstListed, SecondUnlistedClient, NotTheBestClient, NoOffer, NoWayToTheOffer, OfferNotBetter}
 
 module _ (I : Instance) (w : ℕ) where
-  pub against-none : (e : ℕ) → againstOwn I w e none ≡ Yes (OnlyOffer e)
+  pub against-none : (e : ℕ) → againstOwn I w e none ≡ Yes (AnyOffer e)
   unfolding againstOwn
   against-none e = refl
 

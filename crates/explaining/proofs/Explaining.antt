@@ -5,12 +5,12 @@ use mathlib.Core.List.{List}
 use Rattle.network.specs.FromPlan.{instanceOf}
 use Rattle.refusals.specs.Refusals.{reliesRefusal}
 use Rattle.plan.proofs.Refused.{when-refused}
-use Rattle.explaining.specs.Explained.{explained}
-use Rattle.explaining.specs.Explain.{explainNumber, valuesOf, Explains}
-use Rattle.explaining.specs.Reasons.{RuleOf}
-use Rattle.explaining.proofs.Reasons.{explaining}
-use Rattle.explaining.specs.declared.explanation.Explanation.{Explanation}
-use Rattle.explaining.specs.declared.explanation.Explanation.the-variants.{Refused, Yes, No}
+use Rattle.explanations.specs.Explained.{explained}
+use Rattle.explanations.specs.Explain.{explainNumber, valuesOf, Explains}
+use Rattle.explanations.specs.Reasons.{RuleOf}
+use Rattle.explanations.proofs.Reasons.{explaining}
+use Rattle.explanations.specs.declared.explanation.Explanation.{Explanation}
+use Rattle.explanations.specs.declared.explanation.Explanation.the-variants.{Refused, Yes, No}
 
 module _ (plan : List ℕ) (k w v : ℕ) where
   pub explains-refused : (number : ℕ) → number ≡ reliesRefusal plan k w v → (number ≡ 0 → ⊥) → Explains plan k w v (Refused number)

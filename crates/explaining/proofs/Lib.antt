@@ -1,4 +1,2 @@
 pub mod Cases
-pub mod Examples
 pub mod Explaining
-pub mod Reasons

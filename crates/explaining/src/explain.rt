@@ -1,8 +1,8 @@
 // Why one router relies on another for a list, or does not.
 
-use crate::explanation::Explanation;
 use contents::entries::DISTANCES;
-ghost use Rattle.explaining.specs.Explain.{Explains};
+use explanations::explanation::Explanation;
+ghost use Rattle.explanations.specs.Explain.{Explains};
 
 // By which rule a router relies on another, or the first reason why it does not.
 pub fn explain(plan: &[u8], list: usize, router: usize, other: usize) -> Explanation
@@ -15,5 +15,5 @@ pub fn explain(plan: &[u8], list: usize, router: usize, other: usize) -> Explana
     let mut rows = [0u64; 64];
     let net = network::decode::decode(plan, list, &mut rows);
     let distances = plan::parts::part(plan, DISTANCES);
-    crate::explanation::explained(net, &rows, distances, router, other)
+    crate::by_rules::explained(net, &rows, distances, router, other)
 }

@@ -28,6 +28,7 @@ use Rattle.refusals.specs.Refusals.{egressListRefusal, compareRefusal, reliesRe
 use Rattle.refusals.specs.Refusals.{tableChecks, sequenceOk, activateRefusal, runRefusal}
 use Rattle.queries.specs.Compare.{whichBetter, hasMargin, marginNumber}
 use Rattle.running.specs.Activate.{activateTable}
+use Rattle.explanations.specs.Explained.{againstOwn, byOffer, onReflector, onClient, explained}
 use Rattle.checker.specs.Verdict.{isStable, labelsOf, ranksOf, highestOf, settledBytes, cycleOf, sizeOf}
 use Rattle.checker.specs.Verdict.{labelsAfter, ranksAfter, tableAfter, cycleAfter}
 use Rattle.running.specs.Run.{runApplied, runRounds, runExhausted, runTable}
@@ -36,6 +37,7 @@ use Rattle.exports.specs.Examples.{plan, twoRouters, ExportExamples}
 pub export-examples : ExportExamples
 unfolding
     plan twoRouters egressListRefusal compareRefusal reliesRefusal whichBetter hasMargin marginNumber
+    againstOwn byOffer onReflector onClient explained
     isStable labelsOf ranksOf highestOf settledBytes cycleOf sizeOf buffersOk verdictRefusal labelsAfter ranksAfter tableAfter cycleAfter
     tableChecks sequenceOk activateRefusal activateTable runRefusal runApplied runRounds runExhausted runTable
     readRoute tableOf tableBytes activateBytes runBytes chooseAll chosenAfter settledTable start next walk second first lap cycleIn cycle
@@ -56,6 +58,12 @@ export-examples =
       noMargin = λ r b p m e. (e .number, e .compared, e .flagged, e .measured);
       relies = λ r v e. (e .number, e .answered);
       reliesNot = λ r v e. (e .number, e .answered);
+      betterOffer = λ r a c o p n m e. (e .number, e .answered, e .coded, e .offer, e .compared, e .owned, e .measured);
+      ownBestClient = λ r a c o p n m e. (e .number, e .answered, e .coded, e .offer, e .compared, e .owned, e .measured);
+      firstListed = λ r a c o p n m e. (e .number, e .answered, e .coded, e .offer, e .compared, e .owned, e .measured);
+      anyOffer = λ r a c o p n m e. (e .number, e .answered, e .coded, e .offer, e .compared, e .owned, e .measured);
+      unlistedClient = λ r a c o p n m e. (e .number, e .answered, e .coded, e .offer, e .compared, e .owned, e .measured);
+      refusedExplain = λ r a c o p n m e. (e .number, e .answered, e .coded, e .offer, e .compared, e .owned, e .measured);
       refusedSize = λ r n m e. (e .number, e .routers-are, e .lists-are);
       refusedList = λ r s c e. (e .number, e .started, e .counted);
       refusedCompare = λ r b p m e. (e .number, e .compared, e .flagged, e .measured);

@@ -1,9 +1,11 @@
 -- What a result variable holds beside a refusal number, and beside none.
 use Prim.Native.Nat.{ℕ}
 use native.Mathlib.Omega.{arith}
-use mathlib.Core.Path.{_≡_, _∙_, sym, ap}
+use mathlib.Core.Path.{_≡_, refl, _∙_, sym, ap}
 use mathlib.Core.Bool.{Bool, true, false, cond}
+use mir.Val.{boolByte}
 use Rattle.base.specs.Lent.{Lent}
+use Rattle.base.specs.Seek.{flag}
 use Rattle.plan.specs.Refused.{unlessRefused}
 use Rattle.plan.proofs.Refused.{when-given}
 
@@ -27,3 +29,8 @@ pub cond-answers : {A : Type 0} (saysRefused : A → ℕ) (b : Bool) (x y : A) �
     → saysRefused (cond b x y) ≡ 0
 cond-answers f true x y hx hy = hx
 cond-answers f false x y hx hy = hy
+
+-- a Bool stored as a byte is its flag
+pub as-byte : (b : Bool) → boolByte b ≡ flag b
+as-byte true = refl
+as-byte false = refl

@@ -6,7 +6,7 @@ use lib.IntN.{ℤ, pos, negℤ}
 use Rattle.base.specs.Lent.{Lent}
 use Rattle.sheets.specs.Distances.{DistancesCall}
 use Rattle.running.specs.Activate.{Activates}
-use Rattle.exports.specs.Exports.{SizeExport, ListExport, CompareExport, ReliesExport, VerdictExport, RunExport}
+use Rattle.exports.specs.Exports.{SizeExport, ListExport, CompareExport, ReliesExport, ExplainExport, VerdictExport, RunExport}
 
 -- Document 01, "Small plans", M3's distances: "Routers 0, 1 reflectors; 2, 3 clients; sessions 0-1, 0-2, 1-3; identifiers 10, 20, 30, 40.
 -- Distances 0 to 2 and 1 to 3 are 10, p is 0 to 3, q is 1 to 2, other off-diagonal ones 30."; "p = q = 6". The lists are 2,3 and 3 and 0.
@@ -69,6 +69,14 @@ links = 0 ∷ 1 ∷ 1 ∷ 0 ∷ 0 ∷ 2 ∷ 9 ∷ 0 ∷ 1 ∷ 2 ∷ 2 ∷ 0 ∷ 
 abbrev pub nineteen : List ℕ
 nineteen = 9 ∷ 9 ∷ 9 ∷ 9 ∷ 9 ∷ 9 ∷ 9 ∷ 9 ∷ 9 ∷ 9 ∷ 9 ∷ 9 ∷ 9 ∷ 9 ∷ 9 ∷ 9 ∷ 9 ∷ 9 ∷ 9 ∷ []
 
+-- rrp_explain, called on M3's plan, returns r and leaves these numbers in its six variables
+abbrev pub Explained : (k w v r : ℕ) (a b c d e : ℕ) (m : ℤ) → Type 0
+Explained k w v r a b c d e m =
+    (returned : ℕ) (relied code offered hasOwn own : Lent ℕ) (margin : Lent ℤ)
+    → ExplainExport plan k w v returned relied code offered hasOwn own margin
+    → (returned ≡ r) × (relied .after ≡ a) × (code .after ≡ b) × (offered .after ≡ c) × (hasOwn .after ≡ d) × (own .after ≡ e)
+    × (margin .after ≡ m)
+
 -- r is the number returned
 pub record ExportExamples : Type 0 where
   -- four routers, three lists
@@ -92,6 +100,18 @@ pub record ExportExamples : Type 0 where
   -- for list 2,3 reflector 0 relies on its client 2, and 2, which is listed, on no one
   pub relies : (r : ℕ) (relied : Lent ℕ) → ReliesExport plan 0 0 2 r relied → (r ≡ 0) × (relied .after ≡ 1)
   pub reliesNot : (r : ℕ) (relied : Lent ℕ) → ReliesExport plan 0 2 0 r relied → (r ≡ 0) × (relied .after ≡ 0)
+  -- for list 2,3 reflector 0 relies on 1, whose offer 3 is better than its own best client 2 by 4, and on that client; 2 is listed
+  pub betterOffer : Explained 0 0 1 0 1 4 3 1 2 (negℤ (pos 4))
+  pub ownBestClient : Explained 0 0 2 0 1 3 0 0 0 (pos 0)
+  pub firstListed : Explained 0 2 0 0 0 3 0 0 0 (pos 0)
+  -- for list 3 reflector 0 has no best client, 1 offers 3, and 2 is an unlisted client
+  pub anyOffer : Explained 1 0 1 0 1 4 3 0 0 (pos 0)
+  pub unlistedClient : Explained 1 0 2 0 0 4 0 0 0 (pos 0)
+  -- there is no router 4
+  pub refusedExplain : (r : ℕ) (relied code offered hasOwn own : Lent ℕ) (margin : Lent ℤ)
+      → ExplainExport plan 0 0 4 r relied code offered hasOwn own margin
+      → (r ≡ 8) × (relied .after ≡ relied .before) × (code .after ≡ code .before) × (offered .after ≡ offered .before)
+      × (hasOwn .after ≡ hasOwn .before) × (own .after ≡ own .before) × (margin .after ≡ margin .before)
   -- no bytes are no plan, there is no list 3 and no router 4: numbers 1 and 8, and each result variable is left as it was
   pub refusedSize : (r : ℕ) (routers lists : Lent ℕ) → SizeExport [] r routers lists
       → (r ≡ 1) × (routers .after ≡ routers .before) × (lists .after ≡ lists .before)

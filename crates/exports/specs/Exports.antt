@@ -14,6 +14,9 @@ use Rattle.network.specs.FromPlan.{instanceOf}
 use Rattle.plan.specs.Refused.{unlessRefused}
 use Rattle.refusals.specs.Refusals.{egressListRefusal, compareRefusal, reliesRefusal, verdictRefusal, runRefusal}
 use Rattle.queries.specs.Compare.{whichBetter, hasMargin, marginNumber}
+use Rattle.explanations.specs.declared.explanation.Values.{Values}
+use Rattle.explanations.specs.Explained.{explained}
+use Rattle.explanations.specs.Explain.{valuesOf}
 use Rattle.checker.specs.Verdict.{isStable, sizeOf, labelsAfter, ranksAfter, tableAfter, cycleAfter}
 use Rattle.running.specs.Run.{runApplied, runRounds, runExhausted, runTable}
 
@@ -45,6 +48,28 @@ pub record CompareExport (plan : List ℕ) (w e f r : ℕ) (preferred present : 
 pub record ReliesExport (plan : List ℕ) (k w v r : ℕ) (relied : Lent ℕ) : Type 0 where
   pub number : r ≡ reliesRefusal plan k w v
   pub answered : Holds (reliesRefusal plan k w v) relied (flag (relies (instanceOf plan k) w v))
+
+-- rrp_explain: 1 if w relies on v for list k, else 0; the number of the rule or the place of the reason; and of a better offer its route,
+-- 1 if it was compared with an own best client, else 0, that one's route and the margin, an integer. What the answer does not have is 0.
+abbrev pub whyOf : (plan : List ℕ) (k w v : ℕ) → Values
+whyOf plan k w v = valuesOf (explained (instanceOf plan k) w v)
+
+pub record ExplainExport (plan : List ℕ) (k w v r : ℕ) (relied code offered hasOwn own : Lent ℕ) (margin : Lent ℤ) : Type 0 where
+  pub number : r ≡ reliesRefusal plan k w v
+  pub answered : Holds (reliesRefusal plan k w v) relied (flag (whyOf plan k w v .relies))
+  pub coded : Holds (reliesRefusal plan k w v) code (whyOf plan k w v .code)
+  pub offer : Holds (reliesRefusal plan k w v) offered (whyOf plan k w v .offer)
+  pub compared : Holds (reliesRefusal plan k w v) hasOwn (flag (whyOf plan k w v .compared))
+  pub owned : Holds (reliesRefusal plan k w v) own (whyOf plan k w v .own)
+  pub measured : Holds (reliesRefusal plan k w v) margin (whyOf plan k w v .margin)
+
+-- "Yes must agree with the plain reliance answer for every pair": rrp_relies and rrp_explain return one number, and leave one answer if it
+-- is 0
+abbrev pub SameReliance : Type 0
+SameReliance =
+    (plan : List ℕ) (k w v r s : ℕ) (plain relied code offered hasOwn own : Lent ℕ) (margin : Lent ℤ)
+    → ReliesExport plan k w v r plain → ExplainExport plan k w v s relied code offered hasOwn own margin
+    → (r ≡ s) × (r ≡ 0 → relied .after ≡ plain .after)
 
 -- rrp_verdict: stable 1 or 0; the size is the highest rank if stable, else the cycle's length. `number` is the call's refusal.
 pub record VerdictWritten (number : ℕ) (plan : List ℕ) (k r : ℕ)

@@ -2,6 +2,7 @@ pub mod VerdictMeaning
 pub mod Series
 pub mod Questions
 pub mod Comparisons
+pub mod Explanations
 pub mod SmallPlans
 pub mod TellingExamples
 pub mod CutOffExamples

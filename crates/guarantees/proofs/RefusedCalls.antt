@@ -25,6 +25,7 @@ refused-calls =
         s .present ∙ when-refused _ _ _ ne,
         s .margin ∙ when-refused _ _ _ ne,
       );
+      explain = λ plan k w v r s ne. (s .answer ∙ when-refused _ _ _ ne, s .values ∙ when-refused _ _ _ ne);
       activate = λ plan k w table r after s ne. (s .number, s .bytes ∙ when-refused _ _ _ ne);
       run = λ plan k acts limit table r after s ne. (
         s .number,

@@ -8,7 +8,7 @@ use lib.IntN.{pos}
 use denote.Ref.{RefT, ptr, now}
 use Rattle.base.specs.Bytes.{bytesOn}
 use Rattle.plan.specs.Refusal.{planRefusal}
-use Rattle.refusals.specs.Refusals.{egressListRefusal, compareRefusal, activateRefusal, runRefusal}
+use Rattle.refusals.specs.Refusals.{egressListRefusal, compareRefusal, reliesRefusal, activateRefusal, runRefusal}
 use Rattle.queries.specs.declared.compare.CompareAnswer.{CompareAnswer}
 use Rattle.queries.specs.declared.compare.CompareAnswer.the-variants.{Refused}
 use Rattle.queries.specs.declared.size.SizeAnswer.{SizeAnswer}
@@ -16,6 +16,9 @@ use Rattle.running.specs.declared.run.RunAnswer.{RunAnswer}
 use Rattle.queries.specs.EgressList.{StretchOf}
 use Rattle.queries.specs.Size.{Sizes}
 use Rattle.queries.specs.Compare.{compareBetter, compareHasMargin, compareMargin, Compares}
+use Rattle.explanations.specs.declared.explanation.Explanation.{Explanation}
+use Rattle.explanations.specs.declared.explanation.Explanation.the-variants as explanations
+use Rattle.explanations.specs.Explain.{bare, valuesOf, Explains}
 use Rattle.running.specs.Activate.{Activates}
 use Rattle.running.specs.Run.{Runs}
 
@@ -27,6 +30,8 @@ pub record RefusedCalls : Type 0 where
       → (r .refused ≡ planRefusal plan) × (r .routers ≡ 0) × (r .lists ≡ 0)
   pub compare : (plan : List ℕ) (w e f : ℕ) (r : CompareAnswer) → Compares plan w e f r → (compareRefusal plan w e f ≡ 0 → ⊥)
       → (r ≡ Refused (compareRefusal plan w e f)) × (compareBetter r ≡ 0) × (compareHasMargin r ≡ false) × (compareMargin r ≡ pos 0)
+  pub explain : (plan : List ℕ) (k w v : ℕ) (r : Explanation) → Explains plan k w v r → (reliesRefusal plan k w v ≡ 0 → ⊥)
+      → (r ≡ explanations.Refused (reliesRefusal plan k w v)) × (valuesOf r ≡ bare false 0)
   pub activate : (plan : List ℕ) (k w : ℕ) (table : List ℕ) (r : ℕ) (after : List ℕ) → Activates plan k w table r after
       → (activateRefusal plan k w table ≡ 0 → ⊥) → (r ≡ activateRefusal plan k w table) × (after ≡ table)
   pub run : (plan : List ℕ) (k : ℕ) (acts : List ℕ) (limit : ℕ) (table : List ℕ) (r : RunAnswer) (after : List ℕ)

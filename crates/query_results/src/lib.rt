@@ -73,10 +73,10 @@ pub fn compare(
     first: usize,
     second: usize,
     better: &mut u8,
-    present: &mut u8,
+    has_margin: &mut u8,
     margin: &mut i64,
 ) -> u8
-    ensures { λ r. ⌜ CompareExport (now (plan .entry)) router first second r (lent better) (lent present) (lent margin) ⌝ }
+    ensures { λ r. ⌜ CompareExport (now (plan .entry)) router first second r (lent better) (lent «has_margin») (lent margin) ⌝ }
 {
     let answer = checker::compare::compare(plan, router, first, second);
     match answer {
@@ -85,7 +85,7 @@ pub fn compare(
         }
         CompareAnswer::Compared(preferred, difference) => {
             *better = preferred_number(preferred);
-            *present = margin_flag(difference);
+            *has_margin = margin_flag(difference);
             *margin = margin_value(difference);
             return 0;
         }

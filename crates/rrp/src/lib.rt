@@ -6,7 +6,8 @@ ghost use Rattle.base.specs.Lent.{lent};
 ghost use Rattle.plan.specs.Refusal.{planRefusal};
 ghost use Rattle.running.specs.Activate.{Activates};
 ghost use Rattle.sheets.specs.Distances.{DistancesCall};
-ghost use Rattle.exports.specs.Exports.{SizeExport, ListExport, CompareExport, ReliesExport, VerdictExport, RunExport};
+ghost use Rattle.exports.specs.Exports.{SizeExport, ListExport, CompareExport, ReliesExport, ExplainExport};
+ghost use Rattle.exports.specs.Exports.{VerdictExport, RunExport};
 
 #[no_mangle]
 pub extern "C" fn rrp_check(plan: &[u8]) -> u8
@@ -36,12 +37,12 @@ pub extern "C" fn rrp_compare(
     first: usize,
     second: usize,
     better: &mut u8,
-    present: &mut u8,
+    has_margin: &mut u8,
     margin: &mut i64,
 ) -> u8
-    ensures { λ r. ⌜ CompareExport (now (plan .entry)) router first second r (lent better) (lent present) (lent margin) ⌝ }
+    ensures { λ r. ⌜ CompareExport (now (plan .entry)) router first second r (lent better) (lent «has_margin») (lent margin) ⌝ }
 {
-    query_results::compare(plan, router, first, second, better, present, margin)
+    query_results::compare(plan, router, first, second, better, has_margin, margin)
 }
 
 #[no_mangle]
@@ -55,6 +56,36 @@ pub extern "C" fn rrp_relies(
     ensures { λ r. ⌜ ReliesExport (now (plan .entry)) list router other r (lent relies) ⌝ }
 {
     query_results::relies(plan, list, router, other, relies)
+}
+
+#[no_mangle]
+pub extern "C" fn rrp_explain(
+    plan: &[u8],
+    list: usize,
+    router: usize,
+    other: usize,
+    relies: &mut u8,
+    code: &mut u8,
+    offer: &mut u64,
+    has_own: &mut u8,
+    own: &mut u64,
+    margin: &mut i64,
+) -> u8
+    ensures { λ r. ⌜ ExplainExport (now (plan .entry)) list router other r
+        (lent relies) (lent code) (lent offer) (lent «has_own») (lent own) (lent margin) ⌝ }
+{
+    explanation_results::explain(
+        plan,
+        list,
+        router,
+        other,
+        relies,
+        code,
+        offer,
+        has_own,
+        own,
+        margin,
+    )
 }
 
 #[no_mangle]

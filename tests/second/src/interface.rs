@@ -72,6 +72,85 @@ impl CompareFields {
     }
 }
 
+/// Why a router relies on another, or why it does not.
+#[derive(Clone, Copy, Debug, PartialEq, Eq)]
+pub enum Explained {
+    Yes(Rule),
+    No(Reason),
+}
+
+/// The rule by which a router relies on another.
+#[derive(Clone, Copy, Debug, PartialEq, Eq)]
+pub enum Rule {
+    Parent,
+    PeerClient,
+    OwnBestClient,
+    /// The route offered; and of an own best client, if there is one, the route and
+    /// the margin, offer minus own.
+    BetterOffer {
+        offer: usize,
+        own: Option<(usize, i64)>,
+    },
+}
+
+/// A reason for which a router does not rely on another. Its number is its place
+/// in document 02's order.
+#[derive(Clone, Copy, Debug, PartialEq, Eq)]
+pub enum Reason {
+    SameRouter = 1,
+    NotNeighbours,
+    FirstListed,
+    UnlistedClient,
+    /// Both are clients, the second unlisted: never the first that applies.
+    BothClients,
+    NotTheBestClient,
+    NoOffer,
+    NoWay,
+    NotBetter,
+}
+
+/// What an explanation of a reliance gives.
+#[derive(Clone, Copy)]
+pub struct ExplainFields {
+    /// 1 if the first router relies on the second, else 0.
+    pub relies: Flag,
+    /// The rule: 1 parent, 2 peer client, 3 own best client, 4 better offer; or the
+    /// number of the reason.
+    pub code: Flag,
+    /// The route of a better offer; 0 if there is none.
+    pub offer: Lent<u64>,
+    /// 1 if there are a better offer and an own best client, else 0.
+    pub has_own: Flag,
+    /// That client's route and the margin; 0 if there are none.
+    pub own: Lent<u64>,
+    pub margin: Lent<i64>,
+}
+
+impl ExplainFields {
+    pub fn new(flags: [u8; 3], routes: [u64; 2], margin: i64) -> Self {
+        let [relies, code, has_own] = flags.map(Flag::new);
+        let [offer, own] = routes.map(Lent::new);
+        ExplainFields { relies, code, offer, has_own, own, margin: Lent::new(margin) }
+    }
+
+    pub fn put(&mut self, explained: Explained) {
+        let (relies, code, offer, own) = match explained {
+            Explained::Yes(Rule::Parent) => (1, 1, 0, None),
+            Explained::Yes(Rule::PeerClient) => (1, 2, 0, None),
+            Explained::Yes(Rule::OwnBestClient) => (1, 3, 0, None),
+            Explained::Yes(Rule::BetterOffer { offer, own }) => (1, 4, offer, own),
+            Explained::No(reason) => (0, reason as u8, 0, None),
+        };
+        let (client, margin) = own.unwrap_or((0, 0));
+        self.relies.value = relies;
+        self.code.value = code;
+        self.offer.value = offer as u64;
+        self.has_own.value = u8::from(own.is_some());
+        self.own.value = client as u64;
+        self.margin.value = margin;
+    }
+}
+
 #[derive(Clone, Copy)]
 pub struct VerdictFields {
     pub stable: Flag,
@@ -104,6 +183,8 @@ pub trait Checker {
     fn compare(&mut self, plan: &[u8], router: usize, pair: (usize, usize), fields: &mut CompareFields) -> u8;
 
     fn relies(&mut self, plan: &[u8], list: usize, pair: (usize, usize), relies: &mut u8) -> u8;
+
+    fn explain(&mut self, plan: &[u8], list: usize, pair: (usize, usize), fields: &mut ExplainFields) -> u8;
 
     fn verdict(&mut self, plan: &[u8], list: usize, lent: VerdictBuffers, fields: &mut VerdictFields) -> u8;
 

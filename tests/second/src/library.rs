@@ -1,7 +1,7 @@
 //! The proved library, linked as a static C library.
 
 use crate::interface::{
-    Acts, Checker, CompareFields, ListFields, RunFields, SizeFields, VerdictBuffers, VerdictFields,
+    Acts, Checker, CompareFields, ExplainFields, ListFields, RunFields, SizeFields, VerdictBuffers, VerdictFields,
 };
 
 extern "C" {
@@ -23,6 +23,20 @@ extern "C" {
     ) -> u8;
 
     fn rrp_relies(plan: *const u8, plan_len: usize, list: usize, router: usize, other: usize, relies: *mut u8) -> u8;
+
+    fn rrp_explain(
+        plan: *const u8,
+        plan_len: usize,
+        list: usize,
+        router: usize,
+        other: usize,
+        relies: *mut u8,
+        code: *mut u8,
+        offer: *mut u64,
+        has_own: *mut u8,
+        own: *mut u64,
+        margin: *mut i64,
+    ) -> u8;
 
     fn rrp_verdict(
         plan: *const u8,
@@ -105,6 +119,25 @@ impl Checker for Library {
     fn relies(&mut self, plan: &[u8], list: usize, pair: (usize, usize), relies: &mut u8) -> u8 {
         // SAFETY: as above.
         unsafe { rrp_relies(plan.as_ptr(), plan.len(), list, pair.0, pair.1, relies) }
+    }
+
+    fn explain(&mut self, plan: &[u8], list: usize, pair: (usize, usize), fields: &mut ExplainFields) -> u8 {
+        // SAFETY: as above.
+        unsafe {
+            rrp_explain(
+                plan.as_ptr(),
+                plan.len(),
+                list,
+                pair.0,
+                pair.1,
+                &mut fields.relies.value,
+                &mut fields.code.value,
+                &mut fields.offer.value,
+                &mut fields.has_own.value,
+                &mut fields.own.value,
+                &mut fields.margin.value,
+            )
+        }
     }
 
     fn verdict(&mut self, plan: &[u8], list: usize, lent: VerdictBuffers, fields: &mut VerdictFields) -> u8 {

@@ -2,7 +2,6 @@
 use Prim.Native.Nat.{_-_}
 use native.Mathlib.Omega.{arith}
 use mathlib.Core.Path.{_∙_, sym, ap}
-use borrow.Author.Needs.{needs}
 use Rattle.base.specs.Bits.{bits}
 use Rattle.cycles.specs.Cycle.{walk, next, trail}
 use Rattle.cycles.proofs.Following.{trail-next, Follows, follows-start, follows-room, follows-below, follows-more, follows-done}

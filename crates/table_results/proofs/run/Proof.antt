@@ -1,15 +1,8 @@
-use mathlib.Core.Path.{_≡_, refl}
-use mathlib.Core.Bool.{Bool, true, false}
 use borrow.Author.Needs.{needs}
-use mir.Val.{boolByte}
-use Rattle.base.specs.Seek.{flag}
+use Rattle.exports.proofs.Written.{as-byte}
 use Rattle.table_results.proofs.Given.{run-refused, run-given}
 use Rattle.table_results.proofs.run.Statement.{statement}
 use Rattle.table_results.proofs.run.Tie as tie
-
-as-byte : (b : Bool) → boolByte b ≡ flag b
-as-byte true = refl
-as-byte false = refl
 
 returns-2 : tie.Need-returns-2
 returns-2 c =

@@ -11,7 +11,8 @@ use crate::harness::generate;
 use crate::harness::random::Random;
 use crate::harness::sheets::Sheet;
 use crate::interface::{
-    Acts, Checker, CompareFields, Flag, ListFields, RunFields, SizeFields, VerdictBuffers, VerdictFields,
+    Acts, Checker, CompareFields, ExplainFields, Flag, ListFields, RunFields, SizeFields, VerdictBuffers,
+    VerdictFields,
 };
 use crate::library::Library;
 use crate::oracle::plan;
@@ -132,6 +133,12 @@ fn relies(checker: &mut dyn Checker, plan: &[u8]) {
     black_box(relies);
 }
 
+fn explain(checker: &mut dyn Checker, plan: &[u8]) {
+    let mut fields = ExplainFields::new([0; 3], [0; 2], 0);
+    assert_eq!(checker.explain(black_box(plan), 0, (0, 1), &mut fields), 0);
+    black_box((fields.relies.value, fields.code.value, fields.offer.value, fields.own.value, fields.margin.value));
+}
+
 /// A verdict; says whether it is stable.
 fn verdict(checker: &mut dyn Checker, plan: &[u8]) -> bool {
     let (mut labels, mut ranks, mut table, mut cycle) = ([0; 64], [0; 64], [0; 128], [0; 64]);
@@ -197,6 +204,7 @@ fn time_shape(bench: &Bench, random: &mut Random, shape: &Shape, name: &str) {
     let draft = shape.draft(random, false);
     let run = Run::new(random, &draft, ACTS);
     bench.line(&format!("relies, {name}"), 1, |checker| relies(checker, &run.plan));
+    bench.line(&format!("explain, {name}"), 1, |checker| explain(checker, &run.plan));
     bench.line(&format!("activation, {name}"), 1, |checker| activate(checker, &run.plan, &run.table));
     bench.line(&format!("run, {name}"), ACTS, |checker| run.by(checker));
     let stable = shape.draft(random, true).bytes();

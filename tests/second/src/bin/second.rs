@@ -1,7 +1,7 @@
 //! Compares a checker of route-reflection plans with the second one.
 
-use second_checker::{margin_line, questions, self_test, verdict_lines};
-use second_checker::{small_margins, small_plans, small_roles, small_sheets};
+use second_checker::{explained_pairs, margin_line, questions, self_test, verdict_lines};
+use second_checker::{small_explanations, small_margins, small_plans, small_roles, small_sheets};
 use second_checker::{Checker, Plain, Random, Tight};
 use std::env;
 use std::error::Error;
@@ -80,6 +80,8 @@ fn test_self(options: &Options) -> Result<bool, Box<dyn Error>> {
     println!("margins of small plans, and the lines of them: as stated");
     small_roles::test()?;
     println!("a small plan with role 3: as stated");
+    small_explanations::test()?;
+    println!("explained reliances of small plans, each rule and each reason but the fifth: as stated");
     small_sheets::test()?;
     println!("small sheets of links, their refusals in order: as stated");
     self_test::aimed_damage()?;
@@ -89,6 +91,9 @@ fn test_self(options: &Options) -> Result<bool, Box<dyn Error>> {
     println!("misread rules: {} found, each also beside itself", self_test::misread_on_both_sides()?);
     let programs = questions::wrong_programs_found(options.seed, INPUTS)?;
     println!("wrong margin programs: {programs} found on {INPUTS} inputs, each of them");
+    let explained = explained_pairs::test(options.seed)?;
+    println!("explained pairs {}: a reason applies exactly where there is no reliance", explained.pairs);
+    println!("by rule {:?}, by reason {:?}", &explained.rules[1..], &explained.reasons[1..]);
     let without_a_walk = self_test::least_sums(options.seed, options.plans)?;
     println!("least sums on {} sheets: as due, {without_a_walk} pairs without a walk", options.plans);
     let counts = self_test::consistency(options.seed, options.plans)?;

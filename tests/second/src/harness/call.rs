@@ -2,8 +2,8 @@
 //! leaves: results, buffers, and the bytes around them.
 
 use crate::interface::{
-    Acts, Checker, CompareFields, Compared, Flag, Lent, ListFields, RunFields, SizeFields, VerdictBuffers,
-    VerdictFields,
+    Acts, Checker, CompareFields, Compared, ExplainFields, Flag, Lent, ListFields, RunFields, SizeFields,
+    VerdictBuffers, VerdictFields,
 };
 
 /// One call, with the content of its buffers before it.
@@ -20,6 +20,11 @@ pub enum Call {
         second: usize,
     },
     Relies {
+        list: usize,
+        router: usize,
+        other: usize,
+    },
+    Explain {
         list: usize,
         router: usize,
         other: usize,
@@ -60,7 +65,8 @@ pub struct Answer {
     /// Every byte of every lent buffer after the call.
     pub buffers: Vec<Vec<u8>>,
     /// The bytes before and after each buffer, each result variable of one byte and
-    /// a margin, the plan, the sequence and the links are as they were.
+    /// those of a comparison and an explanation, the plan, the sequence and the links
+    /// are as they were.
     pub surroundings_kept: bool,
 }
 
@@ -73,6 +79,14 @@ impl Answer {
     pub fn compared(&self) -> Compared {
         let margin = (self.fields[1] == 1).then_some(self.fields[2] as i64);
         (self.fields[0] as u8, margin)
+    }
+
+    /// The offer, the own best client and the margin of an explanation that gave them.
+    pub fn better_than_own(&self) -> Option<(usize, usize, i64)> {
+        match (self.refusal, &self.fields[..]) {
+            (0, &[_, _, offer, 1, own, margin]) => Some((offer as usize, own as usize, margin as i64)),
+            _ => None,
+        }
     }
 
     fn beside<T>(mut self, result: Lent<T>) -> Self {
@@ -138,6 +152,9 @@ pub fn perform(checker: &mut dyn Checker, plan: &[u8], call: &Call, prior: u64) 
             let refusal = checker.relies(&lent_plan, *list, (*router, *other), &mut relies.value);
             Answer::new(refusal, [relies.value.into()]).beside(relies)
         }
+        Call::Explain { list, router, other } => {
+            perform_explain(checker, &lent_plan, *list, (*router, *other), prior)
+        }
         Call::Verdict { list, buffers } => perform_verdict(checker, &lent_plan, *list, buffers, prior),
         Call::Activate { list, router, table } => {
             let mut lent = [Guarded::new(table)];
@@ -172,6 +189,17 @@ fn perform_compare(
     let CompareFields { better, has_margin, margin } = fields;
     let results = [better.value.into(), has_margin.value.into(), margin.value.into()];
     Answer::new(refusal, results).beside(better).beside(has_margin).beside(margin)
+}
+
+fn perform_explain(checker: &mut dyn Checker, plan: &[u8], list: usize, pair: (usize, usize), prior: u64) -> Answer {
+    let flags = [prior, !prior, prior >> 8].map(|prior| prior as u8);
+    let mut fields = ExplainFields::new(flags, [prior, !prior], prior as i64);
+    let refusal = checker.explain(plan, list, pair, &mut fields);
+    let ExplainFields { relies, code, offer, has_own, own, margin } = fields;
+    let yes = [relies.value.into(), code.value.into(), offer.value.into()];
+    let beside_own = [has_own.value.into(), own.value.into(), margin.value.into()];
+    let answer = Answer::new(refusal, [yes, beside_own].concat());
+    answer.beside(relies).beside(code).beside(offer).beside(has_own).beside(own).beside(margin)
 }
 
 fn perform_verdict(

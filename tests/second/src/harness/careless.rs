@@ -1,10 +1,11 @@
 //! Checkers with a slip in one call each.
 
 use super::compare_slips;
+use super::explain_slips;
 use super::sheet_slips;
 use super::slips::Slip;
 use crate::interface::{
-    Acts, Checker, CompareFields, ListFields, RunFields, SizeFields, VerdictBuffers, VerdictFields,
+    Acts, Checker, CompareFields, ExplainFields, ListFields, RunFields, SizeFields, VerdictBuffers, VerdictFields,
 };
 use crate::oracle::plan::{self, FIRST_BODY, NO_WAY};
 use crate::oracle::rules::Right;
@@ -89,6 +90,10 @@ impl Checker for Careless {
 
     fn relies(&mut self, plan: &[u8], list: usize, pair: (usize, usize), relies: &mut u8) -> u8 {
         self.inner.relies(plan, list, pair, relies)
+    }
+
+    fn explain(&mut self, plan: &[u8], list: usize, pair: (usize, usize), fields: &mut ExplainFields) -> u8 {
+        explain_slips::explain(self.slip, &mut self.inner, plan, [list, pair.0, pair.1], fields)
     }
 
     fn verdict(&mut self, plan: &[u8], list: usize, lent: VerdictBuffers, fields: &mut VerdictFields) -> u8 {

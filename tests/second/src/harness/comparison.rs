@@ -89,6 +89,12 @@ impl<'a> Comparison<'a> {
         self.compared = Some((plan.to_vec(), Oracle::with(preferences)));
     }
 
+    /// Makes the call on the checker alone.
+    pub fn subject(&mut self, plan: &[u8], call: &Call) -> Answer {
+        self.counts.calls_alone += 1;
+        perform(self.subject, plan, call, self.priors.word())
+    }
+
     /// Makes the call on both; the answer if they agree to the last byte.
     pub fn call(&mut self, plan: &[u8], call: &Call) -> Result<Answer, Box<Mismatch>> {
         let prior = self.priors.word();

@@ -22,6 +22,11 @@ pub struct Counts {
     /// Calls whose answers were worked out from comparisons alone too.
     pub calls_by_comparisons: u64,
     pub margins: Margins,
+    /// Pairs of routers for which a reliance and its explanation were asked for.
+    pub pairs: u64,
+    pub explanations: Explanations,
+    /// Calls made on the checker alone, to hold one against another.
+    pub calls_alone: u64,
     pub series: u64,
     pub series_with_cuts: u64,
     pub series_with_skips: u64,
@@ -58,12 +63,38 @@ impl fmt::Display for Margins {
     }
 }
 
+/// The rules and the reasons that explanations gave, each at its number.
+#[derive(Default)]
+pub struct Explanations {
+    pub rules: [u64; 5],
+    pub reasons: [u64; 10],
+    /// Better offers beside an own best client.
+    pub with_own: u64,
+}
+
+impl Explanations {
+    fn count(&mut self, answer: &Answer) {
+        let numbers: &mut [u64] = if answer.fields[0] == 1 { &mut self.rules } else { &mut self.reasons };
+        numbers[answer.fields[1] as usize] += 1;
+        self.with_own += u64::from(answer.better_than_own().is_some());
+    }
+}
+
+impl fmt::Display for Explanations {
+    fn fmt(&self, out: &mut fmt::Formatter) -> fmt::Result {
+        write!(out, "explanations by rule {:?}, ", &self.rules[1..])?;
+        write!(out, "better than an own client {}, by reason {:?}", self.with_own, &self.reasons[1..])
+    }
+}
+
 impl Counts {
     pub fn count(&mut self, call: &Call, answer: &Answer) {
         self.calls += 1;
         self.refusals[usize::from(answer.refusal)] += 1;
-        if let (Call::Compare { .. }, 0) = (call, answer.refusal) {
-            self.margins.count(answer.compared().1);
+        match (call, answer.refusal) {
+            (Call::Compare { .. }, 0) => self.margins.count(answer.compared().1),
+            (Call::Explain { .. }, 0) => self.explanations.count(answer),
+            _ => (),
         }
     }
 }
@@ -75,6 +106,12 @@ impl fmt::Display for Counts {
         writeln!(out, "plans with role 3 {}, series on these {}", self.plans_with_skips, self.series_with_skips)?;
         writeln!(out, "sheets with distances {}", self.sheets_with_distances)?;
         writeln!(out, "{}", self.margins)?;
+        writeln!(out, "{}", self.explanations)?;
+        writeln!(
+            out,
+            "pairs relied on and explained {}, calls on the checker alone {}",
+            self.pairs, self.calls_alone
+        )?;
         writeln!(out, "calls answered from comparisons alone {}", self.calls_by_comparisons)?;
         writeln!(out, "highest rank {} longest cycle {}", self.highest_rank, self.longest_cycle)?;
         writeln!(out, "cycles without the lowest router of their group {}", self.entered_cycles)?;

@@ -4,6 +4,7 @@ use crate::oracle::plan::{Router, CLIENT, FIRST_BODY, REFLECTOR, SKIPPING};
 use std::collections::BTreeSet;
 
 /// What a plan says.
+#[derive(Clone)]
 pub struct Draft {
     pub reflector: Vec<bool>,
     /// Those of the reflectors that skip their own clients.

@@ -6,12 +6,14 @@ use super::comparison::{Comparison, Mismatch, Outcome};
 use super::generate;
 use super::preferences::Preferences;
 use super::random::Random;
+use super::reliance_calls;
 use super::series;
 use crate::oracle::plan::{self, Plan};
 use crate::oracle::rules::Case;
 
-/// So many routers are few: every comparison and every reliance is asked for.
-const FEW: usize = 8;
+/// So many routers are few: every comparison, every reliance and its explanation is
+/// asked for.
+pub const FEW: usize = 8;
 
 /// All calls for one plan.
 pub fn compare(comparison: &mut Comparison, random: &mut Random, bytes: &[u8]) -> Outcome {
@@ -35,7 +37,7 @@ fn refused(comparison: &mut Comparison, random: &mut Random, bytes: &[u8]) -> Ou
 }
 
 /// One call of each kind with arguments that need fit nothing.
-fn loose_calls(random: &mut Random) -> [Call; 6] {
+fn loose_calls(random: &mut Random) -> [Call; 7] {
     let mut number = |bound: usize| arguments::mostly_below(random, bound);
     let list = number(2);
     let (router, first, second) = (number(4), number(4), number(4));
@@ -50,6 +52,7 @@ fn loose_calls(random: &mut Random) -> [Call; 6] {
         Call::List { list },
         Call::Compare { router, first, second },
         Call::Relies { list, router, other: first },
+        Call::Explain { list, router, other: first },
         Call::Verdict { list, buffers },
         Call::Activate { list, router, table: table.clone() },
         Call::Run { list, sequence, limit, table },
@@ -66,6 +69,7 @@ fn sound(comparison: &mut Comparison, random: &mut Random, bytes: &[u8], plan: &
     }
     comparisons(comparison, random, bytes, plan)?;
     past_the_lists(comparison, random, bytes, plan)?;
+    reliance_calls::compare(comparison, random, bytes, plan)?;
     let verdicts = verdicts_of_lists(comparison, random, bytes, plan)?;
     for _ in 0..3 {
         let list = random.below(plan.lists.len());
@@ -115,6 +119,7 @@ fn past_the_lists(comparison: &mut Comparison, random: &mut Random, bytes: &[u8]
     let router = random.below(n);
     let calls = [
         Call::Relies { list, router, other: random.below(n) },
+        Call::Explain { list, router, other: random.below(n) },
         Call::Verdict { list, buffers: arguments::verdict_buffers(random, n) },
         Call::Verdict { list, buffers: arguments::short_verdict_buffers(random, n) },
         Call::Activate { list, router, table: table.clone() },
@@ -153,38 +158,12 @@ fn verdicts_of_lists(
 
 fn list_calls(comparison: &mut Comparison, random: &mut Random, bytes: &[u8], list: usize, plan: &Plan) -> Outcome {
     let case = Case { plan, listed: &plan.lists[list].listed };
-    reliances(comparison, random, bytes, list, plan)?;
     for _ in 0..2 {
         let buffers = arguments::short_verdict_buffers(random, plan.n);
         comparison.call(bytes, &Call::Verdict { list, buffers })?;
     }
     activations(comparison, random, bytes, list, case)?;
     runs(comparison, random, bytes, list, case)
-}
-
-/// With few routers, every pair.
-fn all_reliances(comparison: &mut Comparison, bytes: &[u8], list: usize, n: usize) -> Outcome {
-    for (router, other) in (0..=n).flat_map(|router| (0..=n).map(move |other| (router, other))) {
-        comparison.call(bytes, &Call::Relies { list, router, other })?;
-    }
-    Ok(())
-}
-
-fn reliances(comparison: &mut Comparison, random: &mut Random, bytes: &[u8], list: usize, plan: &Plan) -> Outcome {
-    if plan.n <= FEW {
-        return all_reliances(comparison, bytes, list, plan.n);
-    }
-    for _ in 0..12 {
-        let router = random.below(plan.n);
-        let neighbours: Vec<usize> = plan.neighbours[router].iter().copied().collect();
-        let near = !neighbours.is_empty() && random.chance(70);
-        let other = if near { random.pick(&neighbours) } else { random.below(plan.n) };
-        comparison.call(bytes, &Call::Relies { list, router, other })?;
-    }
-    let (router, strange) = (random.below(plan.n), arguments::past(random, plan.n));
-    comparison.call(bytes, &Call::Relies { list, router, other: strange })?;
-    comparison.call(bytes, &Call::Relies { list, router: strange, other: router })?;
-    comparison.call(bytes, &Call::Relies { list, router, other: router }).map(|_| ())
 }
 
 fn activations(comparison: &mut Comparison, random: &mut Random, bytes: &[u8], list: usize, case: Case) -> Outcome {

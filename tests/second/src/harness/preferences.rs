@@ -74,4 +74,8 @@ impl Rules for Preferences {
     fn is_better(&self, _: &Plan, at: Router, first: Router, second: Router) -> bool {
         self.answers[at][first][second].0 == 1
     }
+
+    fn margin(&self, _: &Plan, at: Router, first: Router, second: Router) -> Option<i64> {
+        self.answers[at][first][second].1
+    }
 }

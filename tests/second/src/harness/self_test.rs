@@ -5,6 +5,7 @@ use super::arguments;
 use super::careless::Careless;
 use super::comparison::differ;
 use super::damage;
+use super::explain_misreadings::{MisreadExplanation, EXPLAIN_MISREADINGS};
 use super::generate;
 use super::misreadings::{Misread, MISREADINGS};
 use super::random::Random;
@@ -19,6 +20,7 @@ use crate::oracle::tables::{self, Rounds};
 use crate::oracle::verdict::{self, Outcome, Ranks, Reliances};
 use crate::oracle::Oracle;
 use std::collections::BTreeSet;
+use std::fmt::Debug;
 
 /// The seed of the plans and sheets on which faults and damage are tried.
 const SEED: u64 = 4456;
@@ -38,32 +40,40 @@ fn finds(oracle: &mut dyn Checker, subject: &mut dyn Checker, fault: &str) -> Re
     Err(format!("the fault {fault} was not found"))
 }
 
+/// The checkers that misread a rule, each with the name of its fault.
+fn misread() -> Vec<(String, Box<dyn Checker>)> {
+    let rules = MISREADINGS.map(|fault| named(fault, Misread(fault)));
+    let skips = SKIP_MISREADINGS.map(|fault| named(fault, MisreadSkip(fault)));
+    let explanations = EXPLAIN_MISREADINGS.map(|fault| named(fault, MisreadExplanation(fault)));
+    rules.into_iter().chain(skips).chain(explanations).collect()
+}
+
+fn named(fault: impl Debug, rules: impl Rules + 'static) -> (String, Box<dyn Checker>) {
+    (format!("{fault:?}"), Box::new(Oracle::with(rules)))
+}
+
 /// The comparison finds every known fault; how many there are.
 pub fn faults() -> Result<usize, String> {
-    for misreading in MISREADINGS {
-        finds(&mut Oracle::right(), &mut Oracle::with(Misread(misreading)), &format!("{misreading:?}"))?;
-    }
-    for misreading in SKIP_MISREADINGS {
-        finds(&mut Oracle::right(), &mut Oracle::with(MisreadSkip(misreading)), &format!("{misreading:?}"))?;
+    let misread = misread();
+    let count = misread.len() + SLIPS.len();
+    for (fault, mut checker) in misread {
+        finds(&mut Oracle::right(), checker.as_mut(), &fault)?;
     }
     for slip in SLIPS {
         finds(&mut Oracle::right(), &mut Careless::new(slip), &format!("{slip:?}"))?;
     }
-    Ok(MISREADINGS.len() + SKIP_MISREADINGS.len() + SLIPS.len())
+    Ok(count)
 }
 
 /// A checker with a misread rule is found even if compared with itself: its
-/// answers do not follow from its own comparisons by the rules. How many there are.
+/// answers do not follow from its own comparisons by the rules, or two calls do not
+/// agree. How many there are.
 pub fn misread_on_both_sides() -> Result<usize, String> {
-    for misreading in MISREADINGS {
-        let [mut one, mut other] = [misreading; 2].map(|misreading| Oracle::with(Misread(misreading)));
-        finds(&mut one, &mut other, &format!("{misreading:?} on both sides"))?;
+    let count = misread().len();
+    for ((fault, mut one), (_, mut other)) in misread().into_iter().zip(misread()) {
+        finds(one.as_mut(), other.as_mut(), &format!("{fault} on both sides"))?;
     }
-    for misreading in SKIP_MISREADINGS {
-        let [mut one, mut other] = [misreading; 2].map(|misreading| Oracle::with(MisreadSkip(misreading)));
-        finds(&mut one, &mut other, &format!("{misreading:?} on both sides"))?;
-    }
-    Ok(MISREADINGS.len() + SKIP_MISREADINGS.len())
+    Ok(count)
 }
 
 /// Damage aimed at a refusal is refused with it, nearly always.

@@ -10,8 +10,8 @@ pub mod tables;
 pub mod verdict;
 
 use crate::interface::{
-    store, Acts, Checker, CompareFields, Compared, Flag, ListFields, RunFields, SizeFields, VerdictBuffers,
-    VerdictFields,
+    store, Acts, Checker, CompareFields, Compared, ExplainFields, Explained, Flag, ListFields, RunFields, SizeFields,
+    VerdictBuffers, VerdictFields,
 };
 pub use lines::{margin_line, verdict_lines};
 use plan::Plan;
@@ -108,6 +108,12 @@ impl<R: Rules> Oracle<R> {
         Ok(u8::from(self.rules.relied_on(case, pair.0).contains(&pair.1)))
     }
 
+    fn try_explain(&mut self, plan: &[u8], list: usize, pair: (usize, usize)) -> Result<Explained, u8> {
+        let reading = self.reading(plan);
+        let case = case_of(plan_of(&reading)?, list, &[pair.0, pair.1])?;
+        Ok(self.rules.explanation(case, pair.0, pair.1))
+    }
+
     fn try_verdict(&mut self, plan: &[u8], list: usize, lent: VerdictBuffers) -> Result<VerdictFields, u8> {
         let reading = self.reading(plan);
         let case = case_of(plan_of(&reading)?, list, &[])?;
@@ -181,6 +187,10 @@ impl<R: Rules> Checker for Oracle<R> {
 
     fn relies(&mut self, plan: &[u8], list: usize, pair: (usize, usize), relies: &mut u8) -> u8 {
         store(self.try_relies(plan, list, pair), relies)
+    }
+
+    fn explain(&mut self, plan: &[u8], list: usize, pair: (usize, usize), fields: &mut ExplainFields) -> u8 {
+        store(self.try_explain(plan, list, pair).map(|answer| fields.put(answer)), &mut ())
     }
 
     fn verdict(&mut self, plan: &[u8], list: usize, lent: VerdictBuffers, fields: &mut VerdictFields) -> u8 {

@@ -1,9 +1,11 @@
-//! Choosing, advertising and reliance (RFC 4271, RFC 4456), said with sets.
+//! Choosing, advertising and reliance (RFC 4271, RFC 4456), said with sets; and
+//! why a router relies on another or does not.
 //!
 //! The rules are the default methods of a trait, so that a single wrong rule
 //! can be put in place of a right one, to see that the comparison finds it.
 
 use super::plan::{Listed, Plan, Router};
+use crate::interface::{Explained, Reason, Rule};
 use std::collections::{BTreeMap, BTreeSet};
 
 /// A route held or received: its egress router, and the neighbour that sent it.
@@ -45,6 +47,19 @@ impl Case<'_> {
 pub fn beats(first: Option<Value>, second: Option<Value>) -> bool {
     first.is_some_and(|first| second.is_none_or(|second| first < second))
 }
+
+/// The reasons in the order of document 02; the first that applies is given.
+pub const REASONS: [Reason; 9] = [
+    Reason::SameRouter,
+    Reason::NotNeighbours,
+    Reason::FirstListed,
+    Reason::UnlistedClient,
+    Reason::BothClients,
+    Reason::NotTheBestClient,
+    Reason::NoOffer,
+    Reason::NoWay,
+    Reason::NotBetter,
+];
 
 pub trait Rules {
     /// How a router values an egress router, none if it has no way to it; the
@@ -110,6 +125,60 @@ pub trait Rules {
         let offering =
             case.neighbouring_reflectors(router).filter(|&other| self.offer(case, other, router).is_some_and(counts));
         offering.chain(own).collect()
+    }
+
+    fn explanation(&self, case: Case, router: Router, other: Router) -> Explained {
+        match self.rule(case, router, other) {
+            Some(rule) => Explained::Yes(rule),
+            // Some reason applies unless a rule is misread.
+            None => Explained::No(self.reason(case, router, other).unwrap_or(Reason::NotBetter)),
+        }
+    }
+
+    /// The rule by which a router relies on another, if it does.
+    fn rule(&self, case: Case, router: Router, other: Router) -> Option<Rule> {
+        if !self.relied_on(case, router).contains(&other) {
+            return None;
+        }
+        match (case.plan.is_reflector(router), case.plan.is_reflector(other)) {
+            (false, true) => Some(Rule::Parent),
+            (false, false) => Some(Rule::PeerClient),
+            (true, false) => Some(Rule::OwnBestClient),
+            (true, true) => {
+                let offer = self.offer(case, other, router)?;
+                let own = self.best_client(case, router);
+                let with_margin = |own: Router| Some((own, self.margin(case.plan, router, offer, own)?));
+                Some(Rule::BetterOffer { offer, own: own.and_then(with_margin) })
+            }
+        }
+    }
+
+    fn reason(&self, case: Case, router: Router, other: Router) -> Option<Reason> {
+        REASONS.into_iter().find(|&reason| self.applies(reason, case, router, other))
+    }
+
+    /// Whether a reason applies, by its own words. The last four speak of what a
+    /// reflector does not rely on: a client, or another reflector's offer.
+    fn applies(&self, reason: Reason, case: Case, router: Router, other: Router) -> bool {
+        let plan = case.plan;
+        let is_reflector = |router: Router| plan.is_reflector(router);
+        let unlisted_client = !is_reflector(other) && !case.is_listed(other);
+        let of_reflectors = is_reflector(router) && is_reflector(other);
+        let offer = of_reflectors.then(|| self.offer(case, other, router)).flatten();
+        let own = self.best_client(case, router);
+        match reason {
+            Reason::SameRouter => router == other,
+            Reason::NotNeighbours => !plan.neighbours[router].contains(&other),
+            Reason::FirstListed => case.is_listed(router),
+            Reason::UnlistedClient => unlisted_client,
+            Reason::BothClients => !is_reflector(router) && unlisted_client,
+            Reason::NotTheBestClient => is_reflector(router) && !is_reflector(other) && own != Some(other),
+            Reason::NoOffer => of_reflectors && offer.is_none(),
+            Reason::NoWay => offer.is_some_and(|offer| self.value(plan, router, offer).is_none()),
+            Reason::NotBetter => {
+                offer.zip(own).is_some_and(|(offer, own)| !self.counts(plan, router, offer, Some(own)))
+            }
+        }
     }
 
     /// The egress router of the route that `from` advertises to its neighbour

@@ -1,13 +1,10 @@
-use native.Mathlib.Omega.{arith}
-use mathlib.Core.Path.{_≡_, refl, _∙_, sym, ap}
+use mathlib.Core.Path.{_≡_, refl, _∙_, sym}
 use borrow.Author.Needs.{needs}
 use lib.Dec.{lit<}
-use Rattle.explaining.specs.Explained.{explained}
-use Rattle.network.specs.Decoded.{decoded}
-use Rattle.network.specs.FromPlan.{instanceOf}
-use Rattle.network.proofs.FromPlan.{well-formed}
+use Rattle.explanations.specs.Explained.{explained}
 use Rattle.refusals.specs.Refusals.{reliesRefusal}
 use Rattle.refusals.proofs.Granted.{ReliesAsked, relies-asked}
+use Rattle.queries.proofs.Relying.{ready, of-plan}
 use Rattle.explaining.proofs.Explaining.{explains-refused, explains-given}
 use Rattle.explaining.proofs.explain.explain.Statement.{statement}
 use Rattle.explaining.proofs.explain.explain.Tie as tie
@@ -26,24 +23,16 @@ guard c = c .before .before .before
 explained-requires : tie.Need-explained-requires
 explained-requires c κs =
     let d = c .before in
-    let q = asked (guard d) in
-    let read = d .before .decode .ensures in (
-      rw (d .part .ensures) (well-formed _ _ _ _ (q .planOk) (q .list) read),
-      rw (read .count) (omega arith),
-      rw (read .count) (omega arith),
-    )
+    ready _ _ _ _ (given (guard d)) _ _ (d .before .decode .ensures) _ (d .part .ensures)
 
 -- the explanation found is that of the plan's network
 returns : tie.Need-returns-2
 returns c =
     let d = c .before .before in
     let a = guard d .before .before .before .args in
-    let net = d .before .decode .result in
-    let rows = d .before .decode .last .1 .1 .0 in
     explains-given _ _ _ _ (given (guard d)) _
     (c .explained .ensures
-    ∙ ap (λ s. explained (decoded net rows s) (a .router) (a .other)) (d .part .ensures)
-    ∙ ap (λ I. explained I (a .router) (a .other)) (d .before .decode .ensures .same))
+    ∙ of-plan _ _ _ _ (given (guard d)) _ _ (d .before .decode .ensures) _ (d .part .ensures) (λ I. explained I (a .router) (a .other)))
 
 pub explain-spec : {M : Type 1} → statement M
 explain-spec =

@@ -1,14 +1,11 @@
-use native.Mathlib.Omega.{arith}
-use mathlib.Core.Path.{_≡_, refl, _∙_, sym, ap}
+use mathlib.Core.Path.{_≡_, refl, _∙_, sym}
 use borrow.Author.Needs.{needs}
 use lib.Dec.{lit<}
 use Rattle.routing.specs.Reliance.{relies}
-use Rattle.network.specs.Decoded.{decoded}
 use Rattle.network.specs.FromPlan.{instanceOf}
-use Rattle.network.proofs.FromPlan.{well-formed}
 use Rattle.refusals.specs.Refusals.{reliesRefusal}
 use Rattle.refusals.proofs.Granted.{ReliesAsked, relies-asked}
-use Rattle.queries.proofs.Relying.{relied-refused, relied-yes, relied-no}
+use Rattle.queries.proofs.Relying.{ready, of-plan, relied-refused, relied-yes, relied-no}
 use Rattle.queries.proofs.relies.relies.Statement.{statement}
 use Rattle.queries.proofs.relies.relies.Tie as tie
 
@@ -26,12 +23,7 @@ guard c = c .before .before .before
 relies-requires : tie.Need-relies-requires
 relies-requires c κs =
     let d = c .before in
-    let q = asked (guard d) in
-    let read = d .before .decode .ensures in (
-      rw (d .part .ensures) (well-formed _ _ _ _ (q .planOk) (q .list) read),
-      rw (read .count) (omega arith),
-      rw (read .count) (omega arith),
-    )
+    ready _ _ _ _ (given (guard d)) _ _ (d .before .decode .ensures) _ (d .part .ensures)
 
 -- the reliance found is that of the plan's network
 judged : (c : tie.After-relies) → let a = guard (c .before .before) .before .before .before .args in
@@ -39,11 +31,8 @@ judged : (c : tie.After-relies) → let a = guard (c .before .before) .before .b
 judged c =
     let d = c .before .before in
     let a = guard d .before .before .before .args in
-    let net = d .before .decode .result in
-    let rows = d .before .decode .last .1 .1 .0 in
     c .relies .ensures
-    ∙ ap (λ s. relies (decoded net rows s) (a .router) (a .other)) (d .part .ensures)
-    ∙ ap (λ I. relies I (a .router) (a .other)) (d .before .decode .ensures .same)
+    ∙ of-plan _ _ _ _ (given (guard d)) _ _ (d .before .decode .ensures) _ (d .part .ensures) (λ I. relies I (a .router) (a .other))
 
 pub relies-spec : {M : Type 1} → statement M
 relies-spec =

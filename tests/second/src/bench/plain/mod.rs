@@ -10,7 +10,8 @@ mod rules;
 mod verdict;
 
 use crate::interface::{
-    store, Acts, Checker, CompareFields, Flag, ListFields, RunFields, SizeFields, VerdictBuffers, VerdictFields,
+    store, Acts, Checker, CompareFields, ExplainFields, Flag, ListFields, RunFields, SizeFields, VerdictBuffers,
+    VerdictFields,
 };
 use links::distances;
 use reader::{check, read};
@@ -93,6 +94,16 @@ impl Checker for Plain {
             Ok(u8::from(plan.relies(&listed, u, v)))
         };
         store(answer(), relies)
+    }
+
+    fn explain(&mut self, plan: &[u8], list: usize, pair: (usize, usize), fields: &mut ExplainFields) -> u8 {
+        let explained = || {
+            let plan = read(plan)?;
+            let listed = plan.bodies.listed(list)?;
+            let (u, v) = (plan.bodies.router(pair.0)?, plan.bodies.router(pair.1)?);
+            Ok(plan.explain(&listed, u, v))
+        };
+        store(explained().map(|answer| fields.put(answer)), &mut ())
     }
 
     fn verdict(&mut self, plan: &[u8], list: usize, lent: VerdictBuffers, fields: &mut VerdictFields) -> u8 {

@@ -2,6 +2,7 @@
 
 use super::reader::{word, Bodies, PlanView};
 use super::{MOST, NONE, NO_WAY};
+use crate::interface::{Explained, Reason, Rule};
 
 impl Bodies<'_> {
     fn distance(&self, u: usize, e: usize) -> usize {
@@ -99,6 +100,42 @@ impl PlanView<'_> {
             (Some(offer), None) => self.bodies.has_way(u, offer),
             (None, _) => false,
         }
+    }
+
+    /// Why u relies on v, or why it does not.
+    pub fn explain(&self, listed: &[bool; MOST], u: usize, v: usize) -> Explained {
+        if u == v {
+            return Explained::No(Reason::SameRouter);
+        }
+        if !self.neighbour[u][v] {
+            return Explained::No(Reason::NotNeighbours);
+        }
+        if listed[u] {
+            return Explained::No(Reason::FirstListed);
+        }
+        match (self.reflector[u], self.reflector[v]) {
+            (_, false) if !listed[v] => Explained::No(Reason::UnlistedClient),
+            (false, true) => Explained::Yes(Rule::Parent),
+            (false, false) => Explained::Yes(Rule::PeerClient),
+            (true, false) if self.best_client(listed, u) == Some(v) => Explained::Yes(Rule::OwnBestClient),
+            (true, false) => Explained::No(Reason::NotTheBestClient),
+            (true, true) => self.explain_offer(listed, u, v),
+        }
+    }
+
+    /// .. by the offer of v, where both are reflectors.
+    fn explain_offer(&self, listed: &[bool; MOST], u: usize, v: usize) -> Explained {
+        let offer = if listed[v] { Some(v) } else { self.best_client(listed, v) };
+        let Some(offer) = offer else { return Explained::No(Reason::NoOffer) };
+        if !self.bodies.has_way(u, offer) {
+            return Explained::No(Reason::NoWay);
+        }
+        let own = self.best_client(listed, u);
+        if own.is_some_and(|own| !self.bodies.better(u, offer, own)) {
+            return Explained::No(Reason::NotBetter);
+        }
+        let with_margin = |own: usize| Some((own, self.bodies.margin(u, offer, own)?));
+        Explained::Yes(Rule::BetterOffer { offer, own: own.and_then(with_margin) })
     }
 
     pub fn check_table(&self, listed: &[bool; MOST], table: &[u8]) -> Result<(), u8> {

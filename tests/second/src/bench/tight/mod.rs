@@ -8,8 +8,8 @@ mod rules;
 mod verdict;
 
 use crate::interface::{
-    store, Acts, Checker, CompareFields, Compared, Flag, ListFields, RunFields, SizeFields, VerdictBuffers,
-    VerdictFields,
+    store, Acts, Checker, CompareFields, Compared, ExplainFields, Explained, Flag, ListFields, RunFields, SizeFields,
+    VerdictBuffers, VerdictFields,
 };
 use links::distances;
 use reader::{check, read, Bodies};
@@ -60,6 +60,12 @@ fn relies(plan: &[u8], list: usize, pair: (usize, usize)) -> Result<u8, u8> {
     let (router, other) = (network.bodies.router(pair.0)?, network.bodies.router(pair.1)?);
     let relied_on = network.relied_on(router, 1 << other, |reflector| network.offer(reflector));
     Ok(u8::from(has(relied_on, other)))
+}
+
+fn explain(plan: &[u8], list: usize, pair: (usize, usize)) -> Result<Explained, u8> {
+    let network = network(plan, list)?;
+    let (router, other) = (network.bodies.router(pair.0)?, network.bodies.router(pair.1)?);
+    Ok(network.explain(router, other))
 }
 
 fn activate(plan: &[u8], list: usize, router: usize, table: &mut [u8]) -> Result<(), u8> {
@@ -117,6 +123,10 @@ impl Checker for Tight {
 
     fn relies(&mut self, plan: &[u8], list: usize, pair: (usize, usize), answer: &mut u8) -> u8 {
         store(relies(plan, list, pair), answer)
+    }
+
+    fn explain(&mut self, plan: &[u8], list: usize, pair: (usize, usize), fields: &mut ExplainFields) -> u8 {
+        store(explain(plan, list, pair).map(|answer| fields.put(answer)), &mut ())
     }
 
     fn verdict(&mut self, plan: &[u8], list: usize, lent: VerdictBuffers, fields: &mut VerdictFields) -> u8 {

@@ -2,6 +2,7 @@
 
 use super::reader::Bodies;
 use super::{bits, has, Pair, MOST, NONE};
+use crate::interface::{Explained, Reason, Rule};
 
 /// A plan decoded, with the list asked for.
 pub struct Network<'a> {
@@ -49,6 +50,44 @@ impl Network<'_> {
             relied_on |= u64::from(better) << reflector;
         }
         relied_on
+    }
+
+    /// Why a router relies on another, or why it does not.
+    pub fn explain(&self, router: usize, other: usize) -> Explained {
+        let reflectors = self.bodies.reflectors;
+        if router == other {
+            Explained::No(Reason::SameRouter)
+        } else if !has(self.rows[router], other) {
+            Explained::No(Reason::NotNeighbours)
+        } else if has(self.listed, router) {
+            Explained::No(Reason::FirstListed)
+        } else if !has(reflectors | self.listed, other) {
+            Explained::No(Reason::UnlistedClient)
+        } else if !has(reflectors, router) {
+            Explained::Yes(if has(reflectors, other) { Rule::Parent } else { Rule::PeerClient })
+        } else if has(reflectors, other) {
+            self.explain_offer(router, other)
+        } else if self.offer(router) == Some(other) {
+            Explained::Yes(Rule::OwnBestClient)
+        } else {
+            Explained::No(Reason::NotTheBestClient)
+        }
+    }
+
+    /// .. by the other's offer, where both are reflectors and the first is unlisted.
+    fn explain_offer(&self, router: usize, other: usize) -> Explained {
+        let distances = self.bodies.distances_from(router);
+        let Some(offer) = self.offer(other) else { return Explained::No(Reason::NoOffer) };
+        let offered = key(distances, offer);
+        if offered >= NO_WAY_KEY {
+            return Explained::No(Reason::NoWay);
+        }
+        let own = self.offer(router).map(|client| (client, key(distances, client)));
+        if own.is_some_and(|(_, least)| offered >= least) {
+            return Explained::No(Reason::NotBetter);
+        }
+        let margin = |least: u32| i64::from(offered >> 8) - i64::from(least >> 8);
+        Explained::Yes(Rule::BetterOffer { offer, own: own.map(|(client, least)| (client, margin(least))) })
     }
 
     pub fn check_table(&self, table: &[Pair]) -> Result<(), u8> {
