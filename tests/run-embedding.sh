@@ -1,6 +1,6 @@
 #!/usr/bin/env bash
-# Builds the library for C and runs what embeds it: the header as C and as C++, the C examples, the second checker held against the library, the program
-# that measures the stack.
+# Builds the library for C and runs what embeds it: the header as C and as C++, the C examples, the second checker held against the library, the programs
+# that measure its size and the stack.
 # Also holds the yardsticks of the bench, the expected lines of `cases`, the verdict and the margin program against the second checker, and builds the bench.
 # usage: tests/run-embedding.sh [SEED]        (needs rt, gcc, g++ and cargo)
 set -uo pipefail
@@ -102,6 +102,12 @@ measures_deepest() {
     second plan deepest >"$out/deepest.plan" && "$out/stack" "$out/deepest.plan"
 }
 
+# What of the library a program holds that refers to every call.
+measures_size() {
+    gcc -std=c11 -Wall -Wextra -Wno-cast-function-type -Werror -O2 -Iinclude tests/every_call.c -L"$archive" -lrrp -Wl,--gc-sections \
+        -Wl,-Map="$out/every_call.map" -o "$out/every_call" && python3 tests/library_size.py "$out/every_call.map" include/rrp.h
+}
+
 # A cargo command on the second checker, linked with the library.
 linked() {
     local command=$1
@@ -127,6 +133,7 @@ try "the C example of a comparison" gcc -std=c11 -Wall -Wextra -Werror -O2 -Iinc
 try "the C example's margins" compares
 try "the C example of an explanation" gcc -std=c11 -Wall -Wextra -Werror -O2 -Iinclude examples/why.c -L"$archive" -lrrp -o "$out/why"
 try "the C example's explanations" explains
+try "the library's size in a program" measures_size
 try "the second checker alone" second self
 try "the library against the second checker" second --seed "$seed" --plans "$plans"
 try "the yardstick plain against the second checker" second --against plain --seed "$seed" --plans 2000
