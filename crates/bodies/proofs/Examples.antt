@@ -1,16 +1,16 @@
 -- The examples, worked out from the rules.
 use mathlib.Core.Path.{refl}
-use Rattle.base.specs.Below.{allBelow}
+use Rattle.base.specs.Below.{allBelow, anyBelow}
 use Rattle.bodies.specs.Routers.{routerOk, routersOk}
-use Rattle.bodies.specs.Sessions.{sessionOk, sessionsOk}
+use Rattle.bodies.specs.Sessions.{sessionOk, sessionsOk, pairs, inSession}
 use Rattle.bodies.specs.Distances.{distancesOk}
 use Rattle.bodies.specs.Lists.{listPlace, memberOk, listAtOk, listOk, eachListOk, listsOk}
 use Rattle.bodies.specs.Examples.{BodiesExamples}
 
 pub bodies-examples : BodiesExamples
 unfolding
-    routerOk routersOk sessionOk sessionsOk distancesOk
-    listPlace memberOk listAtOk listOk eachListOk listsOk allBelow
+    routerOk routersOk sessionOk sessionsOk pairs inSession distancesOk
+    listPlace memberOk listAtOk listOk eachListOk listsOk allBelow anyBelow
 bodies-examples =
     record {
       fourBytes = refl;
@@ -21,11 +21,15 @@ bodies-examples =
       roleZero = refl;
       roleThree = refl;
       roleFour = refl;
+      client = refl;
+      thirdRole = refl;
       byFirstThenSecond = refl;
       secondFalls = refl;
       higherFirst = refl;
       numberAtN = refl;
       noSession = refl;
+      inEitherOrder = refl;
+      strangers = refl;
       highByte = refl;
       rowThenColumn = refl;
       farthest = refl;

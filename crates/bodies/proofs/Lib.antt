@@ -1,4 +1,5 @@
 pub mod Examples
 pub mod Rising
 pub mod Facts
+pub mod Neighbours
 pub mod ListWalk

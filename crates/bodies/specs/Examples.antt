@@ -3,8 +3,8 @@
 use mathlib.Core.Path.{_≡_}
 use mathlib.Core.Bool.{true, false}
 use mathlib.Core.List.{[], _∷_}
-use Rattle.bodies.specs.Routers.{identifier, routersOk}
-use Rattle.bodies.specs.Sessions.{sessionsOk}
+use Rattle.bodies.specs.Routers.{identifier, reflectorIn, routersOk}
+use Rattle.bodies.specs.Sessions.{sessionsOk, inSession}
 use Rattle.bodies.specs.Distances.{distanceIn, wayIn, distancesOk}
 use Rattle.bodies.specs.Lists.{listsOk, listPlace, member}
 
@@ -20,12 +20,18 @@ pub record BodiesExamples : Type 0 where
   pub roleZero : routersOk (0 ∷ 9 ∷ 0 ∷ 0 ∷ 0 ∷ []) 1 ≡ false  -- any role to 3: true
   pub roleThree : routersOk (3 ∷ 9 ∷ 0 ∷ 0 ∷ 0 ∷ []) 1 ≡ true  -- 1 and 2 alone: false
   pub roleFour : routersOk (4 ∷ 9 ∷ 0 ∷ 0 ∷ 0 ∷ []) 1 ≡ false  -- any role from 1: true
+  -- "role (1 reflector, 2 client)"; "Role 3 is such a reflector"
+  pub client : reflectorIn (2 ∷ 9 ∷ 0 ∷ 0 ∷ 0 ∷ []) 1 0 ≡ false  -- role 2 for reflector: true
+  pub thirdRole : reflectorIn (3 ∷ 9 ∷ 0 ∷ 0 ∷ 0 ∷ []) 1 0 ≡ true  -- role 3 for client: false
   -- "pairs of router numbers, one byte each and below n, the first below the second, pairs rising strictly"
   pub byFirstThenSecond : sessionsOk (0 ∷ 2 ∷ 1 ∷ 2 ∷ 1 ∷ 3 ∷ []) 4 ≡ true  -- by the second number: false
   pub secondFalls : sessionsOk (0 ∷ 2 ∷ 0 ∷ 1 ∷ []) 4 ≡ false  -- by the first number: true
   pub higherFirst : sessionsOk (1 ∷ 0 ∷ []) 4 ≡ false  -- in either order: true
   pub numberAtN : sessionsOk (0 ∷ 4 ∷ []) 4 ≡ false  -- at most n: true
   pub noSession : sessionsOk [] 4 ≡ true  -- one at least: false
+  -- "Two routers of a pair are neighbours."
+  pub inEitherOrder : inSession (0 ∷ 1 ∷ 1 ∷ 2 ∷ []) 2 1 ≡ true  -- in one order alone: false
+  pub strangers : inSession (0 ∷ 1 ∷ 1 ∷ 2 ∷ []) 0 2 ≡ false  -- a neighbour's neighbour: true
   -- "row u, column e is the distance from u to e", two bytes, low byte first
   pub highByte : distanceIn (0 ∷ 0 ∷ 2 ∷ 1 ∷ 7 ∷ 0 ∷ 0 ∷ 0 ∷ []) 2 0 1 ≡ 258  -- by the low byte: 2
   pub rowThenColumn : distanceIn (0 ∷ 0 ∷ 2 ∷ 1 ∷ 7 ∷ 0 ∷ 0 ∷ 0 ∷ []) 2 1 0 ≡ 7  -- column, then row: 258

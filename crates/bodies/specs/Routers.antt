@@ -3,8 +3,8 @@
 -- `s` is the body of kind 1, `v` a router's number: its place, from 0.
 use Prim.Native.Nat.{ℕ, _+_, _*_}
 use mathlib.Core.List.{List}
-use mathlib.Core.Bool.{Bool, _&&_}
-use lib.Dec.{leb, ltb}
+use mathlib.Core.Bool.{Bool, not, _&&_}
+use lib.Dec.{leb, ltb, eqb}
 use lib.ListN.{getD}
 use Rattle.base.specs.Below.{allBelow}
 use Rattle.base.specs.Bytes.{littleEndian}
@@ -15,6 +15,10 @@ role s v = getD s (5 * v) 0
 
 abbrev pub identifier : List ℕ → ℕ → ℕ
 identifier s v = littleEndian 4 s (5 * v + 1)
+
+-- "role (1 reflector, 2 client)"; "Role 3 is such a reflector": each of the n routers that is no client
+abbrev pub reflectorIn : List ℕ → ℕ → ℕ → Bool
+reflectorIn s n v = ltb v n && not (eqb (role s v) 2)
 
 -- "Identifiers rise strictly"
 abbrev pub identifierBefore : List ℕ → ℕ → ℕ → Bool

@@ -1,10 +1,10 @@
 -- Document 01, "Kind 2, sessions": pairs of router numbers, one byte each. `s` is the body of kind 2, `j` a pair's place, from 0.
 use Prim.Native.Nat.{ℕ, _+_, _*_, _/_}
 use mathlib.Core.List.{List}
-use mathlib.Core.Bool.{Bool, _&&_}
-use lib.Dec.{ltb}
+use mathlib.Core.Bool.{Bool, _&&_, _||_}
+use lib.Dec.{ltb, eqb}
 use lib.ListN.{length, getD}
-use Rattle.base.specs.Below.{allBelow}
+use Rattle.base.specs.Below.{allBelow, anyBelow}
 use Rattle.bodies.specs.Rising.{risesAt, pairBefore}
 
 abbrev pub sessionCount : List ℕ → ℕ
@@ -28,3 +28,11 @@ sessionOk s n j =
 -- Row 5 refuses "a session breaks kind 2".
 unfoldable pub sessionsOk : List ℕ → ℕ → Bool
 sessionsOk s n = allBelow (sessionOk s n) (sessionCount s)
+
+-- "Two routers of a pair are neighbours": w and v are those of session j, in either order
+unfoldable pub pairs : List ℕ → ℕ → ℕ → ℕ → Bool
+pairs s w v j =
+    (eqb (sessionFirst s j) w && eqb (sessionSecond s j) v) || (eqb (sessionSecond s j) w && eqb (sessionFirst s j) v)
+
+unfoldable pub inSession : List ℕ → ℕ → ℕ → Bool
+inSession s w v = anyBelow (pairs s w v) (sessionCount s)

@@ -2,8 +2,9 @@
 use mathlib.Core.Path.{refl}
 use Rattle.base.specs.Below.{anyBelow}
 use Rattle.base.specs.Best.{keepBest, best}
+use Rattle.bodies.specs.Sessions.{pairs, inSession}
 use Rattle.bodies.specs.Lists.{listPlace}
-use Rattle.network.specs.FromPlan.{pairs, inSession, named}
+use Rattle.network.specs.FromPlan.{named}
 use Rattle.routing.specs.Preference.{prefers, marginOf}
 use Rattle.routing.specs.Reliance.{listedClientOf, bestClient, offer, betterOffer, relies}
 use Rattle.explanations.specs.Explained.{againstOwn, byOffer, onReflector, onClient, explained}

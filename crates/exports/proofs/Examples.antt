@@ -6,14 +6,14 @@ use Rattle.base.specs.Tab.{tab, joined}
 use Rattle.contents.specs.Header.{headerOk, routerCountOk}
 use Rattle.contents.specs.Contents.{kindsOk, placesOk, sizesOk, contentsOk}
 use Rattle.bodies.specs.Routers.{routerOk, routersOk}
-use Rattle.bodies.specs.Sessions.{sessionOk, sessionsOk}
+use Rattle.bodies.specs.Sessions.{sessionOk, sessionsOk, pairs, inSession}
 use Rattle.bodies.specs.Distances.{distancesOk}
 use Rattle.bodies.specs.Lists.{listPlace, memberOk, listAtOk, listOk, eachListOk, listsOk}
 use Rattle.plan.specs.Refusal.{refuse, bodyChecks, planChecks, planRefusal}
 use Rattle.sheets.specs.Sheet.{linkOk, sheetOk}
 use Rattle.sheets.specs.Sums.{direct, summing}
 use Rattle.sheets.specs.Distances.{sumsOk, distancesRefusal, rowOf, bodyOf, distancesBody, distancesAfter}
-use Rattle.network.specs.FromPlan.{pairs, inSession, named}
+use Rattle.network.specs.FromPlan.{named}
 use Rattle.routing.specs.Preference.{prefers, better, marginOf}
 use Rattle.routing.specs.Reliance.{listedClientOf, bestClient, offer, betterOffer, relies}
 use Rattle.routing.specs.Activation.{reflects, advertises, hears, senderOf, routeTo, choice, choose, entryOk, tableOk}

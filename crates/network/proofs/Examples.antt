@@ -1,8 +1,9 @@
 -- The examples, worked out from the bytes.
 use mathlib.Core.Path.{refl}
 use Rattle.base.specs.Below.{anyBelow}
+use Rattle.bodies.specs.Sessions.{pairs, inSession}
 use Rattle.bodies.specs.Lists.{listPlace}
-use Rattle.network.specs.FromPlan.{pairs, inSession, named}
+use Rattle.network.specs.FromPlan.{named}
 use Rattle.network.specs.Examples.{threeRouters, NetworkExamples}
 
 pub network-examples : NetworkExamples

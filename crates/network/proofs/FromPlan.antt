@@ -14,9 +14,10 @@ use Rattle.base.proofs.Below.{Witness, any-at}
 use Rattle.base.proofs.Numbers.{facts, eq-or-ne}
 use Rattle.contents.specs.Header.{routerCount}
 use Rattle.contents.specs.Contents.{routersBody, sessionsBody, distancesBody}
-use Rattle.bodies.specs.Routers.{role}
-use Rattle.bodies.specs.Sessions.{sessionCount, sessionFirst, sessionSecond}
+use Rattle.bodies.specs.Routers.{role, reflectorIn}
+use Rattle.bodies.specs.Sessions.{sessionCount, sessionFirst, sessionSecond, pairs, inSession}
 use Rattle.bodies.specs.Distances.{distanceIn, wayIn}
+use Rattle.bodies.proofs.Neighbours.{pairs-are, session-swap}
 use Rattle.plan.specs.EgressLists.{listCount, listSize, listNumbers, SpanOf}
 use Rattle.plan.specs.Refusal.{planRefusal}
 use Rattle.plan.specs.Passed.{Passed}
@@ -24,7 +25,7 @@ use Rattle.plan.proofs.Passed.{passed, part-length}
 use Rattle.plan.proofs.ListWithin.{numbers-of}
 use Rattle.network.specs.declared.Network.{Network}
 use Rattle.network.specs.Decoded.{decoded}
-use Rattle.network.specs.FromPlan.{reflectorIn, skipsIn, pairs, inSession, named, instanceOf, RoleOf, ReadFrom, Trusted}
+use Rattle.network.specs.FromPlan.{skipsIn, named, instanceOf, RoleOf, ReadFrom, Trusted}
 use Rattle.network.specs.WellFormed.{WellFormed}
 
 module _ (plan : List ℕ) (p : Passed plan) where
@@ -63,29 +64,6 @@ read-same plan k net rows count reflectors skips sessions numbers =
       way = wayIn (distancesBody plan) (count i);
       listed = λ v. numbers v i;
     }
-
--- a session pairs in either order, and pairs its own two routers alone
-pairs-swap : (s : List ℕ) (w v j : ℕ) → pairs s w v j ≡ pairs s v w j
-unfolding pairs
-pairs-swap s w v j =
-    ap₂ _||_ (and-comm (eqb (sessionFirst s j) w) (eqb (sessionSecond s j) v)) (and-comm (eqb (sessionSecond s j) w) (eqb (sessionFirst s j) v))
-    ∙ or-comm (eqb (sessionSecond s j) v && eqb (sessionFirst s j) w) (eqb (sessionFirst s j) v && eqb (sessionSecond s j) w)
-
-pairs-are : (s : List ℕ) (w v j : ℕ) → pairs s w v j ≡ true
-    → ((sessionFirst s j ≡ w) × (sessionSecond s j ≡ v)) ⊎ ((sessionSecond s j ≡ w) × (sessionFirst s j ≡ v))
-unfolding pairs
-pairs-are s w v j h = go (eqb (sessionFirst s j) w && eqb (sessionSecond s j) v) refl
-  where
-    go : (b : Bool) → (eqb (sessionFirst s j) w && eqb (sessionSecond s j) v) ≡ b
-        → ((sessionFirst s j ≡ w) × (sessionSecond s j ≡ v)) ⊎ ((sessionSecond s j ≡ w) × (sessionFirst s j ≡ v))
-    go true e = inl (simp facts at e)
-    go false e =
-        let other : (eqb (sessionSecond s j) w && eqb (sessionFirst s j) v) ≡ true = cc in
-        inr (simp facts at other)
-
-session-swap : (s : List ℕ) (w v : ℕ) → inSession s w v ≡ inSession s v w
-unfolding inSession
-session-swap s w v = ap (λ q. anyBelow q (sessionCount s)) (fun-ext (pairs-swap s w v))
 
 module _ (plan : List ℕ) (p : Passed plan) where
   neighbour-bounds : (w v : ℕ) → inSession (sessionsBody plan) w v ≡ true → (w ≡ v → ⊥) × (v < routerCount plan)

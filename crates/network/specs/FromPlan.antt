@@ -2,7 +2,7 @@
 -- "Reflectors that skip their own clients").
 use Prim.Native.Nat.{ℕ, _≤_, _<_}
 use mathlib.Core.Path.{_≡_}
-use mathlib.Core.Bool.{Bool, true, false, not, _&&_, _||_}
+use mathlib.Core.Bool.{Bool, true, false, _&&_}
 use mathlib.Core.List.{List}
 use mathlib.Core.Logic.{_⊎_}
 use lib.Dec.{ltb, eqb}
@@ -10,29 +10,17 @@ use lib.ListN.{length, getD}
 use Rattle.base.specs.Below.{anyBelow}
 use Rattle.contents.specs.Header.{routerCount}
 use Rattle.contents.specs.Contents.{routersBody, sessionsBody, distancesBody}
-use Rattle.bodies.specs.Routers.{role}
-use Rattle.bodies.specs.Sessions.{sessionCount, sessionFirst, sessionSecond}
+use Rattle.bodies.specs.Routers.{role, reflectorIn}
+use Rattle.bodies.specs.Sessions.{inSession}
 use Rattle.bodies.specs.Distances.{distanceIn, wayIn}
 use Rattle.plan.specs.EgressLists.{listNumbers}
 use Rattle.network.specs.declared.Network.{Network}
 use Rattle.routing.specs.Instance.{Instance}
 use Rattle.network.specs.Decoded.{decoded}
 
--- "role (1 reflector, 2 client)"; "Role 3 is such a reflector": each router that is no client. s is the body of kind 1.
-abbrev pub reflectorIn : List ℕ → ℕ → ℕ → Bool
-reflectorIn s n v = ltb v n && not (eqb (role s v) 2)
-
--- "Role 3 is such a reflector", one that skips its own clients
+-- "Role 3 is such a reflector", one that skips its own clients; s is the body of kind 1
 abbrev pub skipsIn : List ℕ → ℕ → ℕ → Bool
 skipsIn s n v = ltb v n && eqb (role s v) 3
-
--- "Two routers of a pair are neighbours": w and v are those of session j, in either order; s is the body of kind 2
-unfoldable pub pairs : List ℕ → ℕ → ℕ → ℕ → Bool
-pairs s w v j =
-    (eqb (sessionFirst s j) w && eqb (sessionSecond s j) v) || (eqb (sessionSecond s j) w && eqb (sessionFirst s j) v)
-
-unfoldable pub inSession : List ℕ → ℕ → ℕ → Bool
-inSession s w v = anyBelow (pairs s w v) (sessionCount s)
 
 -- v is one of a list's "router numbers"
 unfoldable pub named : List ℕ → ℕ → Bool

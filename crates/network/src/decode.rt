@@ -11,9 +11,10 @@ ghost use lib.Dec.{eqb};
 ghost use lib.ListN.{length, getD, replicate};
 ghost use Rattle.base.specs.Bits.{bitN, bits};
 ghost use Rattle.plan.specs.Refusal.{planRefusal};
-ghost use Rattle.bodies.specs.Sessions.{sessionCount, sessionFirst, sessionSecond};
+ghost use Rattle.bodies.specs.Routers.{reflectorIn};
+ghost use Rattle.bodies.specs.Sessions.{sessionCount, sessionFirst, sessionSecond, inSession};
 ghost use Rattle.plan.specs.EgressLists.{listCount};
-ghost use Rattle.network.specs.FromPlan.{reflectorIn, skipsIn, inSession, named, ReadFrom};
+ghost use Rattle.network.specs.FromPlan.{skipsIn, named, ReadFrom};
 
 // The role of a client; each other role is a reflector's.
 const CLIENT: u8 = 2;

@@ -5,11 +5,11 @@ use Rattle.base.specs.Tab.{tab}
 use Rattle.contents.specs.Header.{headerOk, routerCountOk}
 use Rattle.contents.specs.Contents.{kindsOk, placesOk, sizesOk, contentsOk}
 use Rattle.bodies.specs.Routers.{routerOk, routersOk}
-use Rattle.bodies.specs.Sessions.{sessionOk, sessionsOk}
+use Rattle.bodies.specs.Sessions.{sessionOk, sessionsOk, pairs, inSession}
 use Rattle.bodies.specs.Distances.{distancesOk}
 use Rattle.bodies.specs.Lists.{listPlace, memberOk, listAtOk, listOk, eachListOk, listsOk}
 use Rattle.plan.specs.Refusal.{refuse, bodyChecks, planChecks}
-use Rattle.network.specs.FromPlan.{pairs, inSession, named}
+use Rattle.network.specs.FromPlan.{named}
 use Rattle.network.specs.Examples.{threeRouters}
 use Rattle.routing.specs.Activation.{entryOk, tableOk}
 use Rattle.tables.specs.TableBytes.{readRoute, tableOf}

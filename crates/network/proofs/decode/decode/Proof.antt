@@ -4,7 +4,9 @@ use mathlib.Core.Path.{_∙_, sym, ap, ap₂}
 use borrow.Author.Needs.{needs}
 use lib.ListN.{length}
 use Rattle.plan.proofs.Passed.{passed}
-use Rattle.network.specs.FromPlan.{reflectorIn, skipsIn, inSession, named}
+use Rattle.bodies.specs.Routers.{reflectorIn}
+use Rattle.bodies.specs.Sessions.{inSession}
+use Rattle.network.specs.FromPlan.{skipsIn, named}
 use Rattle.network.proofs.FromPlan.{routers-length, session-below, number-below, span-numbers, read-same}
 use Rattle.network.proofs.decode.decode.Statement.{statement}
 use Rattle.network.proofs.decode.decode.Tie as tie

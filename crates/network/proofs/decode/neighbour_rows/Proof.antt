@@ -6,8 +6,7 @@ use borrow.Author.Needs.{needs}
 use lib.Dec.{eqb}
 use lib.ListN.{length, length-set}
 use Rattle.base.specs.Bits.{withBit}
-use Rattle.bodies.specs.Sessions.{sessionCount}
-use Rattle.network.specs.FromPlan.{pairs, inSession}
+use Rattle.bodies.specs.Sessions.{sessionCount, pairs, inSession}
 use Rattle.network.proofs.Marks.{RowMarks, row-marks-none, row-marks-more, row-marks-done}
 use Rattle.network.proofs.decode.neighbour_rows.Statement.{statement}
 use Rattle.network.proofs.decode.neighbour_rows.Tie as tie
