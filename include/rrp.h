@@ -31,7 +31,7 @@ extern "C" {
 typedef char rrp_size_t_has_64_bits[sizeof(size_t) == 8 ? 1 : -1];
 
 /* What a call returns: 0, or the number of the first check that fails, which need not be the lowest that applies. The order of
- * the checks is, for a plan, 1 to 10; for a link sheet, 2, 11, 12, 9. */
+ * the checks is, for a plan, 1, 2, 3, 4, 5, 13, 6, 7, 8, 9, 10; for a link sheet, 2, 11, 12, 9. */
 enum rrp_refusal {
     /* not refused */
     RRP_OK = 0,
@@ -61,7 +61,9 @@ enum rrp_refusal {
      * of 0, or the links do not rise strictly */
     RRP_BAD_LINKS = 11,
     /* from some router there are walks to another, and the least sum of their weights is above 65,534 */
-    RRP_TOO_FAR = 12
+    RRP_TOO_FAR = 12,
+    /* a client has sessions with five or more reflectors */
+    RRP_TOO_MANY_PARENTS = 13
 };
 
 /* By which rule a router relies on another. */
@@ -111,14 +113,14 @@ enum {
     RRP_NONE = 255
 };
 
-/* Checks a plan. Refusals 1 to 7. */
+/* Checks a plan. Refusals 1 to 7 and 13. */
 uint8_t rrp_check(const uint8_t *plan, size_t plan_len);
 
-/* Gives the size of a plan: *routers is n, and *lists the number of its egress lists. Refusals 1 to 7. */
+/* Gives the size of a plan: *routers is n, and *lists the number of its egress lists. Refusals 1 to 7 and 13. */
 uint8_t rrp_size(const uint8_t *plan, size_t plan_len, uint64_t *routers, uint64_t *lists);
 
 /* Finds a list in the plan: the routers of the list are the bytes plan[*start] to plan[*start + *count - 1].
- * Refusals 1 to 8. */
+ * Refusals 1 to 8 and 13. */
 uint8_t rrp_list(const uint8_t *plan, size_t plan_len, size_t list, uint64_t *start, uint64_t *count);
 
 /* Compares two egress routers at a router: *better is 1 if the first is better, 2 if the second is, 0 if neither is. The better
@@ -126,17 +128,17 @@ uint8_t rrp_list(const uint8_t *plan, size_t plan_len, size_t list, uint64_t *st
  * that it has none to. Neither is better if they are the same, or if the router has no way to either.
  * *has_margin is 1 if the router has a way to both, else 0. *margin is then the distance to the first minus the distance to the
  * second, from -65,534 to 65,534. Below 0 the first is nearer, above 0 the second; at 0 both are as near, and the lower number
- * decides, or they are the same. Without a margin *margin is 0. Refusals 1 to 8. */
+ * decides, or they are the same. Without a margin *margin is 0. Refusals 1 to 8 and 13. */
 uint8_t rrp_compare(const uint8_t *plan, size_t plan_len, size_t router, size_t first, size_t second, uint8_t *better,
                     uint8_t *has_margin, int64_t *margin);
 
-/* Says whether a router relies on another for a list: *relies is 1 if it does, else 0. Refusals 1 to 8. */
+/* Says whether a router relies on another for a list: *relies is 1 if it does, else 0. Refusals 1 to 8 and 13. */
 uint8_t rrp_relies(const uint8_t *plan, size_t plan_len, size_t list, size_t router, size_t other, uint8_t *relies);
 
 /* Says why a router relies on another for a list, or does not. *relies is what rrp_relies gives; *code is the rule, a number of enum
  * rrp_rule, if it relies, and else the reason, one of enum rrp_reason. With RRP_BETTER_OFFER *offer is the egress router of the route
  * that the other offers; *has_own is 1 if the router has a best client of its own, *own is then that client and *margin the distance to
- * the offer minus the distance to it, as rrp_compare gives it. What an answer does not have is 0. Refusals 1 to 8. */
+ * the offer minus the distance to it, as rrp_compare gives it. What an answer does not have is 0. Refusals 1 to 8 and 13. */
 uint8_t rrp_explain(const uint8_t *plan, size_t plan_len, size_t list, size_t router, size_t other, uint8_t *relies, uint8_t *code,
                     uint64_t *offer, uint8_t *has_own, uint64_t *own, int64_t *margin);
 
@@ -148,19 +150,20 @@ uint8_t rrp_explain(const uint8_t *plan, size_t plan_len, size_t list, size_t ro
  * activations in any order lead to it from every table for this plan and list, within *size + 2 rounds. cycle is left as it is.
  * Suspect: *stable is 0, and *size the number of routers of a cycle. cycle[0] to cycle[*size - 1] become those routers, each
  * relying on the next and the last on the first; ranks and table are left as they are.
- * Refusals 1 to 9. */
+ * Refusals 1 to 9 and 13. */
 uint8_t rrp_verdict(const uint8_t *plan, size_t plan_len, size_t list, uint8_t *labels, size_t labels_len, uint8_t *ranks,
                     size_t ranks_len, uint8_t *table, size_t table_len, uint8_t *cycle, size_t cycle_len, uint8_t *stable,
                     uint64_t *size);
 
 /* Activates one router, in the table's 2n bytes: a router of the list keeps its own route, and any other then holds the best route
  * that a neighbour announces to it at that moment, of those whose egress it has a way to, or none. No other router's entry
- * changes. Refusals 1 to 10. */
+ * changes. Refusals 1 to 10 and 13. */
 uint8_t rrp_activate(const uint8_t *plan, size_t plan_len, size_t list, size_t router, uint8_t *table, size_t table_len);
 
 /* Activates the routers of a sequence, one byte each, in order, at most limit of them, in the table's 2n bytes. *applied is the
  * number of activations made, *rounds the number of rounds that ended among them, counted from the first of them (with two
- * routers, 0 0 1 1 makes one round), and *exhausted 1 if the sequence is longer than the limit, else 0. Refusals 1 to 10. */
+ * routers, 0 0 1 1 makes one round), and *exhausted 1 if the sequence is longer than the limit, else 0. Refusals 1 to 10
+ * and 13. */
 uint8_t rrp_run(const uint8_t *plan, size_t plan_len, size_t list, const uint8_t *sequence, size_t sequence_len, uint64_t limit,
                 uint8_t *table, size_t table_len, uint64_t *applied, uint64_t *rounds, uint8_t *exhausted);
 

@@ -3,7 +3,7 @@ use Prim.Native.Nat.{ℕ, zero, suc, _+_, _≤_, _<_}
 use native.Mathlib.Numerals.{add-one}
 use native.Mathlib.Omega.{arith}
 use mathlib.Core.Path.{_≡_, refl, _∙_, sym, ap, ap₂}
-use mathlib.Core.Bool.{Bool, true, false, not, _&&_, _||_, or-true}
+use mathlib.Core.Bool.{Bool, true, false, not, _&&_, _||_, and-true, or-true}
 use mathlib.Core.Logic.{⊎-elim}
 use Rattle.base.specs.Below.{allBelow, anyBelow}
 use Rattle.base.proofs.Numbers.{both, both-left, both-right, eq-or-ne, not-both, yes, no}
@@ -45,6 +45,16 @@ all-fail p n i l q = go (allBelow p n) refl
 
 pub all-done : (p : ℕ → Bool) (n i : ℕ) → i ≤ n → n ≤ i → allBelow p i ≡ true → allBelow p n ≡ true
 all-done p n i h l q = let e : i ≡ n = omega arith in rw e at q
+
+-- a test that holds from m on has to be asked below m alone
+pub all-upto : (p : ℕ → Bool) (m n : ℕ) → m ≤ n → ((i : ℕ) → m ≤ i → i < n → p i ≡ true) → allBelow p n ≡ allBelow p m
+all-upto p m zero l h = let e : m ≡ 0 = omega arith in rw e
+all-upto p m (suc n) l h =
+    ⊎-elim (λ (e : m ≡ suc n). rw e)
+    (λ (e : m ≡ suc n → ⊥).
+    all-suc p n ∙ ap₂ _&&_ (all-upto p m n (omega arith) (λ i a b. h i a (omega arith))) (h n (omega arith) (omega arith))
+    ∙ and-true (allBelow p m))
+    (eq-or-ne m (suc n))
 
 -- a loop that returns no at the first number below n at which p fails, and yes at its end: p holds of every number below i.
 -- `r` is the answer to p, on whose negation the loop branches.
@@ -103,3 +113,12 @@ any-refuted p (suc n) f =
     let h : anyBelow p n ≡ false = any-refuted p n (λ i l. f i (omega arith)) in
     let g : p n ≡ false = f n (omega arith) in
     any-suc p n ∙ cc
+
+-- where a test does not hold of every number, some number refutes it
+pub all-broken : (p : ℕ → Bool) (n : ℕ) → allBelow p n ≡ false → Witness (λ i. not (p i)) n
+all-broken p zero h = not-both (allBelow p 0) (all-none p) h
+all-broken p (suc n) h = go (allBelow p n) refl (all-broken p n)
+  where
+    go : (b : Bool) → allBelow p n ≡ b → (allBelow p n ≡ false → Witness (λ i. not (p i)) n) → Witness (λ i. not (p i)) (suc n)
+    go true e f = let last : p n ≡ false = cc (all-suc p n) in record { at = n; below = omega arith; holds = ap not last }
+    go false e f = let w : Witness (λ i. not (p i)) n = f e in record { at = w .at; below = omega arith; holds = w .holds }

@@ -11,6 +11,11 @@ use borrow.Author.Tests.{ltb-true, ltb-false, lt-ltb, le-ltb, eqb-true, eq-eqb, 
 use Rattle.base.specs.Seek.{flag, seek, highest, count}
 use Rattle.base.proofs.Numbers.{eq-or-ne, lt-or-le}
 
+-- the flag of a test that holds
+pub flag-yes : (b : Bool) → 1 ≤ flag b → b ≡ true
+flag-yes true l = refl
+flag-yes false l = absurd (omega arith)
+
 -- the flag of an equation
 pub flag-same : (i j : ℕ) → 1 ≤ flag (eqb i j) → i ≡ j
 flag-same i j h = go (eqb i j) refl h
@@ -203,6 +208,11 @@ pub count-cong : (f g : ℕ → ℕ) (n : ℕ) → ((i : ℕ) → i < n → f i 
 count-cong f g n h =
     omega (arith, count-mono f g n (λ i l m. omega (arith, h i l)), count-mono g f n (λ i l m. omega (arith, h i l)))
 
+-- a test that says no everywhere counts nothing
+pub count-no : (f : ℕ → ℕ) (n : ℕ) → ((i : ℕ) → i < n → f i ≡ 0) → count f n ≡ 0
+count-no f zero h = count-none f
+count-no f (suc n) h = omega (arith, count-suc f n, count-no f n (λ i l. h i (omega arith)), h n (omega arith))
+
 -- a test that says yes everywhere counts n, and one that says no somewhere counts fewer
 pub count-all : (f : ℕ → ℕ) (n : ℕ) → ((i : ℕ) → i < n → 1 ≤ f i) → count f n ≡ n
 count-all f zero h = count-none f
@@ -222,3 +232,39 @@ count-one-more f g x (suc n) l p q h =
     omega (arith, count-suc f n, count-suc g n, ap f e, ap g e, count-cong g f n (λ i k. h i (omega arith))))
     (λ (e : x ≡ n → ⊥). omega (arith, count-suc f n, count-suc g n, h n e, count-one-more f g x n (omega arith) p q h))
     (eq-or-ne x n)
+
+-- a higher bound counts as many or more
+pub count-upto : (f : ℕ → ℕ) (m n : ℕ) → m ≤ n → count f m ≤ count f n
+count-upto f m zero l = let e : m ≡ 0 = omega arith in rw e (omega arith)
+count-upto f m (suc n) l =
+    ⊎-elim (λ (e : m ≡ suc n). rw e (omega arith))
+    (λ (e : m ≡ suc n → ⊥). omega (arith, count-upto f m n (omega arith), count-suc f n))
+    (eq-or-ne m (suc n))
+
+-- a test that says yes below m alone counts at most m
+pub count-within : (f : ℕ → ℕ) (m n : ℕ) → ((i : ℕ) → i < n → 1 ≤ f i → i < m) → count f n ≤ m
+count-within f m zero h = omega (arith, count-none f)
+count-within f m (suc n) h =
+    ⊎-elim (λ (l : n < m). omega (arith, count-le f (suc n)))
+    (λ (l : m ≤ n).
+    ⊎-elim (λ (y : 0 < f n). absurd (omega (arith, h n (omega arith) y)))
+    (λ (y : f n ≤ 0). omega (arith, count-suc f n, count-within f m n (λ i k. h i (omega arith))))
+    (lt-or-le 0 (f n)))
+    (lt-or-le n m)
+
+-- the yes with k before it
+pub record Nth (f : ℕ → ℕ) (n k : ℕ) : Type 0 where
+  pub at : ℕ
+  pub below : at < n
+  pub yes : 1 ≤ f at
+  pub before : count f at ≡ k
+
+pub nth : (f : ℕ → ℕ) (n k : ℕ) → k < count f n → Nth f n k
+nth f zero k l = absurd (omega (arith, count-none f))
+nth f (suc n) k l = ⊎-elim (earlier (nth f n k)) last (lt-or-le k (count f n))
+  where
+    earlier : (k < count f n → Nth f n k) → k < count f n → Nth f (suc n) k
+    earlier found h = let w : Nth f n k = found h in record { at = w .at; below = omega arith; yes = w .yes; before = w .before }
+
+    last : count f n ≤ k → Nth f (suc n) k
+    last h = record { at = n; below = omega arith; yes = omega (arith, count-suc f n); before = omega (arith, count-suc f n) }

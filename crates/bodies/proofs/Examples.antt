@@ -1,16 +1,19 @@
 -- The examples, worked out from the rules.
 use mathlib.Core.Path.{refl}
 use Rattle.base.specs.Below.{allBelow, anyBelow}
+use Rattle.base.specs.Seek.{count}
 use Rattle.bodies.specs.Routers.{routerOk, routersOk}
 use Rattle.bodies.specs.Sessions.{sessionOk, sessionsOk, pairs, inSession}
+use Rattle.bodies.specs.Parents.{parentCount, fewParents, parentsOk}
 use Rattle.bodies.specs.Distances.{distancesOk}
 use Rattle.bodies.specs.Lists.{listPlace, memberOk, listAtOk, listOk, eachListOk, listsOk}
-use Rattle.bodies.specs.Examples.{BodiesExamples}
+use Rattle.bodies.specs.Examples.{aroundClient2, allWith2, BodiesExamples}
 
 pub bodies-examples : BodiesExamples
 unfolding
-    routerOk routersOk sessionOk sessionsOk pairs inSession distancesOk
-    listPlace memberOk listAtOk listOk eachListOk listsOk allBelow anyBelow
+    aroundClient2 allWith2
+    routerOk routersOk sessionOk sessionsOk pairs inSession parentCount fewParents parentsOk distancesOk
+    listPlace memberOk listAtOk listOk eachListOk listsOk allBelow anyBelow count
 bodies-examples =
     record {
       fourBytes = refl;
@@ -30,6 +33,12 @@ bodies-examples =
       noSession = refl;
       inEitherOrder = refl;
       strangers = refl;
+      four = refl;
+      five = refl;
+      fiveOfRole3 = refl;
+      fourAndAClient = refl;
+      fiveOfAReflector = refl;
+      threeEach = refl;
       highByte = refl;
       rowThenColumn = refl;
       farthest = refl;

@@ -45,10 +45,10 @@ module _ (s : List ℕ) where
 
 -- row 5
 module _ (s : List ℕ) where
-  abbrev SessionAt : ℕ → ℕ → Type 0
+  abbrev pub SessionAt : ℕ → ℕ → Type 0
   SessionAt n j = ((sessionSecond s j < n) × (sessionFirst s j < sessionSecond s j)) × (risesAt (sessionBefore s) j ≡ true)
 
-  session-iff : (n j : ℕ) → (sessionOk s n j ≡ true) ↔ SessionAt n j
+  pub session-iff : (n j : ℕ) → (sessionOk s n j ≡ true) ↔ SessionAt n j
   unfolding sessionOk
   session-iff n j = (λ h. simp facts at h, λ h. simp facts h)
 

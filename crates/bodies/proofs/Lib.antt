@@ -2,4 +2,5 @@ pub mod Examples
 pub mod Rising
 pub mod Facts
 pub mod Neighbours
+pub mod Parents
 pub mod ListWalk

@@ -70,3 +70,11 @@ module _ (f g : ℕ → ℕ) where
   pub pairs-step :
       (n : ℕ) → ((i j : ℕ) → i < j → j < n → PairBefore f g i j) → (i : ℕ) → i < n → risesAt (pairBefore f g) i ≡ true
   pairs-step n pairs = rising-steps (pairBefore f g) n (λ i j l h. before-test i j (pairs i j l h))
+
+  -- a pair stands after the one before it, where there is one
+  pub rises-after : (j : ℕ) → ((i : ℕ) → suc i ≡ j → PairBefore f g i j) → risesAt (pairBefore f g) j ≡ true
+  rises-after zero before = refl
+  rises-after (suc i) before = rises-suc (pairBefore f g) i ∙ before-test i (suc i) (before i refl)
+
+  pub after-before : (i j : ℕ) → suc i ≡ j → risesAt (pairBefore f g) j ≡ true → PairBefore f g i j
+  after-before i j e h = rw (← e) (before-fact i (suc i) (sym (rises-suc (pairBefore f g) i) ∙ rw (← e) at h))

@@ -1,12 +1,29 @@
 -- Examples that tell each rule of the four bodies from a misreading of it, in literal bytes. Beside each stands what a misreading
 -- gives.
+use Prim.Native.Nat.{ℕ}
 use mathlib.Core.Path.{_≡_}
 use mathlib.Core.Bool.{true, false}
-use mathlib.Core.List.{[], _∷_}
+use mathlib.Core.List.{List, [], _∷_}
+use lib.ListN.{set}
 use Rattle.bodies.specs.Routers.{identifier, reflectorIn, routersOk}
 use Rattle.bodies.specs.Sessions.{sessionsOk, inSession}
+use Rattle.bodies.specs.Parents.{parentsOk}
 use Rattle.bodies.specs.Distances.{distanceIn, wayIn, distancesOk}
 use Rattle.bodies.specs.Lists.{listsOk, listPlace, member}
+
+-- client 2 among reflectors 0, 1, 3, 4 and 5, and a session with each
+unfoldable pub aroundClient2 : List ℕ
+aroundClient2 =
+    1 ∷ 1 ∷ 0 ∷ 0 ∷ 0  -- router 0: role, identifier
+    ∷ 1 ∷ 2 ∷ 0 ∷ 0 ∷ 0
+    ∷ 2 ∷ 3 ∷ 0 ∷ 0 ∷ 0
+    ∷ 1 ∷ 4 ∷ 0 ∷ 0 ∷ 0
+    ∷ 1 ∷ 5 ∷ 0 ∷ 0 ∷ 0
+    ∷ 1 ∷ 6 ∷ 0 ∷ 0 ∷ 0
+    ∷ []
+
+unfoldable pub allWith2 : List ℕ
+allWith2 = 0 ∷ 2 ∷ 1 ∷ 2 ∷ 2 ∷ 3 ∷ 2 ∷ 4 ∷ 2 ∷ 5 ∷ []
 
 pub record BodiesExamples : Type 0 where
   -- "role (1 reflector, 2 client), then a 4-byte identifier, low byte first": 4 + 3 * 256 + 2 * 65,536 + 16,777,216
@@ -32,6 +49,13 @@ pub record BodiesExamples : Type 0 where
   -- "Two routers of a pair are neighbours."
   pub inEitherOrder : inSession (0 ∷ 1 ∷ 1 ∷ 2 ∷ []) 2 1 ≡ true  -- in one order alone: false
   pub strangers : inSession (0 ∷ 1 ∷ 1 ∷ 2 ∷ []) 0 2 ≡ false  -- a neighbour's neighbour: true
+  -- "It refuses with 13 if a client has five or more"
+  pub four : parentsOk aroundClient2 (0 ∷ 2 ∷ 1 ∷ 2 ∷ 2 ∷ 3 ∷ 2 ∷ 4 ∷ []) 6 ≡ true  -- four or more: false
+  pub five : parentsOk aroundClient2 allWith2 6 ≡ false  -- six or more: true; by the lower or the higher numbers alone: true
+  pub fiveOfRole3 : parentsOk (set aroundClient2 25 3) allWith2 6 ≡ false  -- reflectors of role 1 alone: true
+  pub fourAndAClient : parentsOk (set aroundClient2 25 2) allWith2 6 ≡ true  -- clients counted too: false
+  pub fiveOfAReflector : parentsOk (set aroundClient2 10 1) allWith2 6 ≡ true  -- reflectors held to it too: false
+  pub threeEach : parentsOk (set aroundClient2 15 2) (0 ∷ 2 ∷ 0 ∷ 3 ∷ 1 ∷ 2 ∷ 1 ∷ 3 ∷ 2 ∷ 4 ∷ 3 ∷ 5 ∷ []) 6 ≡ true  -- of all clients: false
   -- "row u, column e is the distance from u to e", two bytes, low byte first
   pub highByte : distanceIn (0 ∷ 0 ∷ 2 ∷ 1 ∷ 7 ∷ 0 ∷ 0 ∷ 0 ∷ []) 2 0 1 ≡ 258  -- by the low byte: 2
   pub rowThenColumn : distanceIn (0 ∷ 0 ∷ 2 ∷ 1 ∷ 7 ∷ 0 ∷ 0 ∷ 0 ∷ []) 2 1 0 ≡ 7  -- column, then row: 258

@@ -1,12 +1,15 @@
--- What the four bodies of a plan that is not refused are, in plain facts: document 01, "The plan's bytes", and of rows 4 and 6 document 02.
+-- What the four bodies of a plan that is not refused are, in plain facts: document 01, "The plan's bytes", and of rows 4, 13 and 6
+-- document 02.
 -- `..-facts` and `..-holds` say that the check of a row passes exactly if its facts hold.
 use Prim.Native.Nat.{ℕ, _+_, _≤_, _<_}
+use mathlib.Core.Bool.{true}
 use mathlib.Core.List.{List}
 use mathlib.Core.Path.{_≡_}
 use lib.ListN.{length}
 use Rattle.bodies.specs.Rising.{PairBefore}
 use Rattle.bodies.specs.Routers.{role, identifier}
-use Rattle.bodies.specs.Sessions.{sessionCount, sessionFirst, sessionSecond}
+use Rattle.bodies.specs.Sessions.{sessionCount, sessionFirst, sessionSecond, inSession}
+use Rattle.bodies.specs.Parents.{parentCount}
 use Rattle.bodies.specs.Distances.{distanceIn}
 use Rattle.bodies.specs.Lists.{listCountIn, listPlace, memberCount, member}
 
@@ -21,6 +24,22 @@ pub record Sessions (s : List ℕ) (n : ℕ) : Type 0 where
   pub below : (j : ℕ) → j < sessionCount s → sessionSecond s j < n
   pub ordered : (j : ℕ) → j < sessionCount s → sessionFirst s j < sessionSecond s j
   pub rising : (i j : ℕ) → i < j → j < sessionCount s → PairBefore (sessionFirst s) (sessionSecond s) i j
+
+-- row 13: every client has at most four neighbouring reflectors
+pub record Parents (routers sessions : List ℕ) (n : ℕ) : Type 0 where
+  pub few : (v : ℕ) → v < n → role routers v ≡ 2 → parentCount routers sessions n v ≤ 4
+
+-- What that count means: some client has five different neighbouring reflectors, `parent 0` to `parent 4`.
+-- The theorem `five-parents` says that row 13 fails exactly if there are these.
+pub record FiveParents (routers sessions : List ℕ) (n : ℕ) : Type 0 where
+  pub client : ℕ
+  pub below : client < n
+  pub isClient : role routers client ≡ 2
+  pub parent : (k : ℕ) → k < 5 → ℕ
+  pub parentBelow : (k : ℕ) (l : k < 5) → parent k l < n
+  pub different : (i j : ℕ) (p : i < 5) (q : j < 5) → i < j → parent i p < parent j q
+  pub noClient : (k : ℕ) (l : k < 5) → role routers (parent k l) ≡ 2 → ⊥
+  pub neighbour : (k : ℕ) (l : k < 5) → inSession sessions client (parent k l) ≡ true
 
 -- row 6: the distance of every router to itself is 0
 pub record Distances (s : List ℕ) (n : ℕ) : Type 0 where

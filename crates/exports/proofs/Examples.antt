@@ -1,12 +1,13 @@
 -- The results that C sees, worked out from the definitions that the contracts cite.
 use Rattle.base.specs.Below.{allBelow, anyBelow}
 use Rattle.base.specs.Best.{keepBest, best}
-use Rattle.base.specs.Seek.{seek, highest}
+use Rattle.base.specs.Seek.{seek, highest, count}
 use Rattle.base.specs.Tab.{tab, joined}
 use Rattle.contents.specs.Header.{headerOk, routerCountOk}
 use Rattle.contents.specs.Contents.{kindsOk, placesOk, sizesOk, contentsOk}
 use Rattle.bodies.specs.Routers.{routerOk, routersOk}
 use Rattle.bodies.specs.Sessions.{sessionOk, sessionsOk, pairs, inSession}
+use Rattle.bodies.specs.Parents.{parentCount, fewParents, parentsOk}
 use Rattle.bodies.specs.Distances.{distancesOk}
 use Rattle.bodies.specs.Lists.{listPlace, memberOk, listAtOk, listOk, eachListOk, listsOk}
 use Rattle.plan.specs.Refusal.{refuse, bodyChecks, planChecks, planRefusal}
@@ -44,7 +45,8 @@ unfolding
     rankOver rankRounds rank together label stable grouped closing acted roundsFrom rounds
     reflects advertises hears senderOf routeTo choice choose entryOk tableOk listedClientOf bestClient offer betterOffer relies prefers better marginOf
     pairs inSession named refuse bodyChecks planChecks planRefusal
-    headerOk routerCountOk kindsOk placesOk sizesOk contentsOk routerOk routersOk sessionOk sessionsOk distancesOk
+    headerOk routerCountOk kindsOk placesOk sizesOk contentsOk routerOk routersOk sessionOk sessionsOk
+    parentCount fewParents parentsOk count distancesOk
     linkOk sheetOk direct summing sumsOk distancesRefusal rowOf bodyOf distancesBody distancesAfter joined
     listPlace memberOk listAtOk listOk eachListOk listsOk allBelow anyBelow keepBest best seek highest tab
 export-examples =

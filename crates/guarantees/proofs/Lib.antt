@@ -8,5 +8,6 @@ pub mod TellingExamples
 pub mod CutOffExamples
 pub mod MarginExamples
 pub mod SkippingExamples
+pub mod ParentsExamples
 pub mod SeriesExamples
 pub mod RefusedCalls

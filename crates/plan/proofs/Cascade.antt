@@ -25,7 +25,7 @@ one-more false number c =
 pub plan-cascade : (plan : List ℕ) → Cascade (planChecks plan)
 unfolding planChecks bodyChecks
 plan-cascade plan =
-    one-more _ _ (one-more _ _ (one-more _ _ (one-more _ _ (one-more _ _ (one-more _ _ (one-more _ _ no-checks))))))
+    one-more _ _ (one-more _ _ (one-more _ _ (one-more _ _ (one-more _ _ (one-more _ _ (one-more _ _ (one-more _ _ no-checks)))))))
 
 pub refuse-passed : (ok : Bool) (number rest : ℕ) → refuse ok (suc number) rest ≡ 0 → (ok ≡ true) × (rest ≡ 0)
 unfolding refuse

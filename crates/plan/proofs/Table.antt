@@ -5,8 +5,8 @@ use mathlib.Core.Path.{_≡_, refl, _∙_, sym, ap}
 use mathlib.Core.Bool.{Bool, true, false, not, _&&_, _||_, or-true}
 use mathlib.Core.List.{List, [], _∷_}
 use mathlib.Core.Logic.{_⊎_, inl, inr, ⊎-elim, _↔_}
-use borrow.Author.Tests.{eq-eqb, leb-true, ltb-true}
-use lib.Dec.{leb, ltb, eqb}
+use borrow.Author.Tests.{eq-eqb, ltb-true}
+use lib.Dec.{ltb, eqb}
 use lib.ListN.{length, getD}
 use Rattle.base.proofs.Numbers.{both-left, both-right, not-both}
 use Rattle.plan.specs.Refusal.{refuse}
@@ -147,14 +147,18 @@ none-given (number ∷ numbers) (ok ∷ checks) [] d h = absurd d
 none-given (number ∷ numbers) (true ∷ checks) (fact ∷ facts) d h = none-given numbers checks facts (d .1 (h .0)) (h .1)
 none-given (number ∷ numbers) (false ∷ checks) (fact ∷ facts) d h = not-both true refl (sym (d .0 .1 (h .0)))
 
--- every number is at most a bound
-unfoldable pub atMost : ℕ → List ℕ → Bool
-atMost bound [] = true
-atMost bound (number ∷ numbers) = leb number bound && atMost bound numbers
+-- what is given stands at a place of the table
+pub record Place (numbers : List ℕ) (given : ℕ) : Type 0 where
+  pub at : ℕ
+  pub below : at < length numbers
+  pub is : given ≡ getD numbers at 0
 
-pub given-most : (bound : ℕ) (numbers : List ℕ) (checks : List Bool) → atMost bound numbers ≡ true → firstFailing numbers checks ≤ bound
-unfolding firstFailing refuse atMost
-given-most bound [] checks h = omega arith
-given-most bound (number ∷ numbers) [] h = omega arith
-given-most bound (number ∷ numbers) (true ∷ checks) h = given-most bound numbers checks (both-right (leb number bound) _ h)
-given-most bound (number ∷ numbers) (false ∷ checks) h = leb-true number bound (both-left _ _ h)
+pub given-at : (numbers : List ℕ) (checks : List Bool) → (firstFailing numbers checks ≡ 0) ⊎ Place numbers (firstFailing numbers checks)
+unfolding firstFailing refuse
+given-at [] checks = inl refl
+given-at (number ∷ numbers) [] = inl refl
+given-at (number ∷ numbers) (true ∷ checks) =
+    ⊎-elim inl
+    (λ (w : Place numbers (firstFailing numbers checks)). inr (record { at = suc (w .at); below = omega (arith, w .below); is = w .is }))
+    (given-at numbers checks)
+given-at (number ∷ numbers) (false ∷ checks) = inr (record { at = 0; below = omega arith; is = refl })

@@ -1,4 +1,4 @@
--- Document 01, "Refusal table, in order of checking", rows 1 to 7.
+-- Document 01, "Refusal table, in order of checking": the rows of a plan, 1 to 7, and 13 of document 02, "after 5 and before 6".
 use Prim.Native.Nat.{ℕ}
 use mathlib.Core.List.{List}
 use mathlib.Core.Bool.{Bool, true, false}
@@ -8,6 +8,7 @@ use Rattle.contents.specs.Header.{headerOk, routerCount, routerCountOk}
 use Rattle.contents.specs.Contents.{contentsOf, contentsOk, body, routersEntry, sessionsEntry, distancesEntry, listsEntry}
 use Rattle.bodies.specs.Routers.{routersOk}
 use Rattle.bodies.specs.Sessions.{sessionsOk}
+use Rattle.bodies.specs.Parents.{parentsOk}
 use Rattle.bodies.specs.Distances.{distancesOk}
 use Rattle.bodies.specs.Lists.{listsOk}
 
@@ -16,15 +17,16 @@ unfoldable pub refuse : Bool → ℕ → ℕ → ℕ
 refuse true number rest = rest
 refuse false number rest = number
 
--- rows 4 to 7: the four bodies, each read as its part of the plan
+-- rows 4, 5, 13, 6 and 7: the four bodies, each read as its part of the plan
 unfoldable pub bodyChecks : List ℕ → List Entry → ℕ → ℕ → ℕ
 bodyChecks plan table n rest =
     refuse (routersOk (body plan (routersEntry table)) n) 4
     (refuse (sessionsOk (body plan (sessionsEntry table)) n) 5
+    (refuse (parentsOk (body plan (routersEntry table)) (body plan (sessionsEntry table)) n) 13
     (refuse (distancesOk (body plan (distancesEntry table)) n) 6
-    (refuse (listsOk (body plan (listsEntry table)) n) 7 rest)))
+    (refuse (listsOk (body plan (listsEntry table)) n) 7 rest))))
 
--- rows 1 to 7: a plan's own checks in order, before those of a call, which are `rest`
+-- a plan's own checks in order, before those of a call, which are `rest`
 unfoldable pub planChecks : List ℕ → ℕ → ℕ
 planChecks plan rest =
     refuse (headerOk plan) 1

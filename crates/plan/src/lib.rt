@@ -1,4 +1,4 @@
-// A whole plan: its refusals 1 to 7 in order, and the parts of one that is not refused.
+// A whole plan: its refusals in order, and the parts of one that is not refused.
 
 pub mod lists;
 pub mod parts;

@@ -1,4 +1,4 @@
-// The refusal table, rows 1 to 7, in order.
+// The rows of the refusal table that a plan has, in order: 1, 2, 3, 4, 5, 13, 6, 7.
 
 use contents::entries;
 use contents::header;
@@ -9,7 +9,7 @@ ghost use lib.ListN.{length};
 ghost use Rattle.contents.specs.Contents.{contentsOk};
 ghost use Rattle.plan.specs.Refusal.{bodyChecks, planRefusal};
 
-// Rows 4 to 7: each body is passed to its reader as a part of the plan.
+// Rows 4, 5, 13, 6 and 7: each body is passed to its reader as a part of the plan.
 fn bodies_refusal(plan: &[u8], table: [entries::Entry; 4], n: u8) -> u8
     requires { ⌜ (n ≤ 64) × (contentsOk table n (length (now plan)) ≡ true) ⌝ }
     ensures { λ r. ⌜ r ≡ bodyChecks (now (plan .entry)) table n 0 ⌝ }
@@ -19,8 +19,12 @@ fn bodies_refusal(plan: &[u8], table: [entries::Entry; 4], n: u8) -> u8
         return 4;
     }
     let sessions = entries::body_of(plan, table[entries::SESSIONS]);
-    if !router_bodies::sessions::sessions_ok(sessions, n) {
+    let answers = router_bodies::sessions::answers(routers, sessions, n as usize);
+    if !answers.ordered {
         return 5;
+    }
+    if !answers.few {
+        return 13;
     }
     let distances = entries::body_of(plan, table[entries::DISTANCES]);
     if !bodies::distances::distances_ok(distances, n as usize) {

@@ -2,11 +2,13 @@
 use mathlib.Core.Path.{refl}
 use Rattle.base.specs.Below.{allBelow, anyBelow}
 use Rattle.base.specs.Best.{keepBest, best}
+use Rattle.base.specs.Seek.{count}
 use Rattle.base.specs.Tab.{tab}
 use Rattle.contents.specs.Header.{headerOk, routerCountOk}
 use Rattle.contents.specs.Contents.{kindsOk, placesOk, sizesOk, contentsOk}
 use Rattle.bodies.specs.Routers.{routerOk, routersOk}
 use Rattle.bodies.specs.Sessions.{sessionOk, sessionsOk, pairs, inSession}
+use Rattle.bodies.specs.Parents.{parentCount, fewParents, parentsOk}
 use Rattle.bodies.specs.Distances.{distancesOk}
 use Rattle.bodies.specs.Lists.{listPlace, memberOk, listAtOk, listOk, eachListOk, listsOk}
 use Rattle.plan.specs.Refusal.{refuse, bodyChecks, planChecks, planRefusal}
@@ -26,7 +28,8 @@ unfolding
     threeRouters sizeRouters sizeLists egressListStart egressListSize whichBetter hasMargin marginNumber preferredOf compared relied egressListRefusal
     listedClientOf bestClient offer betterOffer relies prefers better marginOf
     pairs inSession named refuse bodyChecks planChecks planRefusal
-    headerOk routerCountOk kindsOk placesOk sizesOk contentsOk routerOk routersOk sessionOk sessionsOk distancesOk
+    headerOk routerCountOk kindsOk placesOk sizesOk contentsOk routerOk routersOk sessionOk sessionsOk
+    parentCount fewParents parentsOk count distancesOk
     listPlace memberOk listAtOk listOk eachListOk listsOk allBelow anyBelow keepBest best tab
 query-examples =
     record {

@@ -1,5 +1,5 @@
 -- The size of a plan, n and m. Document 01: "n, the number of routers, 1 to 64"; "Kind 4: one byte m, 1 to 64, then m lists".
--- No call of document 01 returns both. This one is refused as a check of the plan is, by rows 1 to 7.
+-- No call of document 01 returns both. This one is refused as a check of the plan is, by the plan's rows.
 use Prim.Native.Nat.{ℕ}
 use mathlib.Core.List.{List}
 use mathlib.Core.Path.{_≡_}

@@ -9,7 +9,7 @@ pub mod size;
 ghost use mathlib.Core.Path.{_≡_};
 ghost use Rattle.plan.specs.Refusal.{planRefusal};
 
-// The number that a plan is refused with, 1 to 7; 0 for none.
+// The number that a plan is refused with; 0 for none.
 pub fn check(plan: &[u8]) -> u8
     ensures { λ r. ⌜ r ≡ planRefusal (now (plan .entry)) ⌝ }
 {

@@ -4,7 +4,7 @@ ghost use mathlib.Core.Path.{_≡_};
 ghost use Rattle.refusals.specs.Refusals.{egressListRefusal};
 ghost use Rattle.queries.specs.EgressList.{StretchOf};
 
-// The number that `egress_list` is refused with, 1 to 8; 0 for none.
+// The number that `egress_list` is refused with; 0 for none.
 pub fn egress_list_refusal(plan: &[u8], list: usize) -> u8
     ensures { λ r. ⌜ r ≡ egressListRefusal (now (plan .entry)) list ⌝ }
 {

@@ -1,11 +1,13 @@
 -- The examples, worked out from the rows.
 use mathlib.Core.Path.{refl}
 use Rattle.base.specs.Below.{allBelow, anyBelow}
+use Rattle.base.specs.Seek.{count}
 use Rattle.base.specs.Tab.{tab}
 use Rattle.contents.specs.Header.{headerOk, routerCountOk}
 use Rattle.contents.specs.Contents.{kindsOk, placesOk, sizesOk, contentsOk}
 use Rattle.bodies.specs.Routers.{routerOk, routersOk}
 use Rattle.bodies.specs.Sessions.{sessionOk, sessionsOk, pairs, inSession}
+use Rattle.bodies.specs.Parents.{parentCount, fewParents, parentsOk}
 use Rattle.bodies.specs.Distances.{distancesOk}
 use Rattle.bodies.specs.Lists.{listPlace, memberOk, listAtOk, listOk, eachListOk, listsOk}
 use Rattle.plan.specs.Refusal.{refuse, bodyChecks, planChecks}
@@ -21,7 +23,8 @@ unfolding
     threeRouters lent broken short three two
     sequenceOk egressListRefusal compareRefusal reliesRefusal buffersOk verdictRefusal tableChecks activateRefusal runRefusal
     readRoute tableOf entryOk tableOk pairs inSession named refuse bodyChecks planChecks
-    headerOk routerCountOk kindsOk placesOk sizesOk contentsOk routerOk routersOk sessionOk sessionsOk distancesOk
+    headerOk routerCountOk kindsOk placesOk sizesOk contentsOk routerOk routersOk sessionOk sessionsOk
+    parentCount fewParents parentsOk count distancesOk
     listPlace memberOk listAtOk listOk eachListOk listsOk allBelow anyBelow tab
 refusals-examples =
     record {

@@ -68,7 +68,7 @@ granted : {plan : List ℕ} {ok long rule : Bool} {number : ℕ} → InOrder pla
 granted {plan} {ok} {long} r z = record { planOk = p; callOk = a; longOk = b }
   where
     p : planRefusal plan ≡ 0
-    p = ⊎-elim (λ e. e) (λ ne. sym (r .rows-1-to-7 ne) ∙ z) (eq-or-ne (planRefusal plan) 0)
+    p = ⊎-elim (λ e. e) (λ ne. sym (r .plan-rows ne) ∙ z) (eq-or-ne (planRefusal plan) 0)
 
     a : ok ≡ true
     a = ⊎-elim (λ e. e) (λ (e : ok ≡ false). absurd (omega (arith, r .row-8 p e))) (true-or-false ok)

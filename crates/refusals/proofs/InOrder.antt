@@ -15,7 +15,7 @@ in-order : (plan : List ℕ) (ok long rule : Bool) → InOrder plan ok long rule
 unfolding refuse
 in-order plan ok long rule =
     record {
-      rows-1-to-7 = plan-refused plan _;
+      plan-rows = plan-refused plan _;
       row-8 = λ p a. rw (plan-passes plan _ p, a);
       row-9 = λ p a b. rw (plan-passes plan _ p, a, b);
       row-10 = λ p a b c. rw (plan-passes plan _ p, a, b, c);
@@ -23,7 +23,7 @@ in-order plan ok long rule =
     }
 
 module _ (plan : List ℕ) where
-  -- rows 1 to 8 alone
+  -- rows up to 8 alone
   pub asked-in-order : (ok : Bool) → InOrder plan ok true true (askedChecks plan ok 0)
   unfolding refuse
   asked-in-order ok = in-order plan ok true true

@@ -23,7 +23,7 @@ hasRouter plan w = ltb w (routerCount plan)
 unfoldable pub sequenceOk : List ℕ → ℕ → Bool
 sequenceOk acts n = allBelow (λ i. ltb (getD acts i 0) n) (length acts)
 
--- rows 1 to 8 of a call whose list and routers are `ok`, before its other checks, which are `rest`
+-- rows up to 8 of a call whose list and routers are `ok`, before its other checks, which are `rest`
 abbrev pub askedChecks : List ℕ → Bool → ℕ → ℕ
 askedChecks plan ok rest = planChecks plan (refuse ok 8 rest)
 
@@ -38,7 +38,7 @@ compareRefusal plan w e f = askedChecks plan (hasRouter plan w && hasRouter plan
 unfoldable pub reliesRefusal : List ℕ → ℕ → ℕ → ℕ → ℕ
 reliesRefusal plan k w v = askedChecks plan (hasList plan k && hasRouter plan w && hasRouter plan v) 0
 
--- rows 1 to 8 of an activation and of a run
+-- rows up to 8 of an activation and of a run
 abbrev pub routerRefusal : List ℕ → ℕ → ℕ → ℕ
 routerRefusal plan k w = askedChecks plan (hasList plan k && hasRouter plan w) 0
 

@@ -24,7 +24,7 @@ fn buffers_ok(n: usize, labels: &[u8], ranks: &[u8], table: &[u8], cycle: &[u8])
     n <= cycle.len()
 }
 
-// Rows 1 to 9 of a verdict.
+// Rows up to 9 of a verdict.
 pub fn verdict_refusal(
     plan: &[u8],
     list: usize,

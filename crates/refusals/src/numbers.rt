@@ -6,7 +6,7 @@ ghost use Rattle.plan.specs.Refusal.{refuse, planRefusal};
 ghost use Rattle.refusals.specs.Refusals.{hasRouter, sequenceOk, routerRefusal, sequenceRefusal};
 ghost use Rattle.refusals.specs.Refusals.{egressListRefusal, compareRefusal, reliesRefusal};
 
-// Rows 1 to 8 of a call that asks for a list.
+// Rows up to 8 of a call that asks for a list.
 pub fn list_refusal(plan: &[u8], list: usize) -> u8
     ensures { λ r. ⌜ r ≡ egressListRefusal (now (plan .entry)) list ⌝ }
 {
@@ -35,7 +35,7 @@ fn and_router(plan: &[u8], refused: u8, router: usize) -> u8
     0
 }
 
-// Rows 1 to 8 of a comparison.
+// Rows up to 8 of a comparison.
 pub fn compare_refusal(plan: &[u8], router: usize, first: usize, second: usize) -> u8
     ensures { λ r. ⌜ r ≡ compareRefusal (now (plan .entry)) router first second ⌝ }
 {
@@ -44,14 +44,14 @@ pub fn compare_refusal(plan: &[u8], router: usize, first: usize, second: usize) 
     and_router(plan, with_first, second)
 }
 
-// Rows 1 to 8 of a call that asks for a list and a router.
+// Rows up to 8 of a call that asks for a list and a router.
 pub fn router_refusal(plan: &[u8], list: usize, router: usize) -> u8
     ensures { λ r. ⌜ r ≡ routerRefusal (now (plan .entry)) list router ⌝ }
 {
     and_router(plan, list_refusal(plan, list), router)
 }
 
-// Rows 1 to 8 of a question on reliance.
+// Rows up to 8 of a question on reliance.
 pub fn relies_refusal(plan: &[u8], list: usize, router: usize, other: usize) -> u8
     ensures { λ r. ⌜ r ≡ reliesRefusal (now (plan .entry)) list router other ⌝ }
 {
@@ -72,7 +72,7 @@ fn sequence_ok(sequence: &[u8], n: usize) -> bool
     true
 }
 
-// Rows 1 to 8 of a run.
+// Rows up to 8 of a run.
 pub fn sequence_refusal(plan: &[u8], list: usize, sequence: &[u8]) -> u8
     ensures { λ r. ⌜ r ≡ sequenceRefusal (now (plan .entry)) list (now (sequence .entry)) ⌝ }
 {

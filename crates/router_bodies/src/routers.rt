@@ -1,9 +1,21 @@
 // Kind 1, routers: refusal 4.
 
 ghost use mathlib.Core.Path.{_≡_};
-ghost use Prim.Native.Nat.{_+_, _*_, _≤_};
+ghost use mathlib.Core.Bool.{not};
+ghost use Prim.Native.Nat.{_+_, _*_, _≤_, _<_};
+ghost use lib.Dec.{eqb};
 ghost use lib.ListN.{length};
-ghost use Rattle.bodies.specs.Routers.{routerOk, routersOk};
+ghost use Rattle.bodies.specs.Routers.{role, routerOk, routersOk};
+
+// The role of a client; each other role is a reflector's.
+const CLIENT: u8 = 2;
+
+pub fn is_reflector(s: &[u8], v: usize) -> bool
+    requires { ⌜ 5 * v < length (now s) ⌝ }
+    ensures { λ r. ⌜ r ≡ not (eqb (role (now (s .entry)) v) 2) ⌝ }
+{
+    s[5 * v] != CLIENT
+}
 
 fn router_ok(s: &[u8], v: usize) -> bool
     requires { ⌜ 5 * v + 5 ≤ length (now s) ⌝ }

@@ -3,7 +3,7 @@
 use contents::entries::DISTANCES;
 ghost use Rattle.running.specs.Activate.{Activates};
 
-// Activates a router: the refusal number, 1 to 10, or 0.
+// Activates a router: the refusal number, or 0.
 pub fn activate(plan: &[u8], list: usize, router: usize, table: &mut [u8]) -> u8
     ensures { λ r. ⌜ Activates (now (plan .entry)) list router (now (table .entry)) r (now (table .exit)) ⌝ }
 {

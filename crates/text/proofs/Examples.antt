@@ -2,12 +2,13 @@
 use mathlib.Core.Path.{refl}
 use Rattle.base.specs.Below.{allBelow, anyBelow}
 use Rattle.base.specs.Best.{keepBest, best}
-use Rattle.base.specs.Seek.{seek, highest}
+use Rattle.base.specs.Seek.{seek, highest, count}
 use Rattle.base.specs.Tab.{tab}
 use Rattle.contents.specs.Header.{headerOk, routerCountOk}
 use Rattle.contents.specs.Contents.{kindsOk, placesOk, sizesOk, contentsOk}
 use Rattle.bodies.specs.Routers.{routerOk, routersOk}
 use Rattle.bodies.specs.Sessions.{sessionOk, sessionsOk, pairs, inSession}
+use Rattle.bodies.specs.Parents.{parentCount, fewParents, parentsOk}
 use Rattle.bodies.specs.Distances.{distancesOk}
 use Rattle.bodies.specs.Lists.{listPlace, memberOk, listAtOk, listOk, eachListOk, listsOk}
 use Rattle.plan.specs.Refusal.{refuse, bodyChecks, planChecks, planRefusal}
@@ -30,6 +31,7 @@ unfolding
     planText listLines listLine headLine refusedLine stableLine suspectLine spaced digits decimal
     isStable highestOf cycleOf start next walk second first lap cycleIn cycle rankOver rankRounds rank together label stable grouped closing
     listedClientOf bestClient offer betterOffer relies prefers pairs inSession named refuse bodyChecks planChecks planRefusal
-    headerOk routerCountOk kindsOk placesOk sizesOk contentsOk routerOk routersOk sessionOk sessionsOk distancesOk
+    headerOk routerCountOk kindsOk placesOk sizesOk contentsOk routerOk routersOk sessionOk sessionsOk
+    parentCount fewParents parentsOk count distancesOk
     listPlace memberOk listAtOk listOk eachListOk listsOk allBelow anyBelow keepBest best seek highest tab
 text-examples = refl

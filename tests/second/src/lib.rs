@@ -17,7 +17,7 @@ pub use harness::comparison::compare;
 pub use harness::generate::{deepest, largest, numbered};
 pub use harness::random::Random;
 pub use harness::{explained_pairs, questions, self_test};
-pub use harness::{small_explanations, small_margins, small_plans, small_roles, small_sheets};
+pub use harness::{small_explanations, small_margins, small_parents, small_plans, small_roles, small_sheets};
 pub use interface::Checker;
 #[cfg(feature = "library")]
 pub use library::Library;

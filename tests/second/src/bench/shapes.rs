@@ -5,7 +5,7 @@ use crate::harness::random::Random;
 use crate::harness::sheets::Sheet;
 use crate::harness::topology::all_pairs;
 use crate::oracle::links::MOST_LINKS;
-use crate::oracle::plan::NO_WAY;
+use crate::oracle::plan::{MOST_PARENTS, NO_WAY};
 use crate::oracle::verdict_lines;
 use std::collections::{BTreeMap, BTreeSet};
 
@@ -34,10 +34,11 @@ impl Shape {
     }
 
     /// A mesh; half reflectors in a mesh, and clients with four parents (for four
-    /// routers this is the first again); and the latter with all sessions.
+    /// routers this is the first again); and all sessions, with four reflectors at
+    /// most, since every client neighbours them all.
     pub fn of_size(n: usize) -> Vec<Self> {
-        let dense = Shape { reflectors: n / 2, parents: 4, ..Shape::mesh(n) };
-        let complete = Shape { all_sessions: true, ..dense };
+        let dense = Shape { reflectors: n / 2, parents: MOST_PARENTS, ..Shape::mesh(n) };
+        let complete = Shape { reflectors: dense.reflectors.min(MOST_PARENTS), all_sessions: true, ..dense };
         if n == 4 {
             vec![Shape::mesh(n), complete]
         } else {

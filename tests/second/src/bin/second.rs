@@ -1,7 +1,7 @@
 //! Compares a checker of route-reflection plans with the second one.
 
 use second_checker::{explained_pairs, margin_line, questions, self_test, verdict_lines};
-use second_checker::{small_explanations, small_margins, small_plans, small_roles, small_sheets};
+use second_checker::{small_explanations, small_margins, small_parents, small_plans, small_roles, small_sheets};
 use second_checker::{Checker, Plain, Random, Tight};
 use std::env;
 use std::error::Error;
@@ -82,11 +82,13 @@ fn test_self(options: &Options) -> Result<bool, Box<dyn Error>> {
     println!("a small plan with role 3: as stated");
     small_explanations::test()?;
     println!("explained reliances of small plans, each rule and each reason but the fifth: as stated");
+    small_parents::test()?;
+    println!("clients of four and five parents, refusal 13 in its order: as stated");
     small_sheets::test()?;
     println!("small sheets of links, their refusals in order: as stated");
     self_test::aimed_damage()?;
     self_test::damaged_links()?;
-    println!("damage aimed at refusals 1 to 7 and 11: refused so");
+    println!("damage aimed at refusals 1 to 7, 11 and 13: refused so");
     println!("known faults: {} found, each of them", self_test::faults()?);
     println!("misread rules: {} found, each also beside itself", self_test::misread_on_both_sides()?);
     let programs = questions::wrong_programs_found(options.seed, INPUTS)?;

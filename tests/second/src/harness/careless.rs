@@ -1,7 +1,9 @@
 //! Checkers with a slip in one call each.
 
 use super::compare_slips;
+use super::draft::Bodies;
 use super::explain_slips;
+use super::parent_slips;
 use super::sheet_slips;
 use super::slips::Slip;
 use crate::interface::{
@@ -48,6 +50,11 @@ fn with_role_3_for_4(plan: &[u8]) -> Vec<u8> {
     plan
 }
 
+/// Whether a plan that is refused with 13 has no such list, by its number of lists.
+fn is_past_the_lists(plan: &[u8], list: usize) -> bool {
+    Bodies::of(plan).lists.first().is_some_and(|&count| list >= usize::from(count))
+}
+
 /// Whether a sound table for a sound plan has an entry without a way.
 fn holds_without_way(bytes: &[u8], table: &[u8]) -> bool {
     let Ok(plan) = plan::read(bytes) else { return false };
@@ -65,6 +72,7 @@ impl Checker for Careless {
             Slip::NoWayToItselfAccepted if refusal == 6 => self.inner.check(&with_ways_to_itself(plan)),
             Slip::Role3Refused if refusal == 0 && plan::read(plan).is_ok_and(|plan| !plan.skipping.is_empty()) => 4,
             Slip::Role4Accepted if refusal == 4 => self.inner.check(&with_role_3_for_4(plan)),
+            Slip::Parents(slip) => parent_slips::check(slip, plan, refusal),
             _ => refusal,
         }
     }
@@ -81,7 +89,11 @@ impl Checker for Careless {
 
     fn list(&mut self, plan: &[u8], list: usize, fields: &mut ListFields) -> u8 {
         let list = if self.is(Slip::ListCutToAByte) { list % 256 } else { list };
-        self.inner.list(plan, list, fields)
+        let refusal = self.inner.list(plan, list, fields);
+        if refusal == 13 && self.is(Slip::EightBeforeThirteen) && is_past_the_lists(plan, list) {
+            return 8;
+        }
+        refusal
     }
 
     fn compare(&mut self, plan: &[u8], router: usize, pair: (usize, usize), fields: &mut CompareFields) -> u8 {

@@ -12,12 +12,14 @@ pub struct Counts {
     pub plans_with_cuts: u64,
     /// .. in which some reflector skips its own clients.
     pub plans_with_skips: u64,
+    /// .. in which some client has as many parents as there may be.
+    pub plans_with_most_parents: u64,
     pub lists: u64,
     pub suspect_lists: u64,
     pub sheets: u64,
     /// Sheets whose distances are written.
     pub sheets_with_distances: u64,
-    pub refusals: [u64; 13],
+    pub refusals: [u64; 14],
     pub calls: u64,
     /// Calls whose answers were worked out from comparisons alone too.
     pub calls_by_comparisons: u64,
@@ -104,6 +106,7 @@ impl fmt::Display for Counts {
         writeln!(out, "sound plans {}, calls not refused {}", self.sound_plans, self.refusals[0])?;
         writeln!(out, "plans with cuts {}, series on these {}", self.plans_with_cuts, self.series_with_cuts)?;
         writeln!(out, "plans with role 3 {}, series on these {}", self.plans_with_skips, self.series_with_skips)?;
+        writeln!(out, "plans with a client of four parents {}", self.plans_with_most_parents)?;
         writeln!(out, "sheets with distances {}", self.sheets_with_distances)?;
         writeln!(out, "{}", self.margins)?;
         writeln!(out, "{}", self.explanations)?;

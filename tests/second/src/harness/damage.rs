@@ -2,11 +2,20 @@
 
 use super::draft::{Bodies, Draft};
 use super::random::Random;
-use crate::oracle::plan::{FIRST_BODY, LONGEST_PLAN, NO_WAY};
+use super::topology::ordered;
+use crate::oracle::plan::{CLIENT, FIRST_BODY, LONGEST_PLAN, MOST_PARENTS, NO_WAY, REFLECTOR, SKIPPING};
+use std::collections::BTreeSet;
 
-/// A plan whose damage is aimed at the given refusal number, 1 to 7.
+/// The refusal numbers that damage is aimed at.
+pub const AIMED_AT: [u8; 8] = [1, 2, 3, 4, 5, 13, 6, 7];
+
+/// A plan whose damage is aimed at the given refusal number. Where this is 4 or 5, a
+/// client may have too many parents; where it is 13, there may be damage for 6 or 7.
 pub fn aimed(random: &mut Random, draft: &Draft, refusal: u8) -> Vec<u8> {
     let mut bodies = draft.bodies();
+    if refusal == 13 || [4, 5].contains(&refusal) && random.chance(40) {
+        parents(random, &mut bodies);
+    }
     match refusal {
         1 => return letters(random, bodies.bytes()),
         2 => return router_count(random, bodies.bytes()),
@@ -14,7 +23,12 @@ pub fn aimed(random: &mut Random, draft: &Draft, refusal: u8) -> Vec<u8> {
         4 => routers(random, &mut bodies),
         5 => sessions(random, &mut bodies),
         6 => distances(random, &mut bodies),
-        _ => lists(random, &mut bodies),
+        7 => lists(random, &mut bodies),
+        _ => match random.below(4) {
+            0 => distances(random, &mut bodies),
+            1 => lists(random, &mut bodies),
+            _ => (),
+        },
     }
     bodies.bytes()
 }
@@ -66,12 +80,16 @@ fn junk(random: &mut Random, plan: &mut Vec<u8>) {
     }
 }
 
-/// Damage to two bodies, so that the order of the checks shows.
+/// Damage to two bodies, so that the order of the checks shows; often one is a client
+/// with too many parents.
 fn two_at_once(random: &mut Random, draft: &Draft) -> Vec<u8> {
     let mut bodies = draft.bodies();
-    for _ in 0..2 {
+    if random.chance(50) {
+        parents(random, &mut bodies);
+    } else {
         damage_body(random, &mut bodies);
     }
+    damage_body(random, &mut bodies);
     let mut plan = bodies.bytes();
     match random.below(6) {
         0 => plan[4] = random.pick(&[0, 65]),
@@ -195,6 +213,28 @@ fn sessions(random: &mut Random, bodies: &mut Bodies) {
             (0..2).for_each(|byte| sessions.swap(from + byte, to + byte));
         }
     }
+    trim_to_longest(bodies);
+}
+
+/// A client has five or six parents, or as many as there are other routers; some are
+/// made reflectors for that.
+fn parents(random: &mut Random, bodies: &mut Bodies) {
+    let mut routers: Vec<usize> = (0..usize::from(bodies.n)).collect();
+    random.shuffle(&mut routers);
+    // Clients first, so that few roles change.
+    routers.sort_by_key(|router| bodies.routers[5 * router] != CLIENT);
+    let client = routers[0];
+    let parents = routers.iter().skip(1).rev().take(MOST_PARENTS + random.between(1, 2));
+    bodies.routers[5 * client] = CLIENT;
+    let pairs = bodies.sessions.chunks_exact(2).map(|pair| (usize::from(pair[0]), usize::from(pair[1])));
+    let mut sessions: BTreeSet<(usize, usize)> = pairs.collect();
+    for &parent in parents {
+        if bodies.routers[5 * parent] == CLIENT {
+            bodies.routers[5 * parent] = random.pick(&[REFLECTOR, SKIPPING]);
+        }
+        sessions.insert(ordered(client, parent));
+    }
+    bodies.sessions = sessions.iter().flat_map(|&(one, other)| [one as u8, other as u8]).collect();
     trim_to_longest(bodies);
 }
 

@@ -51,6 +51,14 @@ impl Draft {
 }
 
 impl Bodies {
+    /// The bodies of a plan by its table of contents, which fits them.
+    pub fn of(plan: &[u8]) -> Self {
+        let number = |at: usize| usize::from(u16::from_le_bytes([plan[at], plan[at + 1]]));
+        let [routers, sessions, distances, lists] =
+            [7, 12, 17, 22].map(|entry| plan[number(entry)..][..number(entry + 2)].to_vec());
+        Bodies { n: plan[4], routers, sessions, distances, lists }
+    }
+
     /// The plan with a table of contents that fits these bodies.
     pub fn bytes(&self) -> Vec<u8> {
         let bodies = [&self.routers, &self.sessions, &self.distances, &self.lists];

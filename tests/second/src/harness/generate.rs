@@ -2,27 +2,28 @@
 //! the deepest.
 
 use super::cuts;
-use super::damage;
+use super::damage::{self, AIMED_AT};
 use super::draft::Draft;
 use super::random::Random;
-use super::topology::{all_pairs, ordered, skipping, topology, Topology};
-use crate::oracle::plan::{Router, MOST_LISTS, MOST_ROUTERS};
+use super::topology::{all_pairs, crowd, ordered, skipping, topology, Topology};
+use crate::oracle::plan::{Router, MOST_LISTS, MOST_PARENTS, MOST_ROUTERS};
 use std::collections::BTreeSet;
 
 /// The plan of the given number, and the source of what is drawn for it next.
 /// Both depend on the seed and the number alone. Number 0 is the largest plan, 1
-/// the deepest; of ten others eight are sound, one is aimed at a refusal and one
-/// damaged anyhow.
+/// the deepest; of ten others seven are sound, one is crowded, one is aimed at a
+/// refusal and one damaged anyhow.
 pub fn numbered(seed: u64, number: u64) -> (Vec<u8>, Random) {
     let mut random = Random::new(seed ^ number.wrapping_mul(0xD6E8_FEB8_6659_FD93));
     let draft = match number {
         0 => largest(&mut random),
         1 => deepest(),
+        _ if number % 10 == 6 => crowded(&mut random),
         _ => sound(&mut random),
     };
     let bytes = match number % 10 {
         7 => {
-            let refusal = random.between(1, 7) as u8;
+            let refusal = random.pick(&AIMED_AT);
             damage::aimed(&mut random, &draft, refusal)
         }
         8 => damage::any(&mut random, &draft),
@@ -40,6 +41,19 @@ pub fn sound(random: &mut Random) -> Draft {
 /// A random sound plan with `n` routers.
 pub fn sound_of(random: &mut Random, n: usize) -> Draft {
     let topology = topology(random, n);
+    of_topology(random, topology)
+}
+
+/// A random plan in which clients have three to six parents where there are as many
+/// reflectors, and which is else sound.
+fn crowded(random: &mut Random) -> Draft {
+    let n = router_count(random);
+    let mut topology = topology(random, n);
+    crowd(random, &mut topology);
+    of_topology(random, topology)
+}
+
+fn of_topology(random: &mut Random, topology: Topology) -> Draft {
     let mut distances = distances(random, &topology);
     cuts::cut(random, &topology, &mut distances);
     let (reflector, sessions) = topology;
@@ -47,37 +61,40 @@ pub fn sound_of(random: &mut Random, n: usize) -> Draft {
     // A reflector that skips its clients shows at those that are not listed.
     let nearly_all = if skips.is_empty() { 70 } else { 30 };
     let lists = lists(random, &reflector, nearly_all);
-    Draft { identifiers: identifiers(random, n), reflector, skips, sessions, distances, lists }
+    Draft { identifiers: identifiers(random, reflector.len()), reflector, skips, sessions, distances, lists }
 }
 
-/// The largest plan: 64 routers, all sessions, 64 full lists.
+/// The largest plan: 64 routers, all sessions, 64 full lists. Every client neighbours
+/// every reflector, so there are no more than four of these, as far apart as can be.
 pub fn largest(random: &mut Random) -> Draft {
     let n = MOST_ROUTERS;
-    let topology = ((0..n).map(|router| router % 2 == 0).collect(), all_pairs(n).collect());
+    let apart = (n - 1) / (MOST_PARENTS - 1);
+    let topology = ((0..n).map(|router| router % apart == 0).collect(), all_pairs(n).collect());
     let distances = distances(random, &topology);
     let (reflector, sessions) = topology;
     let lists = vec![(0..n).collect(); MOST_LISTS];
     Draft { identifiers: identifiers(random, n), reflector, skips: BTreeSet::new(), sessions, distances, lists }
 }
 
-/// A plan whose highest rank is 61, the highest that any plan can have, with
+/// A plan whose highest rank is 51, the highest that any plan can have, with
 /// the router of that rank first, so that all ranks below are still to be found.
 ///
-/// Take a chain of reliances of length r >= 5, v(r) to v(0). No one relies on an
+/// Take a chain of reliances of length r >= 3, v(r) to v(0). No one relies on an
 /// unlisted client, and a listed router relies on none, so v(r-1) to v(1) are
 /// unlisted reflectors, and v(0) is listed: an unlisted reflector that relies on
-/// none offers nothing. Each of v(1) to v(r-2) is relied on by a reflector and
-/// so has a best client c(k), which is listed; c(k) outdoes c(k+1) at v(k+1), so
-/// neighbouring ones differ. c(1) and c(3) differ too, or v(2) and v(3) would
-/// rely on one another. Of three listed clients at least two are not on the
-/// chain: 62 of 64 routers at most are on it, and r is at most 61.
+/// none offers nothing. Each of v(1) to v(r-2) is relied on by a reflector and so
+/// has a best client, which is listed. A client has four parents at most, so there
+/// are at least (r-2)/4 of these clients, and but for v(0) none is on the chain: r+1
+/// routers are on it and at least (r-2)/4 - 1 are not. For r = 52 these would be 53
+/// and 12, more than 64, so r is at most 51.
 pub fn deepest() -> Draft {
     let n = MOST_ROUTERS;
-    let clients = n - 3;
-    // Router 0 is an unlisted client; 1 to 60 are reflectors in a path, each
-    // with one of three listed clients, in turn; each favours the next one's.
+    // Router 0 is an unlisted client; 1 to 50 are reflectors in a path, each with one
+    // of thirteen listed clients, in turn; each favours the next one's.
+    let listed = 13;
+    let clients = n - listed;
     let reflectors = 1..clients;
-    let client_of = |reflector: Router| clients + reflector % 3;
+    let client_of = |reflector: Router| clients + reflector % listed;
     let mut sessions: BTreeSet<(Router, Router)> = (1..clients).map(|router| (router - 1, router)).collect();
     sessions.extend(reflectors.clone().map(|reflector| (reflector, client_of(reflector))));
     let distance = |from: Router, to: Router| match to {

@@ -8,7 +8,7 @@ use super::preferences::Preferences;
 use super::random::Random;
 use super::reliance_calls;
 use super::series;
-use crate::oracle::plan::{self, Plan};
+use crate::oracle::plan::{self, Plan, MOST_PARENTS};
 use crate::oracle::rules::Case;
 
 /// So many routers are few: every comparison, every reliance and its explanation is
@@ -26,7 +26,7 @@ pub fn compare(comparison: &mut Comparison, random: &mut Random, bytes: &[u8]) -
     }
 }
 
-/// Refusals 1 to 7 stand before 8, 9 and 10, whatever else is handed over.
+/// Refusals 1 to 7 and 13 stand before 8, 9 and 10, whatever else is handed over.
 fn refused(comparison: &mut Comparison, random: &mut Random, bytes: &[u8]) -> Outcome {
     for _ in 0..2 {
         for call in loose_calls(random) {
@@ -63,6 +63,7 @@ fn sound(comparison: &mut Comparison, random: &mut Random, bytes: &[u8], plan: &
     comparison.counts.sound_plans += 1;
     comparison.counts.plans_with_cuts += u64::from(plan.has_cuts());
     comparison.counts.plans_with_skips += u64::from(!plan.skipping.is_empty());
+    comparison.counts.plans_with_most_parents += u64::from(plan.most_parents() == MOST_PARENTS);
     if plan.n <= FEW {
         let preferences = Preferences::ask(comparison, bytes, plan.n)?;
         comparison.go_by(bytes, preferences);

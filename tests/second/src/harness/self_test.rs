@@ -4,14 +4,15 @@
 use super::arguments;
 use super::careless::Careless;
 use super::comparison::differ;
-use super::damage;
+use super::damage::{self, AIMED_AT};
 use super::explain_misreadings::{MisreadExplanation, EXPLAIN_MISREADINGS};
 use super::generate;
 use super::misreadings::{Misread, MISREADINGS};
+use super::parent_slips::PARENT_SLIPS;
 use super::random::Random;
 use super::sheets::{self, Sheet, DAMAGES};
 use super::skip_misreadings::{MisreadSkip, SKIP_MISREADINGS};
-use super::slips::SLIPS;
+use super::slips::{Slip, SLIPS};
 use crate::interface::Checker;
 use crate::oracle::links::{self, Sums};
 use crate::oracle::plan::{self, Router};
@@ -55,11 +56,11 @@ fn named(fault: impl Debug, rules: impl Rules + 'static) -> (String, Box<dyn Che
 /// The comparison finds every known fault; how many there are.
 pub fn faults() -> Result<usize, String> {
     let misread = misread();
-    let count = misread.len() + SLIPS.len();
+    let count = misread.len() + SLIPS.len() + PARENT_SLIPS.len();
     for (fault, mut checker) in misread {
         finds(&mut Oracle::right(), checker.as_mut(), &fault)?;
     }
-    for slip in SLIPS {
+    for slip in SLIPS.into_iter().chain(PARENT_SLIPS.map(Slip::Parents)) {
         finds(&mut Oracle::right(), &mut Careless::new(slip), &format!("{slip:?}"))?;
     }
     Ok(count)
@@ -79,7 +80,7 @@ pub fn misread_on_both_sides() -> Result<usize, String> {
 /// Damage aimed at a refusal is refused with it, nearly always.
 pub fn aimed_damage() -> Result<(), String> {
     let mut random = Random::new(SEED);
-    for refusal in 1..=7 {
+    for refusal in AIMED_AT {
         let mut hits = || {
             let draft = generate::sound(&mut random);
             plan::read(&damage::aimed(&mut random, &draft, refusal)).err() == Some(refusal)

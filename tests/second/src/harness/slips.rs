@@ -1,6 +1,8 @@
 //! The slips that a checker may make in one call, to see that the comparison
 //! finds each.
 
+use super::parent_slips::ParentSlip;
+
 /// A slip in a call that reads the rules rightly.
 #[derive(Clone, Copy, Debug, PartialEq, Eq)]
 pub enum Slip {
@@ -70,6 +72,8 @@ pub enum Slip {
     NoWayToItselfAccepted,
     Role3Refused,
     Role4Accepted,
+    Parents(ParentSlip),
+    EightBeforeThirteen,
     EntryWithoutAWayRefused,
     TransposedDistances,
     DirectLinksOnly,
@@ -101,7 +105,8 @@ pub enum Slip {
     ByteAfterTheDistances,
 }
 
-pub const SLIPS: [Slip; 95] = [
+/// All but those in the check of a client's parents.
+pub const SLIPS: [Slip; 96] = [
     Slip::FirstActOnly,
     Slip::ActLeavesTable,
     Slip::ExhaustedAtTheLimit,
@@ -168,6 +173,7 @@ pub const SLIPS: [Slip; 95] = [
     Slip::NoWayToItselfAccepted,
     Slip::Role3Refused,
     Slip::Role4Accepted,
+    Slip::EightBeforeThirteen,
     Slip::EntryWithoutAWayRefused,
     Slip::TransposedDistances,
     Slip::DirectLinksOnly,

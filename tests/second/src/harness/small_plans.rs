@@ -31,7 +31,7 @@ pub fn test() -> Result<(), String> {
     bounds()?;
     cuts()?;
     example()?;
-    let deepest = "routers 64 lists 1\n0 stable 61\n".to_string();
+    let deepest = "routers 64 lists 1\n0 stable 51\n".to_string();
     same("deepest plan", verdict_lines(&generate::deepest().bytes()), deepest)
 }
 

@@ -1,7 +1,7 @@
 //! Who is a reflector and who has a session with whom, in several shapes.
 
 use super::random::Random;
-use crate::oracle::plan::Router;
+use crate::oracle::plan::{Router, MOST_PARENTS};
 use std::collections::BTreeSet;
 
 /// All pairs of routers below n, the lower one first.
@@ -13,7 +13,7 @@ pub fn all_pairs(n: usize) -> impl Iterator<Item = (Router, Router)> {
 pub type Topology = (Vec<bool>, BTreeSet<(Router, Router)>);
 
 /// A random topology; in some the clients of a reflector have sessions with one
-/// another.
+/// another. No client has more parents than it may.
 pub fn topology(random: &mut Random, n: usize) -> Topology {
     let mut topology = match random.below(16) {
         0 => scattered(random, n, 75),
@@ -28,7 +28,39 @@ pub fn topology(random: &mut Random, n: usize) -> Topology {
     if random.chance(25) {
         mesh_clients(random, &mut topology);
     }
+    drop_parents(random, &mut topology);
     topology
+}
+
+fn of_role(reflector: &[bool], role: bool) -> Vec<Router> {
+    (0..reflector.len()).filter(|&router| reflector[router] == role).collect()
+}
+
+/// The reflectors that a client neighbours, its parents, and the others, in any order.
+fn parents_and_others(random: &mut Random, topology: &Topology, client: Router) -> (Vec<Router>, Vec<Router>) {
+    let (reflector, sessions) = topology;
+    let mut reflectors = of_role(reflector, true);
+    random.shuffle(&mut reflectors);
+    reflectors.into_iter().partition(|&other| sessions.contains(&ordered(client, other)))
+}
+
+/// Takes parents from the clients that have more than they may.
+fn drop_parents(random: &mut Random, topology: &mut Topology) {
+    for client in of_role(&topology.0, false) {
+        let (parents, _) = parents_and_others(random, topology, client);
+        parents.iter().skip(MOST_PARENTS).for_each(|&parent| _ = topology.1.remove(&ordered(client, parent)));
+    }
+}
+
+/// Gives each client at least three parents and up to a number drawn for all, three
+/// to six, where there are as many reflectors: in some plans a client has too many.
+pub fn crowd(random: &mut Random, topology: &mut Topology) {
+    let most = random.between(3, 6);
+    for client in of_role(&topology.0, false) {
+        let (parents, others) = parents_and_others(random, topology, client);
+        let more = random.between(3, most).saturating_sub(parents.len());
+        topology.1.extend(others.iter().take(more).map(|&parent| ordered(client, parent)));
+    }
 }
 
 /// The clients of each reflector, or of some of them, in a mesh.

@@ -1,4 +1,4 @@
-//! Reads the bytes of a plan into sets; gives refusals 1 to 7.
+//! Reads the bytes of a plan into sets; gives refusals 1 to 7 and 13.
 
 use std::collections::{BTreeMap, BTreeSet};
 
@@ -12,6 +12,9 @@ pub const LONGEST_PLAN: usize = 16_731;
 pub const FIRST_BODY: usize = 26;
 pub const MOST_ROUTERS: usize = 64;
 pub const MOST_LISTS: usize = 64;
+
+/// The most parents, neighbouring reflectors, that a client may have.
+pub const MOST_PARENTS: usize = 4;
 
 /// What stands for the distance to a router that there is no way to.
 pub const NO_WAY: u16 = 65_535;
@@ -62,6 +65,10 @@ impl Plan {
         self.place(at, egress).is_some()
     }
 
+    pub fn most_parents(&self) -> usize {
+        most_parents(&self.reflectors, &self.neighbours)
+    }
+
     /// Whether some router has no way to some other.
     pub fn has_cuts(&self) -> bool {
         self.places.iter().any(|places| places.len() < self.n)
@@ -78,6 +85,9 @@ pub fn read(bytes: &[u8]) -> Result<Plan, u8> {
     let skipping = with_role(SKIPPING);
     let reflectors = &with_role(REFLECTOR) | &skipping;
     let neighbours = read_sessions(sessions, n)?;
+    if most_parents(&reflectors, &neighbours) > MOST_PARENTS {
+        return Err(13);
+    }
     let distances = read_distances(distances, n)?;
     let lists = read_lists(lists, bytes.len() - lists.len(), n)?;
     let places = distances.iter().map(|row| order_of_preference(row)).collect();
@@ -140,6 +150,12 @@ fn read_sessions(body: &[u8], n: usize) -> Result<Vec<BTreeSet<Router>>, u8> {
         neighbours[other].insert(one);
     }
     Ok(neighbours)
+}
+
+/// The most parents of a client: how many reflectors it neighbours.
+fn most_parents(reflectors: &BTreeSet<Router>, neighbours: &[BTreeSet<Router>]) -> usize {
+    let clients = neighbours.iter().enumerate().filter(|(router, _)| !reflectors.contains(router));
+    clients.map(|(_, neighbours)| neighbours.intersection(reflectors).count()).max().unwrap_or(0)
 }
 
 fn read_distances(body: &[u8], n: usize) -> Result<Vec<Vec<Option<u16>>>, u8> {

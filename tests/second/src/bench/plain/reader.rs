@@ -1,9 +1,10 @@
-//! Reads a plan into arrays; refusals 1 to 7.
+//! Reads a plan into arrays; refusals 1 to 7 and 13.
 
 use super::{Matrix, MOST};
 
 const CLIENT: u8 = 2;
 const SKIPPING: u8 = 3;
+const MOST_PARENTS: usize = 4;
 
 /// The bodies of a plan found sound.
 pub struct Bodies<'a> {
@@ -28,7 +29,7 @@ pub fn word(bytes: &[u8], at: usize) -> usize {
 }
 
 /// Checks a plan, and hands each session to `meet` as it is read.
-fn sound(plan: &[u8], meet: impl FnMut(usize, usize)) -> Result<Bodies<'_>, u8> {
+fn sound(plan: &[u8], mut meet: impl FnMut(usize, usize)) -> Result<Bodies<'_>, u8> {
     if plan.len() < 26 || plan.len() > 16_731 || &plan[..4] != b"RRP1" || plan[5] != 4 {
         return Err(1);
     }
@@ -39,7 +40,13 @@ fn sound(plan: &[u8], meet: impl FnMut(usize, usize)) -> Result<Bodies<'_>, u8> 
     let starts = read_contents(plan, n)?;
     let routers = &plan[starts[0]..starts[1]];
     check_routers(routers, n)?;
-    read_sessions(&plan[starts[1]..starts[2]], n, meet)?;
+    let mut parents = [0; MOST];
+    read_sessions(&plan[starts[1]..starts[2]], n, |u, v| {
+        parents[u] += usize::from(routers[5 * v] != CLIENT);
+        parents[v] += usize::from(routers[5 * u] != CLIENT);
+        meet(u, v);
+    })?;
+    check_parents(routers, &parents, n)?;
     let distances = &plan[starts[2]..starts[3]];
     check_distances(distances, n)?;
     let lists = &plan[starts[3]..];
@@ -107,6 +114,15 @@ fn read_sessions(body: &[u8], n: usize, mut meet: impl FnMut(usize, usize)) -> R
         }
         meet(u, v);
         last = Some((u, v));
+    }
+    Ok(())
+}
+
+fn check_parents(routers: &[u8], parents: &[usize; MOST], n: usize) -> Result<(), u8> {
+    for u in 0..n {
+        if routers[5 * u] == CLIENT && parents[u] > MOST_PARENTS {
+            return Err(13);
+        }
     }
     Ok(())
 }

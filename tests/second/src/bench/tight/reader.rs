@@ -1,7 +1,7 @@
 //! Checks a plan in one pass, and decodes its sessions into sets of bits on the
-//! way; refusals 1 to 7.
+//! way; refusals 1 to 7 and 13.
 
-use super::{Pair, MOST};
+use super::{has, Pair, MOST};
 
 /// A plan found sound. Distances and lists stay as they are in its bytes.
 pub struct Bodies<'a> {
@@ -16,20 +16,19 @@ pub struct Bodies<'a> {
 
 /// Checks a plan.
 pub fn check(plan: &[u8]) -> Result<Bodies<'_>, u8> {
-    sound(plan, |_, _| ())
+    Ok(sound(plan, count_parents)?.0)
 }
 
 /// Checks a plan and decodes the neighbours of each router.
 pub fn read(plan: &[u8]) -> Result<(Bodies<'_>, [u64; MOST]), u8> {
-    let mut rows = [0; MOST];
-    let bodies = sound(plan, |u, v| {
-        rows[u] |= 1 << v;
-        rows[v] |= 1 << u;
-    })?;
-    Ok((bodies, rows))
+    sound(plan, decode_neighbours)
 }
 
-fn sound(plan: &[u8], session: impl FnMut(usize, usize)) -> Result<Bodies<'_>, u8> {
+/// Checks a plan; `read_sessions` is given n and the reflectors.
+fn sound<T>(
+    plan: &[u8],
+    read_sessions: impl FnOnce(&[Pair], usize, u64) -> Result<T, u8>,
+) -> Result<(Bodies<'_>, T), u8> {
     if plan.len() < 26 || plan.len() > 16_731 || &plan[..4] != b"RRP1" || plan[5] != 4 {
         return Err(1);
     }
@@ -39,11 +38,11 @@ fn sound(plan: &[u8], session: impl FnMut(usize, usize)) -> Result<Bodies<'_>, u
     }
     let [routers, sessions, distances, lists] = cut(plan, n)?;
     let (reflectors, skipping) = read_routers(routers)?;
-    read_sessions(sessions.as_chunks().0, n, session)?;
+    let of_sessions = read_sessions(sessions.as_chunks().0, n, reflectors)?;
     let (distances, _) = distances.as_chunks();
     check_distances(distances, n)?;
     check_lists(lists, n)?;
-    Ok(Bodies { n, reflectors, skipping, distances, lists, lists_at: plan.len() - lists.len() })
+    Ok((Bodies { n, reflectors, skipping, distances, lists, lists_at: plan.len() - lists.len() }, of_sessions))
 }
 
 /// Cuts a plan into its bodies by the table of contents.
@@ -83,15 +82,41 @@ fn read_routers(body: &[u8]) -> Result<(u64, u64), u8> {
     Ok((reflectors, skipping))
 }
 
-fn read_sessions(pairs: &[Pair], n: usize, mut session: impl FnMut(usize, usize)) -> Result<(), u8> {
+fn count_parents(pairs: &[Pair], n: usize, reflectors: u64) -> Result<(), u8> {
+    let mut parents = [0; MOST];
+    check_sessions(pairs, n, |u, v| {
+        parents[u] += u8::from(has(reflectors, v));
+        parents[v] += u8::from(has(reflectors, u));
+    })?;
+    check_parents(n, reflectors, |u| parents[u] > 4)
+}
+
+fn decode_neighbours(pairs: &[Pair], n: usize, reflectors: u64) -> Result<[u64; MOST], u8> {
+    let mut rows = [0u64; MOST];
+    check_sessions(pairs, n, |u, v| {
+        rows[u] |= 1 << v;
+        rows[v] |= 1 << u;
+    })?;
+    check_parents(n, reflectors, |u| (rows[u] & reflectors).count_ones() > 4)?;
+    Ok(rows)
+}
+
+fn check_sessions(pairs: &[Pair], n: usize, mut meet: impl FnMut(usize, usize)) -> Result<(), u8> {
     let mut least = 0;
     for &[u, v] in pairs {
         let pair = u16::from_be_bytes([u, v]);
         if usize::from(v) >= n || u >= v || pair < least {
             return Err(5);
         }
-        session(usize::from(u), usize::from(v));
+        meet(usize::from(u), usize::from(v));
         least = pair + 1;
+    }
+    Ok(())
+}
+
+fn check_parents(n: usize, reflectors: u64, too_many: impl Fn(usize) -> bool) -> Result<(), u8> {
+    if (0..n).any(|u| !has(reflectors, u) && too_many(u)) {
+        return Err(13);
     }
     Ok(())
 }

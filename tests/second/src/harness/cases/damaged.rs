@@ -6,7 +6,7 @@ use crate::harness::draft::Bodies;
 use crate::harness::small_plans;
 
 /// Every call on a plan, for list 0; the run goes on from the activation's table.
-fn every_call(name: &str, plan: &[u8]) -> String {
+pub fn every_call(name: &str, plan: &[u8]) -> String {
     line(name, plan, |line| {
         let mut table = START.to_vec();
         line.check();

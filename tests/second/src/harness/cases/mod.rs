@@ -7,6 +7,7 @@ mod damaged;
 mod limits;
 mod line;
 mod misread;
+mod parents;
 mod runs;
 mod skips;
 
@@ -25,7 +26,7 @@ fn small(p: u16, q: u16) -> Vec<u8> {
 
 /// All lines of the program.
 pub fn lines() -> String {
-    let plans = [limits::lines(), damaged::lines(), asked::lines()];
+    let plans = [limits::lines(), damaged::lines(), parents::lines(), asked::lines()];
     let rules = [misread::lines(), runs::lines(), cuts::lines(), skips::lines()];
     [plans.concat(), rules.concat()].concat().concat()
 }

@@ -1,0 +1,70 @@
+//! What document 02 states of the parents of a client, on small plans.
+
+use super::call::Call;
+use super::draft::{Bodies, Draft};
+use super::small_plans::{answer, same};
+use crate::interface::Checker;
+use crate::oracle::plan::{Router, CLIENT, SKIPPING};
+use crate::oracle::Oracle;
+
+/// Routers of these roles, of which one neighbours all others; all distances are 0.
+pub fn star(centre: Router, roles: &[u8]) -> Draft {
+    let n = roles.len();
+    let others = (0..n).filter(|&other| other != centre);
+    Draft {
+        reflector: roles.iter().map(|&role| role != CLIENT).collect(),
+        skips: (0..n).filter(|&router| roles[router] == SKIPPING).collect(),
+        identifiers: (1..=n as u32).map(|place| 10 * place).collect(),
+        sessions: others.map(|other| (centre.min(other), centre.max(other))).collect(),
+        distances: vec![vec![0; n]; n],
+        lists: vec![[centre].into()],
+    }
+}
+
+/// All that is stated, or the first thing that is otherwise.
+pub fn test() -> Result<(), String> {
+    counted()?;
+    in_order()
+}
+
+fn check(plan: &[u8]) -> u8 {
+    Oracle::right().check(plan)
+}
+
+fn counted() -> Result<(), String> {
+    let is = |what: &str, centre: Router, roles: &[u8], refusal: u8| {
+        same(what, check(&star(centre, roles).bytes()), refusal)
+    };
+    is("four parents", 4, &[1, 1, 1, 1, 2], 0)?;
+    is("five parents", 5, &[1, 1, 1, 1, 1, 2], 13)?;
+    is("six parents", 6, &[1, 1, 1, 1, 1, 1, 2], 13)?;
+    is("63 parents", 63, &[[1; 63].as_slice(), &[2]].concat(), 13)?;
+    is("five parents of higher numbers", 0, &[2, 1, 1, 1, 1, 1], 13)?;
+    is("five parents of lower and higher numbers", 2, &[1, 1, 2, 1, 1, 1], 13)?;
+    is("five parents, two of role 3", 5, &[1, 3, 1, 3, 1, 2], 13)?;
+    is("five parents of role 3", 5, &[3, 3, 3, 3, 3, 2], 13)?;
+    is("four parents of role 3", 4, &[3, 3, 3, 3, 2], 0)?;
+    is("four parents and two clients", 6, &[1, 2, 1, 1, 2, 1, 2], 0)?;
+    is("a client with five clients", 5, &[2, 2, 2, 2, 2, 2], 0)?;
+    is("a reflector with five clients", 5, &[2, 2, 2, 2, 2, 1], 0)?;
+    is("a reflector with five reflectors", 5, &[1, 1, 1, 1, 1, 1], 0)?;
+    is("role 3 with five reflectors", 5, &[1, 1, 1, 1, 1, 3], 0)
+}
+
+/// 13 goes after 4 and 5, and before 6, 7 and 8.
+fn in_order() -> Result<(), String> {
+    let is = |what: &str, roles: &[u8], refusal: u8, damage: fn(&mut Bodies)| {
+        let mut bodies = star(5, roles).bodies();
+        damage(&mut bodies);
+        same(what, check(&bodies.bytes()), refusal)
+    };
+    let (four, five) = ([1, 1, 1, 1, 2, 2], [1, 1, 1, 1, 1, 2]);
+    is("five parents and role 4", &five, 4, |bodies| bodies.routers[0] = 4)?;
+    is("five parents and a session with itself", &five, 5, |bodies| bodies.sessions.extend([5, 5]))?;
+    is("five parents and a diagonal of 1", &five, 13, |bodies| bodies.distances[0] = 1)?;
+    is("five parents and no lists", &five, 13, |bodies| bodies.lists[0] = 0)?;
+    is("four parents and a diagonal of 1", &four, 6, |bodies| bodies.distances[0] = 1)?;
+    is("four parents and no lists", &four, 7, |bodies| bodies.lists[0] = 0)?;
+    let no_such_list = |roles: &[u8]| answer(&star(5, roles), &Call::List { list: 1 }).refusal;
+    same("five parents, four parents, and no such list", [five, four].map(|roles| no_such_list(&roles)), [13, 8])
+}
