@@ -1,0 +1,155 @@
+"""The command `rrp`. Each subcommand is a module of `rrp.commands`; only the one that is asked for
+is imported."""
+
+from __future__ import annotations
+
+import argparse
+import errno
+import os
+import signal
+import sys
+from collections.abc import Sequence
+from contextlib import suppress
+from importlib import import_module
+from typing import TextIO
+
+from .errors import RrpError
+
+#: The subcommands with a line of help. Each is a module of its name, with `arguments` and `run`.
+COMMANDS = {
+    "check": "judge a plan for each of its lists",
+    "show": "explain the verdict for one list",
+    "why": "explain why a router relies on another, or does not",
+    "run": "activate routers one by one, and say what changes",
+    "dot": "write who relies on whom as a Graphviz picture",
+    "pack": "write a text plan as bytes",
+    "unpack": "write a plan as text",
+    "file": "write the verdict beside the plan",
+    "audit": "compare filed verdicts with their plans",
+}
+
+#: The exit status of an error. A command returns 0 if all that it judged is stable, else 1.
+ERROR = 2
+
+#: The numbers of the failures that writing has: no space, no such stream, a broken device.
+_OUTPUT_FAILURES = {errno.ENOSPC, errno.EDQUOT, errno.EFBIG, errno.EBADF, errno.EIO}
+
+
+def main(words: Sequence[str] | None = None) -> int:
+    """Runs the command with the words given, else those of the command line. Returns its exit
+    status."""
+    if words is None:
+        _let_interrupt_end()
+        words = sys.argv[1:]
+    _prepare_output()
+    try:
+        status = _run(list(words))
+        sys.stdout.flush()
+        return status
+    except BrokenPipeError:
+        pass
+    except OSError as failure:
+        _say(f"{_what_failed(failure)}: {failure.strerror or failure}")
+    except Exception as fault:
+        _say(f"a fault of the tool itself, please report it: {fault!r}")
+    finally:
+        for stream in (sys.stdout, sys.stderr):
+            if not _takes(stream):
+                _drop(stream)
+    return ERROR
+
+
+def _run(words: list[str]) -> int:
+    """Runs a subcommand. What it cannot answer is said on standard error, or as JSON if that is
+    asked for."""
+    try:
+        options = _parser(words).parse_args(words)
+    except SystemExit as end:
+        return int(end.code or 0)
+    try:
+        return _module(options.command).run(options)
+    except RrpError as failure:
+        _report(failure, options.json)
+        return ERROR
+
+
+def _report(failure: RrpError, as_json: bool) -> None:
+    if as_json:
+        from .output import write_json
+
+        write_json({"errors": failure.as_json()})
+    else:
+        sys.stdout.flush()
+        print(failure.report(), file=sys.stderr)
+
+
+def _parser(words: list[str]) -> argparse.ArgumentParser:
+    """The parser, with the arguments of the subcommand that the words name."""
+    parser = argparse.ArgumentParser(
+        prog="rrp",
+        description="Checks BGP route-reflection plans, over a proved library.",
+        epilog="Exit status: 0 stable, 1 some list is suspect, 2 error. "
+        "A plan is text or bytes, told apart by its first bytes; - is standard input.",
+    )
+    subparsers = parser.add_subparsers(dest="command", metavar="COMMAND", required=True)
+    for name, line in COMMANDS.items():
+        subparser = subparsers.add_parser(name, help=line, description=f"{line.capitalize()}.")
+        if name in words:
+            _module(name).arguments(subparser)
+            subparser.add_argument("--json", action="store_true", help="write JSON")
+    return parser
+
+
+def _module(name: str):
+    """The module of a subcommand."""
+    return import_module(f"rrp.commands.{name}")
+
+
+def _let_interrupt_end() -> None:
+    """Ctrl-C ends the command at once and without a word, unless whoever started it ignores it."""
+    if signal.getsignal(signal.SIGINT) is signal.default_int_handler:
+        signal.signal(signal.SIGINT, signal.SIG_DFL)
+
+
+def _prepare_output() -> None:
+    """What an output cannot show is written by its code. An output that is closed takes nothing."""
+    for name in ("stdout", "stderr"):
+        if getattr(sys, name) is None:
+            setattr(sys, name, open(os.devnull, "w"))
+        stream = getattr(sys, name)
+        if hasattr(stream, "reconfigure"):
+            stream.reconfigure(errors="backslashreplace")
+
+
+def _say(text: str) -> None:
+    """Says on standard error why there is no answer. If that fails, the exit status says it."""
+    with suppress(OSError):
+        print(f"rrp: {text}", file=sys.stderr)
+
+
+def _what_failed(failure: OSError) -> str:
+    """What a failure that no command expects is about."""
+    if failure.errno in _OUTPUT_FAILURES:
+        return "the output cannot be written"
+    return "the system does not let the command go on"
+
+
+def _takes(stream: TextIO) -> bool:
+    """Whether a stream takes what was written to it."""
+    try:
+        stream.flush()
+    except OSError:
+        return False
+    return True
+
+
+def _drop(stream: TextIO) -> None:
+    """Nobody takes a stream any more: what is left of it goes nowhere. Its descriptor is closed
+    first, as there may be no other."""
+    with suppress(OSError):
+        place = stream.fileno()
+        os.close(place)
+        opened = os.open(os.devnull, os.O_WRONLY)
+        if opened != place:
+            os.dup2(opened, place)
+            os.close(opened)

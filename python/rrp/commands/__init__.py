@@ -1,0 +1,1 @@
+"""The subcommands of `rrp`, a module each."""

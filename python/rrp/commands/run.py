@@ -1,0 +1,196 @@
+"""`rrp run PLAN LIST`: activates routers one by one, and says what changes and where that ends."""
+
+from __future__ import annotations
+
+import re
+from argparse import ArgumentParser, ArgumentTypeError, Namespace, RawDescriptionHelpFormatter
+
+from ..errors import RrpError
+from ..output import count_words, write_json, write_notes
+from ..plan import Plan, Verdict
+from ..table_files import NOTHING, Read, read_table, route_values, route_words, table_values
+from ..tracing import AT_REST, OPEN, REPEATS, SETTLED, Order, Step, Tracing
+
+#: A suspect list is run for so many rounds, unless its routers come to rest or round again.
+SUSPECT_ROUNDS = 20
+
+_EPILOG = """\
+A table file has a line a router: ROUTER EGRESS FROM, or ROUTER nothing. A # starts a comment. A
+router that is left out starts with its own route if it is in the list, else with nothing. What
+run --json wrote, or show --json of a stable list, is read too. It may be the table of another
+list, as of a network on which the list changes: routers that are in the list now start with their
+own routes, and those that are in it no more with nothing.
+
+A run ends when no activation changes the table; when table and place in the order are as they were
+before, so that it goes round forever under this order; or after N rounds. A round ends as soon as
+every router has been activated since the last one ended. An order that leaves routers out ends no
+round, and is gone through N times.
+
+Exit status: 0 the list is stable, 1 suspect, 2 error.
+"""
+
+
+def arguments(parser: ArgumentParser) -> None:
+    """Adds what `run` takes."""
+    parser.add_argument("plan", metavar="PLAN", help="a plan, text or bytes; - is standard input")
+    parser.add_argument("list", metavar="LIST", help="a list, by name or number")
+    orders = parser.add_mutually_exclusive_group()
+    orders.add_argument(
+        "--order",
+        metavar="A,B,..",
+        help="activate these routers, by name or number, again and again (all, by number)",
+    )
+    orders.add_argument(
+        "--random", metavar="SEED", type=_number, help="activate all in a new random order a round"
+    )
+    parser.add_argument(
+        "--from", dest="start", metavar="TABLE", default=NOTHING, help="start from a file (nothing)"
+    )
+    parser.add_argument(
+        "--rounds",
+        metavar="N",
+        type=_number,
+        help=f"the most rounds (stable: highest rank + 2, suspect: {SUSPECT_ROUNDS})",
+    )
+    parser.formatter_class, parser.epilog = RawDescriptionHelpFormatter, _EPILOG
+
+
+def _number(text: str) -> int:
+    if not (text.isascii() and text.isdigit() and len(text) <= 9):
+        raise ArgumentTypeError(f"{text!r} is no number from 0 to 999999999")
+    return int(text)
+
+
+def run(options: Namespace) -> int:
+    """Makes the run. Returns 0 if the list is stable, else 1."""
+    if options.plan == options.start == "-":
+        raise RrpError("standard input cannot be both the plan and the table: name a file for one")
+    plan = Plan.read(options.plan)
+    verdict = plan.verdict(options.list)
+    start = _start(plan, verdict, options.start)
+    limit = options.rounds if options.rounds is not None else verdict.rounds or SUSPECT_ROUNDS
+    tracing = Tracing(plan, verdict, _order(plan, options), start.table, limit)
+    notes = [*plan.notes, *start.notes]
+    if options.json:
+        _write_values(tracing, options, notes)
+    else:
+        write_notes(notes)
+        _print_run(tracing, options)
+    return 0 if verdict.stable else 1
+
+
+def _start(plan: Plan, verdict: Verdict, path: str) -> Read:
+    """The table to start from."""
+    if path == NOTHING:
+        return Read(plan.empty_table(verdict.name), ())
+    return read_table(path, plan, verdict.name)
+
+
+def _order(plan: Plan, options: Namespace) -> Order:
+    """The order that is asked for. A router that has a comma in its name is given by its number."""
+    if options.order is None:
+        return Order(plan.routers, options.random)
+    words = [word for word in re.split(r"[,\s]+", options.order) if word]
+    if not words:
+        raise RrpError(f"--order names no router: name some, as --order {plan.routers[0]}")
+    return Order([plan.routers[plan.router_number(word)] for word in words])
+
+
+def _print_run(tracing: Tracing, options: Namespace) -> None:
+    print(f"{tracing.verdict.name}, {_order_words(tracing.order, options)}, from {options.start}")
+    width, changes = max(map(len, tracing.plan.routers)), 0
+    for step in tracing.steps():
+        if step.before != step.after:
+            changes += 1
+            held = f"{route_words(step.before)} -> {route_words(step.after)}"
+            print(f"{step.number:>5}  {step.router:{width}}  {held}")
+        if step.ended is not None:
+            made = count_words(changes, "change")
+            print(f"{'':5}  round {step.ended} ends with activation {step.number}: {made}")
+            changes = 0
+    for line in _outcome_lines(tracing):
+        print(line)
+
+
+def _order_words(order: Order, options: Namespace) -> str:
+    if order.seed is not None:
+        return f"all routers in a new random order each round (seed {order.seed})"
+    return "all routers by number" if options.order is None else f"order {','.join(order.routers)}"
+
+
+def _outcome_lines(tracing: Tracing) -> list[str]:
+    """Where the run ended, a sentence a line."""
+    acts = count_words(tracing.activations, "activation")
+    made = f"after {acts} ({count_words(tracing.rounds, 'round')} ended)"
+    return _OUTCOMES[tracing.outcome.kind](tracing, made)
+
+
+def _settled(tracing: Tracing, made: str) -> list[str]:
+    promise = f"which is promised within {tracing.verdict.rounds} rounds"
+    return [f"settled {made}: this is the table of the verdict, {promise}."]
+
+
+def _at_rest(tracing: Tracing, made: str) -> list[str]:
+    return [
+        f"at rest {made}: no activation changes this table.",
+        "The list is suspect: in another order its routers may come to rest elsewhere, or never.",
+    ]
+
+
+def _repeats(tracing: Tracing, made: str) -> list[str]:
+    first, changes = tracing.outcome.first, tracing.outcome.changes
+    if not changes:
+        still = "no router of this order changes the table any more"
+        return [f"not settled {made}: {still}, but {tracing.mover()} would."]
+    return [
+        f"repeats {made}: the table is that after activation {first}, at this place in the order.",
+        f"Under this order it goes round forever, with {changes} changes each time.",
+    ]
+
+
+def _open(tracing: Tracing, made: str) -> list[str]:
+    first, changes = tracing.outcome.first, tracing.outcome.changes
+    if first is not None:
+        seen = f"the table is that after activation {first}, with {changes} changes since"
+        return [
+            f"not settled {made}: {seen}.",
+            "The order is random, so that says nothing of what follows.",
+        ]
+    if tracing.verdict.stable:
+        return [f"not settled {made}: that is promised within {tracing.verdict.rounds} rounds."]
+    return [f"not settled {made}, nor does the run repeat so far: give more --rounds."]
+
+
+_OUTCOMES = {SETTLED: _settled, AT_REST: _at_rest, REPEATS: _repeats, OPEN: _open}
+
+
+def _write_values(tracing: Tracing, options: Namespace, notes: list[str]) -> None:
+    steps = list(tracing.steps())
+    seed = tracing.order.seed
+    write_json(
+        {
+            "plan": tracing.plan.source,
+            "list": tracing.verdict.name,
+            "stable": tracing.verdict.stable,
+            "order": tracing.order.routers if seed is None else None,
+            "seed": seed,
+            "start": options.start,
+            "changes": [_step_values(step) for step in steps if step.before != step.after],
+            "round_ends": [step.number for step in steps if step.ended is not None],
+            "activations": tracing.activations,
+            "outcome": tracing.outcome.kind,
+            "first_seen": tracing.outcome.first,
+            "sentence": " ".join(_outcome_lines(tracing)),
+            "table": table_values(tracing.table),
+            "notes": notes,
+        }
+    )
+
+
+def _step_values(step: Step) -> dict[str, object]:
+    return {
+        "activation": step.number,
+        "router": step.router,
+        "before": route_values(step.before),
+        "after": route_values(step.after),
+    }

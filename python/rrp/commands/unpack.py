@@ -1,0 +1,48 @@
+"""`rrp unpack PLAN`: a plan as text, which `rrp pack` turns into the same bytes."""
+
+from __future__ import annotations
+
+from argparse import ArgumentParser, Namespace
+
+from ..files import keep_input, write_file
+from ..output import write_json
+from ..plan import Plan
+from ..text.writing import identifier_text, write
+
+
+def arguments(parser: ArgumentParser) -> None:
+    """Adds what `unpack` takes."""
+    parser.add_argument("plan", metavar="PLAN", help="a plan, text or bytes; - is standard input")
+    parser.add_argument("-o", "--output", metavar="OUT", default="-", help="the file to write")
+
+
+def run(options: Namespace) -> int:
+    """Writes the text of a plan, and its content as JSON if that is asked for."""
+    plan = Plan.read(options.plan)
+    keep_input(options.plan, options.output)
+    if options.output != "-" or not options.json:
+        write_file(options.output, write(plan).encode())
+    if options.json:
+        write_json(values(plan))
+    return 0
+
+
+def values(plan: Plan) -> dict[str, object]:
+    """What a plan says, as plain values. A distance is null where there is no way."""
+    routers = [
+        {
+            "name": name,
+            "role": plan.role(name),
+            "client_reflection": plan.role(name) == "reflector" and not plan.skips_clients(name),
+            "identifier": identifier_text(plan.identifier(name)),
+        }
+        for name in plan.routers
+    ]
+    rows = zip(plan.routers, plan.model.distances)
+    return {
+        "plan": plan.source,
+        "routers": routers,
+        "sessions": plan.sessions,
+        "distances": {name: dict(zip(plan.routers, row)) for name, row in rows},
+        "lists": {name: plan.egresses(name) for name in plan.lists},
+    }

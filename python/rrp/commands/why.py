@@ -1,0 +1,34 @@
+"""`rrp why PLAN LIST ROUTER OTHER`: the rule by which a router relies on another, or the reason why
+it does not."""
+
+from __future__ import annotations
+
+from argparse import ArgumentParser, Namespace
+
+from ..accounts import account
+from ..output import write_json, write_notes
+from ..plan import Plan
+
+
+def arguments(parser: ArgumentParser) -> None:
+    """Adds what `why` takes."""
+    parser.add_argument("plan", metavar="PLAN", help="a plan, text or bytes; - is standard input")
+    parser.add_argument("list", metavar="LIST", help="a list, by name or number")
+    parser.add_argument("router", metavar="ROUTER", help="the one that relies, by name or number")
+    parser.add_argument("other", metavar="OTHER", help="the one that is relied on")
+    parser.epilog = "Exit status: 0 answered, be it yes or no; 2 error."
+
+
+def run(options: Namespace) -> int:
+    """Says why, or why not. Returns 0 either way."""
+    plan = Plan.read(options.plan)
+    egress_list = plan.lists[plan.list_number(options.list)]
+    found = account(plan, egress_list, options.router, options.other)
+    if options.json:
+        values = {"plan": plan.source, "list": egress_list, **found.values()}
+        write_json({**values, "notes": plan.notes})
+    else:
+        write_notes(plan.notes)
+        print(f"{'yes' if found.relies else 'no'}: {found.claim}:")
+        print(f"  {found.reason}")
+    return 0

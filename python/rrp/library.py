@@ -1,0 +1,277 @@
+"""The calls of the proved library (include/rrp.h), by ctypes.
+
+Each function here makes one call. A refused call raises `Refused`, which has the number and its
+sentence. Bytes go in as `bytes`, and what a call writes comes back as `bytes`. Nothing is worked
+out here.
+"""
+
+from __future__ import annotations
+
+import ctypes
+import os
+from typing import NamedTuple
+
+from .errors import LibraryMissing, RrpError
+
+#: The limits and marks of the header.
+MAX_ROUTERS = 64
+MAX_LISTS = 64
+MAX_LINKS = 512
+MAX_DISTANCE = 65534
+NO_WAY = 65535
+NONE = 255
+
+#: The refusals that the tool asks for by name.
+BAD_LISTS = 7
+BAD_TABLE = 10
+TOO_FAR = 12
+TOO_MANY_PARENTS = 13
+
+#: Why a call is refused, by number.
+REFUSALS = {
+    1: "the bytes are too few, too many, or do not start as a plan does",
+    2: "there are no routers, or more than 64",
+    3: "the table of contents is broken",
+    4: "a role or an identifier is broken",
+    5: "a session is broken",
+    6: "the distance from a router to itself is not 0",
+    7: "the egress lists are broken",
+    8: "the list or a router asked for, or one of a run's sequence, also past the limit, is "
+    "missing",
+    9: "a buffer is too short",
+    10: "the routing table holds an entry that cannot be there",
+    11: "a link is broken, or the sheet is: no whole links, or more than 512",
+    12: "some router has walks along links to another, but none with a sum of at most 65,534",
+    13: "a client has five or more neighbouring reflectors",
+}
+
+
+class Refused(RrpError):
+    """A call was refused. `number` is the library's, and `sentence` says what it means."""
+
+    def __init__(self, number: int, source: str | None = None) -> None:
+        self.number = number
+        self.sentence = REFUSALS.get(number, "a refusal that this tool does not know")
+        text = f"refused {number}: {self.sentence}"
+        super().__init__(text if source is None else f"{source}: {text}")
+
+
+class Compared(NamedTuple):
+    """Which of two egresses is better at a router: 1 the first, 2 the second, 0 neither. The
+    margin is the distance to the first minus that to the second, None where there is no way."""
+
+    better: int
+    margin: int | None
+
+
+class Explained(NamedTuple):
+    """Why a router relies on another, by the number of the rule, or does not, by that of the
+    reason. `own` is None where no best client is compared with the offer."""
+
+    relies: bool
+    code: int
+    offer: int
+    own: int | None
+    margin: int
+
+
+class Assessed(NamedTuple):
+    """A verdict. Stable: `size` is the highest rank, and `cycle` is empty. Suspect: `size` is the
+    length of `cycle`, and `ranks` and `table` are empty."""
+
+    stable: bool
+    size: int
+    labels: bytes
+    ranks: bytes
+    table: bytes
+    cycle: bytes
+
+
+class Ran(NamedTuple):
+    """A run: the table that it left, the activations made, the rounds that ended among them, and
+    whether the sequence is longer than the limit."""
+
+    table: bytes
+    applied: int
+    rounds: int
+    exhausted: bool
+
+
+_SIZE, _LONG = ctypes.c_size_t, ctypes.c_uint64
+_FLAG_OUT, _LONG_OUT = ctypes.POINTER(ctypes.c_uint8), ctypes.POINTER(ctypes.c_uint64)
+_SIGNED_OUT = ctypes.POINTER(ctypes.c_int64)
+_BYTES = (ctypes.c_char_p, ctypes.c_size_t)
+_WHY_OUT = (_FLAG_OUT, _FLAG_OUT, _LONG_OUT, _FLAG_OUT, _LONG_OUT, _SIGNED_OUT)
+
+#: The arguments of each function of the header. All return the refusal number.
+PROTOTYPES = {
+    "rrp_check": _BYTES,
+    "rrp_size": (*_BYTES, _LONG_OUT, _LONG_OUT),
+    "rrp_list": (*_BYTES, _SIZE, _LONG_OUT, _LONG_OUT),
+    "rrp_compare": (*_BYTES, _SIZE, _SIZE, _SIZE, _FLAG_OUT, _FLAG_OUT, _SIGNED_OUT),
+    "rrp_relies": (*_BYTES, _SIZE, _SIZE, _SIZE, _FLAG_OUT),
+    "rrp_explain": (*_BYTES, _SIZE, _SIZE, _SIZE, *_WHY_OUT),
+    "rrp_verdict": (*_BYTES, _SIZE, *_BYTES, *_BYTES, *_BYTES, *_BYTES, _FLAG_OUT, _LONG_OUT),
+    "rrp_activate": (*_BYTES, _SIZE, _SIZE, *_BYTES),
+    "rrp_run": (*_BYTES, _SIZE, *_BYTES, _LONG, *_BYTES, _LONG_OUT, _LONG_OUT, _FLAG_OUT),
+    "rrp_distances": (_SIZE, *_BYTES, *_BYTES),
+}
+
+_BUILD = "build it with ./build at the root of the repository"
+
+
+def places() -> list[str]:
+    """Where the shared library may be: beside the package, or in the repository's target/lib."""
+    package = os.path.dirname(os.path.abspath(__file__))
+    repository = os.path.dirname(os.path.dirname(package))
+    return [
+        os.path.join(package, "librrp.so"),
+        os.path.join(repository, "target", "lib", "librrp.so"),
+    ]
+
+
+def find() -> str:
+    """The path of the shared library: that in RRP_LIBRARY if it is set, else the first place."""
+    named = os.environ.get("RRP_LIBRARY")
+    if named:
+        if os.path.isfile(named):
+            return named
+        raise LibraryMissing(f"RRP_LIBRARY is {named}, which is no file: correct it, or {_BUILD}")
+    for path in places():
+        if os.path.isfile(path):
+            return path
+    raise LibraryMissing(
+        f"the proved library is not there: {_BUILD}, or name it in RRP_LIBRARY\n"
+        f"    looked at {' and '.join(places())}"
+    )
+
+
+def _open(path: str) -> ctypes.CDLL:
+    """Loads the library and declares its functions."""
+    try:
+        loaded = ctypes.CDLL(path)
+    except OSError as failure:
+        raise LibraryMissing(f"{path} cannot be loaded: {_BUILD}\n    {failure}") from None
+    for name, arguments in PROTOTYPES.items():
+        function = getattr(loaded, name, None)
+        if function is None:
+            raise LibraryMissing(f"{path} has no {name}: {_BUILD}")
+        function.argtypes = arguments
+        function.restype = ctypes.c_uint8
+    return loaded
+
+
+_loaded: ctypes.CDLL | None = None
+
+
+def library() -> ctypes.CDLL:
+    """The library, loaded once."""
+    global _loaded
+    if _loaded is None:
+        _loaded = _open(find())
+    return _loaded
+
+
+def _raise_if(number: int) -> None:
+    if number != 0:
+        raise Refused(number)
+
+
+def _sizes(*numbers: int) -> tuple[int, ...]:
+    """Numbers as a size_t holds them. One that it cannot hold becomes the largest that it can,
+    which is no router's and no list's."""
+    most = 2**64 - 1
+    return tuple(number if 0 <= number <= most else most for number in numbers)
+
+
+def refusal(plan: bytes) -> int:
+    """The plan's refusal number, 0 for none (rrp_check)."""
+    return library().rrp_check(plan, len(plan))
+
+
+def size(plan: bytes) -> tuple[int, int]:
+    """How many routers and how many lists the plan has (rrp_size)."""
+    routers, lists = ctypes.c_uint64(), ctypes.c_uint64()
+    _raise_if(library().rrp_size(plan, len(plan), routers, lists))
+    return routers.value, lists.value
+
+
+def egress_list(plan: bytes, egresses: int) -> bytes:
+    """The router numbers of a list, one byte each (rrp_list)."""
+    start, count = ctypes.c_uint64(), ctypes.c_uint64()
+    _raise_if(library().rrp_list(plan, len(plan), *_sizes(egresses), start, count))
+    return plan[start.value : start.value + count.value]
+
+
+def compare(plan: bytes, router: int, first: int, second: int) -> Compared:
+    """Which of two egresses is better at a router, and by how much (rrp_compare)."""
+    better, has_margin, margin = ctypes.c_uint8(), ctypes.c_uint8(), ctypes.c_int64()
+    numbers = _sizes(router, first, second)
+    _raise_if(library().rrp_compare(plan, len(plan), *numbers, better, has_margin, margin))
+    return Compared(better.value, margin.value if has_margin.value else None)
+
+
+def relies(plan: bytes, egresses: int, router: int, other: int) -> bool:
+    """Whether a router relies on another for a list (rrp_relies)."""
+    answer = ctypes.c_uint8()
+    numbers = _sizes(egresses, router, other)
+    _raise_if(library().rrp_relies(plan, len(plan), *numbers, answer))
+    return bool(answer.value)
+
+
+def explain(plan: bytes, egresses: int, router: int, other: int) -> Explained:
+    """The rule by which a router relies on another for a list, or the reason why it does not
+    (rrp_explain)."""
+    answer, code, has_own = ctypes.c_uint8(), ctypes.c_uint8(), ctypes.c_uint8()
+    offer, own, margin = ctypes.c_uint64(), ctypes.c_uint64(), ctypes.c_int64()
+    numbers = _sizes(egresses, router, other)
+    out = (answer, code, offer, has_own, own, margin)
+    _raise_if(library().rrp_explain(plan, len(plan), *numbers, *out))
+    compared = own.value if has_own.value else None
+    return Explained(bool(answer.value), code.value, offer.value, compared, margin.value)
+
+
+def verdict(plan: bytes, egresses: int) -> Assessed:
+    """The verdict of a plan for a list (rrp_verdict)."""
+    labels, ranks, cycle = (ctypes.create_string_buffer(MAX_ROUTERS) for _ in range(3))
+    table = ctypes.create_string_buffer(2 * MAX_ROUTERS)
+    stable, number = ctypes.c_uint8(), ctypes.c_uint64()
+    buffers = [part for buffer in (labels, ranks, table, cycle) for part in (buffer, len(buffer))]
+    _raise_if(
+        library().rrp_verdict(plan, len(plan), *_sizes(egresses), *buffers, stable, number)
+    )
+    routers = plan[4]
+    if stable.value:
+        written = ranks.raw[:routers], table.raw[: 2 * routers], b""
+    else:
+        written = b"", b"", cycle.raw[: number.value]
+    return Assessed(bool(stable.value), number.value, labels.raw[:routers], *written)
+
+
+def activate(plan: bytes, egresses: int, router: int, table: bytes) -> bytes:
+    """The table after one activation of a router (rrp_activate)."""
+    held = ctypes.create_string_buffer(table, max(len(table), 1))
+    numbers = _sizes(egresses, router)
+    _raise_if(library().rrp_activate(plan, len(plan), *numbers, held, len(table)))
+    return held.raw[: len(table)]
+
+
+def run(
+    plan: bytes, egresses: int, sequence: bytes, table: bytes, limit: int | None = None
+) -> Ran:
+    """Activates the routers of a sequence, one byte each, at most `limit` of them (rrp_run)."""
+    held = ctypes.create_string_buffer(table, max(len(table), 1))
+    applied, rounds, exhausted = ctypes.c_uint64(), ctypes.c_uint64(), ctypes.c_uint8()
+    number, most = _sizes(egresses, len(sequence) if limit is None else limit)
+    lent = sequence, len(sequence), most, held, len(table)
+    _raise_if(library().rrp_run(plan, len(plan), number, *lent, applied, rounds, exhausted))
+    return Ran(held.raw[: len(table)], applied.value, rounds.value, bool(exhausted.value))
+
+
+def distances(routers: int, links: bytes) -> bytes:
+    """A plan's distances from a sheet of links, four bytes each (rrp_distances)."""
+    (number,) = _sizes(routers)
+    length = 2 * min(number, MAX_ROUTERS) ** 2
+    out = ctypes.create_string_buffer(max(length, 1))
+    _raise_if(library().rrp_distances(number, links, len(links), out, length))
+    return out.raw[:length]

@@ -1,0 +1,66 @@
+"""What the commands write alike."""
+
+from __future__ import annotations
+
+import sys
+from collections.abc import Iterable, Sequence
+
+from .encoding import CLIENT
+from .plan import Plan, Verdict
+
+
+def write_json(value: object) -> None:
+    """Writes a value as JSON on standard output, in ASCII, which every output can take."""
+    import json
+
+    json.dump(value, sys.stdout, indent=2)
+    sys.stdout.write("\n")
+
+
+def write_notes(notes: Iterable[str]) -> None:
+    """Writes remarks that are no part of the answer on standard error."""
+    for text in notes:
+        print(f"note: {text}", file=sys.stderr)
+
+
+def sizes(plan: Plan) -> dict[str, int]:
+    """How much a plan has of everything."""
+    clients = plan.model.roles.count(CLIENT)
+    return {
+        "routers": len(plan.routers),
+        "reflectors": len(plan.routers) - clients,
+        "clients": clients,
+        "sessions": len(plan.model.sessions),
+        "lists": len(plan.lists),
+    }
+
+
+def sizes_line(plan: Plan) -> str:
+    """A line on the sizes of a plan."""
+    counts = {name: count_words(count, name[:-1]) for name, count in sizes(plan).items()}
+    parts = f"{counts['routers']} ({counts['reflectors']}, {counts['clients']})"
+    return f"{plan.source}: {parts}, {counts['sessions']}, {counts['lists']}"
+
+
+def count_words(count: int, noun: str) -> str:
+    """A count with its noun: 1 list, 2 lists."""
+    return f"{count} {noun}" if count == 1 else f"{count} {noun}s"
+
+
+def verdict_words(verdict: Verdict) -> str:
+    """A verdict in a few words."""
+    if verdict.stable:
+        return f"stable: highest rank {verdict.highest}, settles within {verdict.rounds} rounds"
+    return f"suspect: {cycle_words(verdict.cycle)}"
+
+
+def cycle_words(cycle: Sequence[str]) -> str:
+    """A cycle: each router relies on the next, and the last one on the first."""
+    return " -> ".join([*cycle, *cycle[:1]])
+
+
+def verdict_values(verdict: Verdict) -> dict[str, object]:
+    """A verdict as plain values."""
+    if verdict.stable:
+        return {"stable": True, "highest_rank": verdict.highest, "rounds": verdict.rounds}
+    return {"stable": False, "cycle": verdict.cycle, "groups": verdict.groups}

@@ -1,0 +1,318 @@
+"""Plans as a planner works with them: routers and lists by name, answers by the proved library.
+
+    from rrp import Plan
+
+    plan = Plan.read("examples/net.rrp")
+    for name in plan.lists:
+        verdict = plan.verdict(name)
+        print(name, "stable" if verdict.stable else f"suspect: {' '.join(verdict.cycle)}")
+
+A router or a list is asked for by its name or by its number. Answers have names.
+"""
+
+from __future__ import annotations
+
+import os
+from collections.abc import Iterable, Sequence
+from functools import cached_property
+from typing import NamedTuple, Union
+
+from . import encoding, library
+from .errors import RrpError, unknown
+from .tables import Route, Table
+
+#: A router or a list, by name or by number.
+Which = Union[str, int]
+
+#: The rules by which a router relies on another, by the library's number.
+RULES = {1: "parent", 2: "peer client", 3: "own best client", 4: "better offer"}
+BETTER_OFFER = 4
+
+#: The reasons why it does not. The requirements' fifth never comes first, so 5 is not used.
+REASONS = {
+    1: "same router",
+    2: "not neighbours",
+    3: "first router listed",
+    4: "second an unlisted client",
+    6: "a client that is not the best one",
+    7: "no offer",
+    8: "no way to the offer",
+    9: "offer not better",
+}
+
+ROLES = {encoding.REFLECTOR: "reflector", encoding.CLIENT: "client", encoding.SKIPPING: "reflector"}
+
+
+class Verdict(NamedTuple):
+    """The verdict of a plan for a list.
+
+    Stable: `highest` is the highest rank, `rounds` the rounds within which the routers settle,
+    `ranks` each router's rank and `table` what the routers settle on; `cycle` is empty. Suspect:
+    `cycle` has routers of which each relies on the next and the last on the first; `highest`,
+    `rounds`, `ranks` and `table` are None. Either way `labels` has for each router the one with the
+    lowest number in its group, and `groups` the groups of two routers or more.
+    """
+
+    name: str
+    stable: bool
+    highest: int | None
+    rounds: int | None
+    ranks: dict[str, int] | None
+    table: Table | None
+    labels: dict[str, str]
+    groups: tuple[tuple[str, ...], ...]
+    cycle: tuple[str, ...]
+
+
+class Explanation(NamedTuple):
+    """Why a router relies on another for a list, or does not.
+
+    `code` is the library's number of the rule (of `RULES`) if `relies`, else of the reason (of
+    `REASONS`), and `words` names that rule or reason. A better offer has the egress `offer` and, if
+    the router has a best client of its own, that one as `own` and, as `margin`, the distance to the
+    offer minus that to the own one. What an answer does not have is None.
+    """
+
+    relies: bool
+    code: int
+    words: str
+    offer: str | None
+    own: str | None
+    margin: int | None
+
+
+class Comparison(NamedTuple):
+    """Which of two egresses is better at a router, None if neither is. `margin` is the distance to
+    the first minus that to the second, None where the router has no way to one of them."""
+
+    better: str | None
+    margin: int | None
+
+
+class Run(NamedTuple):
+    """What a run left: the table, how many activations were made, how many rounds ended among
+    them, and whether the sequence is longer than the limit."""
+
+    table: Table
+    applied: int
+    rounds: int
+    exhausted: bool
+
+
+class Plan:
+    """A plan that the library does not refuse, with names.
+
+    `data` is the plan's bytes, `routers` and `lists` are the names in the order of the numbers,
+    `source` says where the plan came from, and `notes` has remarks for the planner, a line each.
+    """
+
+    def __init__(
+        self,
+        data: bytes,
+        routers: Sequence[str] | None = None,
+        lists: Sequence[str] | None = None,
+        source: str = "the plan",
+        notes: Sequence[str] = (),
+    ) -> None:
+        self.data = bytes(data)
+        self.source = source
+        self.notes = tuple(notes)
+        router_count, list_count = library.size(self.data)
+        self.routers = _names(routers, "r", router_count)
+        self.lists = _names(lists, "l", list_count)
+        self._router_numbers = {name: number for number, name in enumerate(self.routers)}
+        self._list_numbers = {name: number for number, name in enumerate(self.lists)}
+
+    # Where plans come from
+
+    @classmethod
+    def read(cls, path: str | os.PathLike[str]) -> Plan:
+        """Reads a plan from a file, text or bytes; from standard input if the path is `-`."""
+        from .files import read_file
+
+        name, data = read_file(path)
+        if encoding.is_bytes(data):
+            return cls.from_bytes(data, name)
+        from .text import decode_text
+
+        return cls.parse(decode_text(data, name), name)
+
+    @classmethod
+    def parse(cls, text: str, filename: str = "plan") -> Plan:
+        """Reads a plan from text (docs/TEXT-PLANS.md). `TextErrors` has all problems of a text."""
+        from .text import parse
+        from .text.assembly import assemble
+
+        return assemble(parse(text, filename))
+
+    @classmethod
+    def from_bytes(cls, data: bytes, filename: str = "plan") -> Plan:
+        """A plan from its bytes, with routers r0, r1, .. and lists l0, l1, .."""
+        try:
+            return cls(data, source=filename)
+        except library.Refused as refused:
+            raise library.Refused(refused.number, filename) from None
+
+    # What the plan says
+
+    def router_number(self, which: Which) -> int:
+        """The number of a router, given its name or its number."""
+        return _number(which, self._router_numbers, "router", self.routers, self.source)
+
+    def list_number(self, which: Which) -> int:
+        """The number of a list, given its name or its number."""
+        return _number(which, self._list_numbers, "list", self.lists, self.source)
+
+    @cached_property
+    def model(self) -> encoding.Model:
+        """What the plan says, by number."""
+        return encoding.decode(self.data)
+
+    def role(self, router: Which) -> str:
+        """`reflector` or `client`."""
+        return ROLES[self.model.roles[self.router_number(router)]]
+
+    def skips_clients(self, router: Which) -> bool:
+        """Whether a router is a reflector without reflection between its clients."""
+        return self.model.roles[self.router_number(router)] == encoding.SKIPPING
+
+    def identifier(self, router: Which) -> int:
+        """The identifier of a router. The first byte of an IPv4 address is the most significant."""
+        return self.model.identifiers[self.router_number(router)]
+
+    @cached_property
+    def sessions(self) -> tuple[tuple[str, str], ...]:
+        """The two routers of each session."""
+        return tuple((self.routers[one], self.routers[other]) for one, other in self.model.sessions)
+
+    def neighbours(self, router: Which) -> tuple[str, ...]:
+        """The routers that have a session with a router."""
+        name = self.routers[self.router_number(router)]
+        own = [pair for pair in self.sessions if name in pair]
+        return tuple(one if other == name else other for one, other in own)
+
+    def distance(self, router: Which, other: Which) -> int | None:
+        """The distance from a router to another, None if there is no way."""
+        return self.model.distances[self.router_number(router)][self.router_number(other)]
+
+    def egresses(self, egress_list: Which) -> tuple[str, ...]:
+        """The egress routers of a list."""
+        return self._at(library.egress_list(self.data, self.list_number(egress_list)))
+
+    # What the library answers
+
+    def compare(self, router: Which, first: Which, second: Which) -> Comparison:
+        """Which of two egress routers is better at a router, and by how much."""
+        egresses = self.router_number(first), self.router_number(second)
+        answer = library.compare(self.data, self.router_number(router), *egresses)
+        better = self.routers[egresses[answer.better - 1]] if answer.better else None
+        return Comparison(better, answer.margin)
+
+    def relies(self, egress_list: Which, router: Which, other: Which) -> bool:
+        """Whether a router relies on another for a list."""
+        routers = self.router_number(router), self.router_number(other)
+        return library.relies(self.data, self.list_number(egress_list), *routers)
+
+    def reliances(self, egress_list: Which, router: Which) -> tuple[str, ...]:
+        """The routers that a router relies on for a list."""
+        return tuple(other for other in self.routers if self.relies(egress_list, router, other))
+
+    def explain(self, egress_list: Which, router: Which, other: Which) -> Explanation:
+        """The rule by which a router relies on another for a list, or why it does not."""
+        routers = self.router_number(router), self.router_number(other)
+        answer = library.explain(self.data, self.list_number(egress_list), *routers)
+        offered = answer.relies and answer.code == BETTER_OFFER
+        words = (RULES if answer.relies else REASONS).get(answer.code, f"code {answer.code}")
+        return Explanation(
+            relies=answer.relies,
+            code=answer.code,
+            words=words,
+            offer=self.routers[answer.offer] if offered else None,
+            own=None if answer.own is None else self.routers[answer.own],
+            margin=None if answer.own is None else answer.margin,
+        )
+
+    def verdict(self, egress_list: Which) -> Verdict:
+        """The verdict for a list."""
+        number = self.list_number(egress_list)
+        answer = library.verdict(self.data, number)
+        labels = self._at(answer.labels)
+        return Verdict(
+            name=self.lists[number],
+            stable=answer.stable,
+            highest=answer.size if answer.stable else None,
+            rounds=answer.size + 2 if answer.stable else None,
+            ranks=dict(zip(self.routers, answer.ranks)) if answer.stable else None,
+            table=Table(answer.table, self.routers) if answer.stable else None,
+            labels=dict(zip(self.routers, labels)),
+            groups=_groups(self.routers, labels),
+            cycle=self._at(answer.cycle),
+        )
+
+    def verdicts(self) -> tuple[Verdict, ...]:
+        """The verdicts for all lists, in order."""
+        return tuple(self.verdict(number) for number in range(len(self.lists)))
+
+    # Routing tables
+
+    def empty_table(self, egress_list: Which) -> Table:
+        """The table to start from nothing: each router of the list holds its own route alone."""
+        table = Table(bytes([library.NONE]) * (2 * len(self.routers)), self.routers)
+        for name in self.egresses(egress_list):
+            table = table.with_route(name, Route(name, name))
+        return table
+
+    def activate(self, egress_list: Which, router: Which, table: Table) -> Table:
+        """The table after one activation of a router."""
+        numbers = self.list_number(egress_list), self.router_number(router)
+        return Table(library.activate(self.data, *numbers, table.data), self.routers)
+
+    def run(
+        self,
+        egress_list: Which,
+        sequence: Iterable[Which],
+        table: Table | None = None,
+        limit: int | None = None,
+    ) -> Run:
+        """Activates routers one after the other, at most `limit` of them, from a table or, if none
+        is given, from nothing."""
+        start = self.empty_table(egress_list) if table is None else table
+        acts = bytes(self.router_number(which) for which in sequence)
+        ran = library.run(self.data, self.list_number(egress_list), acts, start.data, limit)
+        return Run(Table(ran.table, self.routers), ran.applied, ran.rounds, ran.exhausted)
+
+    def _at(self, numbers: Iterable[int]) -> tuple[str, ...]:
+        """The names of routers, by their numbers."""
+        return tuple(self.routers[number] for number in numbers)
+
+
+def _names(given: Sequence[str] | None, letter: str, count: int) -> tuple[str, ...]:
+    """The names given, one each; or, if none are, the letter and a number."""
+    names = tuple(f"{letter}{number}" for number in range(count)) if given is None else tuple(given)
+    if len(set(names)) != count or len(names) != count:
+        raise RrpError(f"there must be {count} different names, and not {', '.join(names)}")
+    return names
+
+
+def _number(
+    which: Which, numbers: dict[str, int], kind: str, names: Sequence[str], source: str
+) -> int:
+    """The number that a name stands for, or that is given itself. A name goes before a number that
+    is written like it."""
+    if isinstance(which, str):
+        if which in numbers:
+            return numbers[which]
+        if not (which.isascii() and which.isdigit() and len(which) < 10):
+            raise unknown(kind, which, names, source)
+        which = int(which)
+    if not 0 <= which < len(names):
+        raise unknown(kind, str(which), names, source)
+    return which
+
+
+def _groups(routers: Sequence[str], labels: Sequence[str]) -> tuple[tuple[str, ...], ...]:
+    """The groups of two routers or more: the routers that share a label."""
+    groups: dict[str, list[str]] = {}
+    for router, label in zip(routers, labels):
+        groups.setdefault(label, []).append(router)
+    return tuple(tuple(group) for group in groups.values() if len(group) > 1)

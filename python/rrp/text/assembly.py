@@ -1,0 +1,172 @@
+"""Makes the bytes of a draft.
+
+Distances come from the library's call on the links, and the library says whether the bytes are a
+plan. Where it refuses, the statement to blame is found by asking it again with fewer statements.
+"""
+
+from __future__ import annotations
+
+from collections.abc import Iterable
+
+from .. import encoding, library
+from ..encoding import CLIENT, Model, Rows
+from ..plan import Plan
+from .draft import Draft, Way
+from .problems import Problem, TextErrors
+
+#: So many pairs without a way are named in a note.
+_PAIRS_NAMED = 3
+
+
+def assemble(draft: Draft) -> Plan:
+    """The plan of a draft. Routers are numbered by their identifiers."""
+    names = sorted(draft.routers, key=lambda name: draft.routers[name].identifier)
+    model = _model(draft, names)
+    data = encoding.encode(model)
+    refusal = library.refusal(data)
+    if refusal:
+        _raise_refused(draft, names, model, refusal)
+    return Plan(data, names, list(draft.lists), draft.file, _notes(draft, names, model))
+
+
+def _model(draft: Draft, names: list[str]) -> Model:
+    numbers = _numbers(names)
+    return Model(
+        roles=[draft.routers[name].role for name in names],
+        identifiers=[draft.routers[name].identifier for name in names],
+        sessions=_sessions(draft.sessions, numbers),
+        distances=_distances(draft, names),
+        lists=[sorted(numbers[name] for name in each.routers) for each in draft.lists.values()],
+    )
+
+
+def _numbers(names: list[str]) -> dict[str, int]:
+    return {name: number for number, name in enumerate(names)}
+
+
+def _sessions(
+    pairs: Iterable[tuple[str, str]], numbers: dict[str, int]
+) -> list[tuple[int, int]]:
+    """The sessions by number, in the order that a plan has them."""
+    ends = [(numbers[one], numbers[other]) for one, other in pairs]
+    return sorted((min(pair), max(pair)) for pair in ends)
+
+
+def _distances(draft: Draft, names: list[str]) -> Rows:
+    """The distances from the links, with those that are stated in their place."""
+    try:
+        rows = _from_links(draft.links, names)
+    except library.Refused as refused:
+        if refused.number != library.TOO_FAR:
+            raise library.Refused(refused.number, draft.file) from None
+        raise TextErrors([_too_far(draft, names)]) from None
+    numbers = _numbers(names)
+    for (start, end), way in draft.distances.items():
+        rows[numbers[start]][numbers[end]] = way.value
+    return rows
+
+
+def _from_links(links: dict[tuple[str, str], Way], names: list[str]) -> Rows:
+    """The library's distances from the links that are not down."""
+    numbers = _numbers(names)
+    up = [(ends, way.value) for ends, way in links.items() if way.value is not None]
+    sheet = {(numbers[start], numbers[end]): weight for (start, end), weight in up}
+    body = library.distances(len(names), encoding.encode_links(sheet))
+    return encoding.decode_distances(body, len(names))
+
+
+def _too_far(draft: Draft, names: list[str]) -> Problem:
+    """The last link without which those before it pass, and two routers that it joins."""
+    links = dict(draft.links)
+    while True:
+        word = list(links.values())[-1].word
+        last = {ends: way for ends, way in links.items() if way.word is word}
+        links = {ends: way for ends, way in links.items() if way.word is not word}
+        try:
+            rows = _from_links(links, names)
+        except library.Refused:
+            continue
+        start, end, far = _farthest(rows, last, names)
+        message = f"with this link it is {far:,} from {start} to {end}, which is too far"
+        advice = f"a distance is at most {library.MAX_DISTANCE:,}: divide all weights by the same"
+        return Problem(word, message, advice)
+
+
+def _farthest(
+    rows: Rows, links: dict[tuple[str, str], Way], names: list[str]
+) -> tuple[str, str, int]:
+    """Of the routers that only these links join, the two that are farthest apart, and how far."""
+    numbers = _numbers(names)
+    sums: dict[tuple[str, str], int] = {}
+    for (start, end), way in links.items():
+        for name, row in zip(names, rows):
+            for other, there, behind in zip(names, row, rows[numbers[end]]):
+                parts = row[numbers[start]], way.value, behind
+                if there is None and None not in parts:
+                    sums[name, other] = min(sum(parts), sums.get((name, other), sum(parts)))
+    (name, other), far = max(sums.items(), key=lambda each: each[1])
+    return name, other, far
+
+
+def _raise_refused(draft: Draft, names: list[str], model: Model, refusal: int) -> None:
+    """Raises the failure for a plan that is refused: at its statements, where they are found."""
+    problems: list[Problem] = []
+    if refusal == library.TOO_MANY_PARENTS:
+        problems = _clients_of_many(draft, names, model)
+    elif refusal == library.BAD_LISTS:
+        problems = _bad_lists(draft, model)
+    if problems:
+        raise TextErrors(problems)
+    raise library.Refused(refusal, draft.file)
+
+
+def _clients_of_many(draft: Draft, names: list[str], model: Model) -> list[Problem]:
+    """Each client with too many parents, at the first session that is one too many."""
+    problems = []
+    for client in (name for name in names if draft.routers[name].role == CLIENT):
+        stated = [pair for pair in draft.sessions if client in pair]
+        for count in range(1, len(stated) + 1):
+            fewer = model._replace(sessions=_sessions(stated[:count], _numbers(names)))
+            if library.refusal(encoding.encode(fewer)) == library.TOO_MANY_PARENTS:
+                problems.append(_too_many(draft, client, stated, stated[count - 1]))
+                break
+    return problems
+
+
+def _too_many(
+    draft: Draft, client: str, stated: list[tuple[str, str]], last: tuple[str, str]
+) -> Problem:
+    others = [one if other == client else other for one, other in stated]
+    parents = ", ".join(name for name in others if draft.routers[name].role != CLIENT)
+    message = f"the client {client} has too many neighbouring reflectors: {parents}"
+    return Problem(draft.sessions[last], message, "a client has at most four: leave some out")
+
+
+def _bad_lists(draft: Draft, model: Model) -> list[Problem]:
+    """Each list that the library refuses by itself."""
+    problems = []
+    for stated, numbers in zip(draft.lists.values(), model.lists):
+        alone = model._replace(lists=[numbers])
+        if library.refusal(encoding.encode(alone)) == library.BAD_LISTS:
+            name = stated.word.text
+            advice = f"name its egress routers: list {name} ROUTER .."
+            problems.append(Problem(stated.word, f"the list {name} has no router", advice))
+    return problems
+
+
+def _notes(draft: Draft, names: list[str], model: Model) -> list[str]:
+    """A note on the pairs without a way, but for those that are stated to have none."""
+    cut = {
+        (start, end): None
+        for start, row in zip(names, model.distances)
+        for end, way in zip(names, row)
+        if way is None and (start, end) not in draft.distances
+    }
+    both = [pair for pair in cut if pair[0] < pair[1] and pair[::-1] in cut]
+    one_way = [pair for pair in cut if pair[::-1] not in cut]
+    pairs = [" and ".join(pair) for pair in both] + [" to ".join(pair) for pair in one_way]
+    if not pairs:
+        return []
+    named = ", ".join(pairs[:_PAIRS_NAMED]) + (", .." if len(pairs) > _PAIRS_NAMED else "")
+    count = "1 pair" if len(pairs) == 1 else f"{len(pairs)} pairs"
+    return [f"no way along links for {count} of routers: {named}"]

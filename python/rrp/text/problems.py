@@ -1,0 +1,109 @@
+"""What is wrong with a text: each problem at its place, shown with the line and a mark."""
+
+from __future__ import annotations
+
+from collections.abc import Iterable, Sequence
+from typing import NamedTuple
+
+from ..errors import RrpError, cut_names, nearest
+from .words import Word
+
+#: So many problems are shown. A file that is no plan has one on every line.
+MOST_SHOWN = 20
+
+#: After so many problems no more guesses are made at what was meant, which take time.
+_MOST_GUESSED = 200
+
+#: So many columns of a line are shown, of which so many are before the mark.
+_COLUMNS = 100
+_BEFORE = 60
+
+
+class Problem(NamedTuple):
+    """What is wrong at a word, and what to do."""
+
+    word: Word
+    message: str
+    advice: str
+
+    def report(self) -> str:
+        """The place and the message, the line with a mark under the word, the advice."""
+        line = self.word.line
+        shown, start = _window(line.text, self.word.column - 1)
+        before, under = _columns(shown[:start]), _columns(shown[start:][: len(self.word.text)])
+        place = f"{line.file}:{line.number}:{self.word.column}"
+        below = [shown, " " * before + "^" * max(1, under), cut_names(self.advice)]
+        said = f"{place}: {cut_names(self.message)}"
+        return "\n".join([said, *(f"    {each}".rstrip() for each in below)])
+
+
+class Slip(Exception):
+    """Ends the reading of a statement that has a problem."""
+
+    def __init__(self, word: Word, message: str, advice: str) -> None:
+        super().__init__(message)
+        self.problem = Problem(word, message, advice)
+
+
+class TextErrors(RrpError):
+    """All problems of a text, in the order of their places."""
+
+    def __init__(self, problems: Sequence[Problem]) -> None:
+        self.problems = sorted(problems, key=lambda each: (each.word.line.number, each.word.column))
+        super().__init__(self.problems)
+
+    def __str__(self) -> str:
+        return self.report()
+
+    def report(self) -> str:
+        """The problems as the command prints them."""
+        shown = [problem.report() for problem in self.problems[:MOST_SHOWN]]
+        count = len(self.problems)
+        if count > MOST_SHOWN:
+            shown.append(f"rrp: {count} errors, of which the first {MOST_SHOWN} are shown")
+        elif count > 1:
+            shown.append(f"rrp: {count} errors")
+        return "\n".join(shown)
+
+    def as_json(self) -> list[dict[str, object]]:
+        """The problems as plain values."""
+        return [_values(problem) for problem in self.problems]
+
+
+def _values(problem: Problem) -> dict[str, object]:
+    word = problem.word
+    return {
+        "file": word.line.file,
+        "line": word.line.number,
+        "column": word.column,
+        "text": word.line.text,
+        "message": cut_names(problem.message),
+        "advice": cut_names(problem.advice),
+    }
+
+
+def guess(word: str, known: Iterable[str], problems: Sequence[Problem]) -> str | None:
+    """The known word that may be meant by one that is not known."""
+    return nearest(word, known) if len(problems) < _MOST_GUESSED else None
+
+
+def printable(text: str) -> str:
+    """A text with a blank for each tab and a `?` for what cannot be printed."""
+    return "".join(letter if letter.isprintable() else "?" for letter in text.replace("\t", " "))
+
+
+def _window(text: str, start: int) -> tuple[str, int]:
+    """The part of a line that is shown, and where in it the mark starts."""
+    cut = max(0, start - _BEFORE) if len(text) > _COLUMNS else 0
+    shown = printable(text[cut : cut + _COLUMNS]).rstrip().ljust(start - cut)
+    return (f"..{shown[2:]}" if cut else shown), start - cut
+
+
+def _columns(text: str) -> int:
+    """How many columns a terminal takes for a text."""
+    if text.isascii():
+        return len(text)
+    from unicodedata import combining, east_asian_width
+
+    letters = (letter for letter in text if not combining(letter))
+    return sum(2 if east_asian_width(letter) in "FW" else 1 for letter in letters)

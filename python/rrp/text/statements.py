@@ -1,0 +1,255 @@
+"""The statements of a text plan, one a line. docs/TEXT-PLANS.md has the grammar."""
+
+from __future__ import annotations
+
+import re
+from typing import NamedTuple, Union
+
+from ..encoding import CLIENT, REFLECTOR, SKIPPING
+from .problems import Problem, Slip, guess, printable
+from .words import Word, after
+
+#: How each statement is written.
+FORMS = {
+    "reflector": "reflector NAME IDENTIFIER [no-client-reflection]",
+    "client": "client NAME IDENTIFIER [of NAME ..]",
+    "mesh": "mesh NAME NAME ..",
+    "session": "session NAME NAME",
+    "link": "link NAME NAME WEIGHT, or one way: link NAME > NAME WEIGHT",
+    "distance": "distance NAME NAME NUMBER, or one way: distance NAME > NAME NUMBER",
+    "list": "list NAME ROUTER ..",
+}
+
+#: What the number of a statement is called, the least that it may be, and the most.
+NUMBERS = {"link": ("weight", 1, 65535), "distance": ("distance", 0, 65534)}
+
+NO_REFLECTION = "no-client-reflection"
+NO_WAY = "none"
+
+#: A word of so many letters is cut in a message.
+_LONG = 40
+
+_INTEGER = re.compile(r"-?[0-9]+")
+_NUMBER = re.compile(r"[0-9]{1,10}")
+_BYTE = r"(0|[1-9][0-9]{0,2})"
+_ADDRESS = re.compile(r"\.".join([_BYTE] * 4))
+
+
+class RouterStatement(NamedTuple):
+    """`reflector` or `client`. The identifier is None if it has a problem."""
+
+    name: Word
+    role: int
+    identifier: int | None
+    identifier_word: Word
+    others: list[Word]
+
+
+class MeshStatement(NamedTuple):
+    """`mesh`: a session between each two of the routers."""
+
+    routers: list[Word]
+
+
+class SessionStatement(NamedTuple):
+    """`session`. It is not there if `none` follows, which only a change may say."""
+
+    one: Word
+    other: Word
+    there: bool
+
+
+class WayStatement(NamedTuple):
+    """`link` or `distance`, both ways or one way. The value is None for `none`."""
+
+    kind: str
+    start: Word
+    end: Word
+    one_way: bool
+    value: int | None
+
+
+class ListStatement(NamedTuple):
+    """`list`."""
+
+    name: Word
+    routers: list[Word]
+
+
+Statement = Union[RouterStatement, MeshStatement, SessionStatement, WayStatement, ListStatement]
+
+
+class Reader:
+    """Reads the words of one statement from left to right."""
+
+    def __init__(self, words: list[Word], problems: list[Problem]) -> None:
+        self.words = words
+        self.problems = problems
+        self.place = 1
+
+    @property
+    def kind(self) -> str:
+        """The first word of the statement."""
+        return self.words[0].text
+
+    @property
+    def advice(self) -> str:
+        """How the statement is written."""
+        return f"write: {FORMS[self.kind]}"
+
+    def left(self) -> bool:
+        """Whether there are words left."""
+        return self.place < len(self.words)
+
+    def take(self, what: str) -> Word:
+        """The next word, which says what is given here."""
+        if not self.left():
+            raise Slip(after(self.words[-1]), f"{what} is missing", self.advice)
+        self.place += 1
+        return self.words[self.place - 1]
+
+    def take_if(self, text: str) -> bool:
+        """Takes the next word if it is the one given."""
+        found = self.left() and self.words[self.place].text == text
+        self.place += found
+        return found
+
+    def name(self, what: str) -> Word:
+        """The next word, which is a name."""
+        word = self.take(what)
+        if word.text == ">":
+            raise Slip(word, f"{what} is missing before >", self.advice)
+        if not word.text.isprintable():
+            message = f"the name {clear(word.text)} has a character that cannot be printed"
+            raise Slip(word, message, "use letters, digits and - . _ / :")
+        return word
+
+    def identifier(self) -> Word:
+        """The next word, which is an identifier. An `of` is left where that is missing."""
+        if self.left() and self.words[self.place].text == "of":
+            word = self.words[self.place]
+            raise Slip(word, "the identifier is missing before of", self.advice)
+        return self.take("the identifier")
+
+    def names(self, what: str) -> list[Word]:
+        """All words that are left, which are names; at least one."""
+        found = [self.name(what)]
+        while self.left():
+            found.append(self.name(what))
+        return found
+
+    def end(self) -> None:
+        """No word is left."""
+        if self.left():
+            word = self.words[self.place]
+            raise Slip(word, f"{clear(word.text)} is a word too many", self.advice)
+
+
+def read_statement(words: list[Word], problems: list[Problem]) -> Statement | None:
+    """The statement that the words of a line make. Its problems are added to those given."""
+    kind = words[0].text
+    if kind not in FORMS:
+        return _read_misspelt(words, problems)
+    try:
+        return _READERS[kind](Reader(words, problems))
+    except Slip as slip:
+        problems.append(slip.problem)
+        return None
+
+
+def _read_misspelt(words: list[Word], problems: list[Problem]) -> Statement | None:
+    """A misspelt statement. The name of a router is kept, so that it is known elsewhere."""
+    kind = words[0].text
+    near = guess(kind, FORMS, problems)
+    advice = f"did you mean {near}?" if near else f"a line starts with one of: {', '.join(FORMS)}"
+    problems.append(Problem(words[0], f"no statement starts with {clear(kind)}", advice))
+    if near not in ("reflector", "client"):
+        return None
+    return read_statement([words[0]._replace(text=near), *words[1:]], [])
+
+
+def _read_router(reader: Reader) -> RouterStatement:
+    """A router keeps its name where the rest has a problem, so that the name is known elsewhere."""
+    role = REFLECTOR if reader.kind == "reflector" else CLIENT
+    name, word, identifier, others = reader.name("the router's name"), None, None, []
+    try:
+        word = reader.identifier()
+        identifier = read_identifier(word)
+    except Slip as slip:
+        reader.problems.append(slip.problem)
+    try:
+        if role == REFLECTOR and reader.take_if(NO_REFLECTION):
+            role = SKIPPING
+        elif role == CLIENT and reader.take_if("of"):
+            others = reader.names("a router's name after of")
+        reader.end()
+    except Slip as slip:
+        reader.problems.append(slip.problem)
+    return RouterStatement(name, role, identifier, word or name, others)
+
+
+def _read_mesh(reader: Reader) -> MeshStatement:
+    first = reader.name("a router's name")
+    return MeshStatement([first, *reader.names("a second router's name")])
+
+
+def _read_session(reader: Reader) -> SessionStatement:
+    one, other = reader.name("a router's name"), reader.name("the other router's name")
+    there = not reader.take_if(NO_WAY)
+    reader.end()
+    return SessionStatement(one, other, there)
+
+
+def _read_way(reader: Reader) -> WayStatement:
+    start = reader.name("a router's name")
+    one_way = reader.take_if(">")
+    end = reader.name("the other router's name")
+    value = read_value(reader.take(f"the {NUMBERS[reader.kind][0]}"), reader.kind)
+    reader.end()
+    return WayStatement(reader.kind, start, end, one_way, value)
+
+
+def _read_list(reader: Reader) -> ListStatement:
+    name = reader.name("the list's name")
+    return ListStatement(name, reader.names("a router's name") if reader.left() else [])
+
+
+_READERS = {
+    "reflector": _read_router,
+    "client": _read_router,
+    "mesh": _read_mesh,
+    "session": _read_session,
+    "link": _read_way,
+    "distance": _read_way,
+    "list": _read_list,
+}
+
+
+def read_identifier(word: Word) -> int:
+    """An identifier: an IPv4 address, its first byte most significant, or a number."""
+    address = _ADDRESS.fullmatch(word.text)
+    parts = [int(part) for part in address.groups()] if address else []
+    if parts and max(parts) <= 255:
+        return int.from_bytes(bytes(parts), "big")
+    if _NUMBER.fullmatch(word.text) and int(word.text) < 2**32:
+        return int(word.text)
+    advice = "write an IPv4 address, as 10.0.0.1, or a number from 0 to 4,294,967,295"
+    raise Slip(word, f"{clear(word.text)} is no identifier", advice)
+
+
+def read_value(word: Word, kind: str) -> int | None:
+    """The number of a link or a distance, None for `none`."""
+    if word.text == NO_WAY:
+        return None
+    noun, least, most = NUMBERS[kind]
+    advice = f"a {noun} is a number from {least} to {most:,}, or none"
+    if not _INTEGER.fullmatch(word.text):
+        raise Slip(word, f"{clear(word.text)} is no number", advice)
+    if not _NUMBER.fullmatch(word.text) or not least <= int(word.text) <= most:
+        raise Slip(word, f"the {noun} {clear(word.text)} is out of range", advice)
+    return int(word.text)
+
+
+def clear(text: str) -> str:
+    """A word as a message has it: printable, and cut if it is long."""
+    return printable(text if len(text) <= _LONG else f"{text[: _LONG - 2]}..")

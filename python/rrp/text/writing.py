@@ -1,0 +1,80 @@
+"""Writes a plan as text. Reading that text gives the same bytes."""
+
+from __future__ import annotations
+
+from collections.abc import Iterator
+from itertools import combinations
+
+from ..encoding import CLIENT, SKIPPING
+from ..plan import Plan
+from .statements import NO_REFLECTION, NO_WAY
+
+#: Identifiers from here on, those whose first byte is not 0, are written as IPv4 addresses.
+_FIRST_ADDRESS = 1 << 24
+
+
+def write(plan: Plan) -> str:
+    """The text of a plan: its routers, sessions, distances and lists."""
+    parts = [list(part(plan)) for part in (_routers, _sessions, _distances, _lists)]
+    return "\n".join("".join(f"{line}\n" for line in part) for part in parts if part)
+
+
+def identifier_text(identifier: int) -> str:
+    """An identifier as an IPv4 address, or as a number if it is low."""
+    if identifier < _FIRST_ADDRESS:
+        return str(identifier)
+    return ".".join(str(byte) for byte in identifier.to_bytes(4, "big"))
+
+
+def _routers(plan: Plan) -> Iterator[str]:
+    """A line a router. A client's line has its sessions with reflectors."""
+    identifiers = [identifier_text(identifier) for identifier in plan.model.identifiers]
+    names_width, width = max(map(len, plan.routers)), max(map(len, identifiers))
+    for number, (name, identifier) in enumerate(zip(plan.routers, identifiers)):
+        line = f"{plan.role(number):9} {name:{names_width}} {identifier:{width}}"
+        parents = _parents(plan, number)
+        if plan.model.roles[number] == SKIPPING:
+            line += f" {NO_REFLECTION}"
+        elif plan.model.roles[number] == CLIENT and parents:
+            line += f" of {' '.join(parents)}"
+        yield line.rstrip()
+
+
+def _parents(plan: Plan, client: int) -> list[str]:
+    """The reflectors that a client has sessions with."""
+    return [name for name in plan.neighbours(client) if plan.role(name) == "reflector"]
+
+
+def _sessions(plan: Plan) -> Iterator[str]:
+    """The sessions between two reflectors, as a mesh if each two have one, or two clients."""
+    clients = {number for number, role in enumerate(plan.model.roles) if role == CLIENT}
+    reflectors = [number for number in range(len(plan.routers)) if number not in clients]
+    mesh = set(combinations(reflectors, 2))
+    sessions = {pair for pair in plan.model.sessions if len(clients.intersection(pair)) != 1}
+    if len(reflectors) > 2 and mesh <= sessions:
+        sessions -= mesh
+        yield " ".join(["mesh", *(plan.routers[number] for number in reflectors)])
+    for one, other in sorted(sessions):
+        yield f"session {plan.routers[one]} {plan.routers[other]}"
+
+
+def _distances(plan: Plan) -> Iterator[str]:
+    """The distance between each two routers: a line if it is the same both ways, else two."""
+    rows = plan.model.distances
+    for one, other in combinations(range(len(plan.routers)), 2):
+        start, end = plan.routers[one], plan.routers[other]
+        there, back = _way(rows[one][other]), _way(rows[other][one])
+        if there == back:
+            yield f"distance {start} {end} {there}"
+        else:
+            yield f"distance {start} > {end} {there}"
+            yield f"distance {end} > {start} {back}"
+
+
+def _way(distance: int | None) -> str:
+    return NO_WAY if distance is None else str(distance)
+
+
+def _lists(plan: Plan) -> Iterator[str]:
+    for name in plan.lists:
+        yield " ".join(["list", name, *plan.egresses(name)])

@@ -1,0 +1,49 @@
+"""Random plans that are like networks, and that have suspect lists often."""
+
+from __future__ import annotations
+
+import random
+from itertools import combinations
+
+from rrp import Plan, encoding
+from rrp.tables import Route, Table
+
+
+def random_network(draw: random.Random) -> Plan:
+    """A few reflectors in a mesh, each with some clients, and distances that are often equal."""
+    reflectors = draw.randint(2, 4)
+    count = reflectors + draw.randint(reflectors, 6)
+    sessions = set(combinations(range(reflectors), 2))
+    for client in range(reflectors, count):
+        parents = draw.sample(range(reflectors), draw.choice([1, 1, 2]))
+        sessions.update((parent, client) for parent in parents)
+    clients = range(reflectors, count)
+    sessions.update(pair for pair in combinations(clients, 2) if draw.random() < 0.1)
+    model = encoding.Model(
+        roles=[draw.choice([1, 1, 3]) for _ in range(reflectors)] + [2] * len(clients),
+        identifiers=list(range(count)),
+        sessions=sorted(sessions),
+        distances=[[0 if u == e else _way(draw) for e in range(count)] for u in range(count)],
+        lists=[_members(draw, reflectors, clients) for _ in range(3)],
+    )
+    return Plan(encoding.encode(model))
+
+
+def _way(draw: random.Random) -> int | None:
+    return None if draw.random() < 0.05 else draw.randint(0, 12)
+
+
+def _members(draw: random.Random, reflectors: int, clients: range) -> list[int]:
+    listed = draw.sample(clients, draw.randint(1, len(clients)))
+    return sorted(listed + draw.sample(range(reflectors), draw.choice([0, 0, 0, 1])))
+
+
+def random_table(plan: Plan, egress_list: str, draw: random.Random) -> Table:
+    """A table with left-over routes."""
+    table = plan.empty_table(egress_list)
+    for router in set(plan.routers) - set(plan.egresses(egress_list)):
+        neighbours = plan.neighbours(router)
+        if neighbours and draw.random() < 0.8:
+            route = Route(draw.choice(plan.routers), draw.choice(neighbours))
+            table = table.with_route(router, route)
+    return table

@@ -1,0 +1,137 @@
+"""Damaged and random texts and bytes: the command always answers, and never by a traceback.
+
+RRP_FUZZ is how many inputs are tried.
+"""
+
+from __future__ import annotations
+
+import glob
+import os
+import random
+import tempfile
+import unittest
+
+from rrp.errors import RrpError
+from rrp.plan import Plan
+from rrp.text import TextErrors, decode_text, parse
+from rrp.text.assembly import assemble
+
+from .support import EXAMPLES, FAULT, STORED_PLANS, TESTS, Answer, rrp
+
+COUNT = int(os.environ.get("RRP_FUZZ", "600"))
+
+_WORDS = (
+    "reflector client mesh session link distance list of none no-client-reflection > # - 0 1 64 "
+    "65534 65535 65536 4294967295 4294967296 10.0.0.1 0.0.0.0 lon-rr par-rr lon-a par-a r0 r1 l0 "
+    "transit é \u2028 \x85 \x00 \x1b[1m \ufeff 999999999999999999999"
+).split(" ")
+
+
+def corpus() -> list[bytes]:
+    """What the inputs are made of: the example, all stored errors, plans in bytes."""
+    paths = [f"{EXAMPLES}/net.rrp", f"{EXAMPLES}/m3.plan", *glob.glob(f"{TESTS}/errors/*.rrp")]
+    inputs = []
+    for path in sorted(paths + glob.glob(f"{STORED_PLANS}/*.plan")):
+        with open(path, "rb") as file:
+            inputs.append(file.read())
+    return inputs
+
+
+def damaged(data: bytes, draw: random.Random) -> bytes:
+    """The input with one part changed."""
+    place = draw.randint(0, len(data))
+    end = min(len(data), place + draw.choice([0, 1, 1, 3, 20, 300]))
+    put = draw.choice(
+        [
+            b"",
+            bytes(draw.choices(range(256), k=draw.choice([1, 2, 8]))),
+            f" {draw.choice(_WORDS)} ".encode(),
+            b"\n",
+            data[place:end] * 2,
+            random_line(draw).encode(),
+        ]
+    )
+    return data[:place] + put + data[end:]
+
+
+def random_line(draw: random.Random) -> str:
+    """A line of words that plans have."""
+    return "\n" + " ".join(draw.choices(_WORDS, k=draw.randint(1, 6))) + "\n"
+
+
+def random_input(inputs: list[bytes], draw: random.Random) -> bytes:
+    """An input: damaged in some places, or random."""
+    if draw.random() < 0.1:
+        return bytes(draw.choices(range(256), k=draw.randint(0, 400)))
+    if draw.random() < 0.1:
+        return "".join(random_line(draw) for _ in range(draw.randint(1, 40))).encode()
+    data = draw.choice(inputs)
+    for _ in range(draw.choice([1, 1, 2, 5])):
+        data = damaged(data, draw)
+    return data
+
+
+class Fuzz(unittest.TestCase):
+    """Each input with each command."""
+
+    def setUp(self) -> None:
+        self.draw = random.Random(4456)
+        self.inputs = corpus()
+
+    def sound(self, answer: Answer, what: object) -> None:
+        """The answer is one that the command may give."""
+        self.assertIn(answer.status, (0, 1, 2), what)
+        self.assertNotIn(FAULT, answer.errors, what)
+        self.assertNotIn("Traceback", answer.errors, what)
+        if answer.status == 2:
+            self.assertEqual(answer.output, "", what)
+            self.assertNotEqual(answer.errors, "", what)
+
+    def test_commands(self) -> None:
+        with tempfile.TemporaryDirectory() as folder:
+            path = f"{folder}/input"
+            for _ in range(COUNT):
+                data = random_input(self.inputs, self.draw)
+                with open(path, "wb") as file:
+                    file.write(data)
+                command = self.draw.choice(["check", "check", "pack", "unpack"])
+                out = [] if command == "check" else ["-o", f"{folder}/output"]
+                self.sound(rrp(command, path, *out), data)
+
+    def test_changes(self) -> None:
+        for _ in range(COUNT // 4):
+            plan = self.draw.choice([f"{EXAMPLES}/net.rrp", f"{EXAMPLES}/m3.plan"])
+            changes = [random_line(self.draw) for _ in range(self.draw.randint(1, 3))]
+            words = [word for change in changes for word in ("--set", change)]
+            self.sound(rrp("check", plan, *words), changes)
+
+    def test_marks_are_under_their_words(self) -> None:
+        for _ in range(COUNT // 2):
+            data = random_input(self.inputs, self.draw)
+            try:
+                assemble(parse(decode_text(data, "input"), "input"))
+            except TextErrors as errors:
+                places = [(each.word.line.number, each.word.column) for each in errors.problems]
+                self.assertEqual(places, sorted(places))
+                for word in (problem.word for problem in errors.problems):
+                    start = word.column - 1
+                    found = word.line.text[start : start + len(word.text)]
+                    self.assertIn(word.text, ("?", found))
+            except RrpError:
+                pass
+
+    def test_what_is_read_is_a_plan(self) -> None:
+        read = 0
+        for _ in range(COUNT // 2):
+            data = damaged(self.draw.choice(self.inputs), self.draw)
+            try:
+                plan = Plan.parse(decode_text(data, "input"))
+            except RrpError:
+                continue
+            read += 1
+            self.assertEqual(Plan.from_bytes(plan.data).data, plan.data)
+        self.assertGreater(read, 0)
+
+
+if __name__ == "__main__":
+    unittest.main()

@@ -1,0 +1,141 @@
+"""The calls are declared as the header has them, and refusals are told in the README's words."""
+
+from __future__ import annotations
+
+import _ctypes
+import ctypes
+import os
+import re
+import unittest
+from unittest import mock
+
+from rrp import library
+
+from .support import EXAMPLES, ROOT, read, rrp
+
+#: What an argument of the header is in ctypes.
+_KINDS = {
+    "const uint8_t *": [ctypes.c_char_p],
+    "uint8_t *": [ctypes.c_char_p, ctypes.POINTER(ctypes.c_uint8)],
+    "uint64_t *": [ctypes.POINTER(ctypes.c_uint64)],
+    "int64_t *": [ctypes.POINTER(ctypes.c_int64)],
+    "size_t ": [ctypes.c_size_t],
+    "uint64_t ": [ctypes.c_uint64],
+}
+
+
+def declared() -> dict[str, list[str]]:
+    """The functions of the header, each with its arguments: the type and the name."""
+    found = re.findall(r"^uint8_t (rrp_\w+)\(([^)]*)\);", read(f"{ROOT}/include/rrp.h"), re.M)
+    return {name: [" ".join(each.split()) for each in args.split(",")] for name, args in found}
+
+
+class Declarations(unittest.TestCase):
+    """Against include/rrp.h and README.md."""
+
+    def test_every_function_is_declared(self) -> None:
+        self.assertEqual(set(library.PROTOTYPES), set(declared()))
+
+    def test_arguments(self) -> None:
+        for name, arguments in declared().items():
+            prototype = library.PROTOTYPES[name]
+            self.assertEqual(len(prototype), len(arguments), name)
+            for argument, kind in zip(arguments, prototype):
+                kinds = _KINDS[re.sub(r"\w+$", "", argument)]
+                self.assertIn(kind, kinds, f"{name}: {argument}")
+                if len(kinds) == 2:
+                    buffer = f"size_t {argument.split('*')[1]}_len" in arguments
+                    self.assertEqual(kind, kinds[0 if buffer else 1], f"{name}: {argument}")
+
+    def test_limits(self) -> None:
+        header = read(f"{ROOT}/include/rrp.h")
+        numbers = dict(re.findall(r"\bRRP_(\w+) = (\d+)", header))
+        for name in ("MAX_ROUTERS", "MAX_LISTS", "MAX_LINKS", "NO_WAY", "NONE"):
+            self.assertEqual(getattr(library, name), int(numbers[name]), name)
+        for name in ("BAD_LISTS", "TOO_FAR"):
+            self.assertEqual(getattr(library, name), int(numbers[name]), name)
+
+    def test_sentences(self) -> None:
+        rows = re.findall(r"^\| (\d+) \| `RRP_\w+` \| (.*) \|$", read(f"{ROOT}/README.md"), re.M)
+        self.assertGreaterEqual(len(rows), 12)
+        for number, sentence in rows:
+            self.assertEqual(library.REFUSALS[int(number)], sentence)
+
+
+class Calls(unittest.TestCase):
+    """The raw calls on the bundled plan."""
+
+    def setUp(self) -> None:
+        with open(f"{EXAMPLES}/m3.plan", "rb") as file:
+            self.plan = file.read()
+
+    def test_answers(self) -> None:
+        plan = self.plan
+        self.assertEqual(library.size(plan), (4, 2))
+        self.assertEqual(library.egress_list(plan, 0), b"\2\3")
+        self.assertEqual(library.compare(plan, 0, 3, 2), (1, -4))
+        self.assertEqual(library.compare(plan, 0, 2, 3), (2, 4))
+        self.assertTrue(library.relies(plan, 0, 0, 1))
+        self.assertFalse(library.relies(plan, 0, 2, 0))
+        verdict = library.verdict(plan, 0)
+        self.assertEqual(verdict, (False, 2, b"\0\0\2\3", b"", b"", b"\0\1"))
+        stable = (True, 3, b"\0\1\2\3", b"\2\1\3\0", bytes([3, 1, 3, 3, 3, 0, 3, 3]), b"")
+        self.assertEqual(library.verdict(plan, 1), stable)
+
+    def test_tables(self) -> None:
+        start = bytes([255] * 4 + [2, 2, 3, 3])
+        left = library.activate(self.plan, 0, 0, start)
+        self.assertEqual(left, bytes([2, 2, 255, 255, 2, 2, 3, 3]))
+        ran = library.run(self.plan, 0, bytes([0, 1, 2, 3]), start)
+        self.assertEqual(ran, (bytes([2, 2, 2, 0, 2, 2, 3, 3]), 4, 1, False))
+        self.assertEqual(library.run(self.plan, 0, bytes([1, 0, 2]), start, 2)[1:], (2, 0, True))
+
+    def test_distances(self) -> None:
+        links = bytes.fromhex("00010100 00020900 01020200 02000401")
+        rows = bytes.fromhex("000001000300 060100000200 040105010000")
+        self.assertEqual(library.distances(3, links), rows)
+
+    def test_refusals(self) -> None:
+        calls = [
+            (1, lambda: library.size(b"")),
+            (1, lambda: library.size(self.plan[:-1] + b"\0\0" * 9000)),
+            (8, lambda: library.egress_list(self.plan, 2)),
+            (8, lambda: library.egress_list(self.plan, -1)),
+            (8, lambda: library.egress_list(self.plan, 2**64)),
+            (8, lambda: library.relies(self.plan, 0, 4, 0)),
+            (8, lambda: library.verdict(self.plan, 2)),
+            (9, lambda: library.activate(self.plan, 0, 0, b"")),
+            (10, lambda: library.activate(self.plan, 0, 0, bytes(8))),
+            (2, lambda: library.distances(65, b"")),
+            (2, lambda: library.distances(2**64 + 3, b"")),
+            (11, lambda: library.distances(2, b"\0")),
+            (12, lambda: library.distances(2, b"\0\1\xff\xff")),
+        ]
+        for number, call in calls:
+            with self.assertRaises(library.Refused) as caught:
+                call()
+            self.assertEqual(caught.exception.number, number)
+
+
+class Missing(unittest.TestCase):
+    """A library that is not there, or is none, is told with the command that builds it."""
+
+    def report(self, places: list[str], **environment: str) -> str:
+        """What the command says where the library is looked for in these places."""
+        with mock.patch.object(library, "_loaded", None), mock.patch.dict(os.environ, environment):
+            with mock.patch.object(library, "places", lambda: places):
+                answer = rrp("check", f"{EXAMPLES}/m3.plan")
+        self.assertEqual((answer.status, answer.output), (2, ""))
+        self.assertIn("./build", answer.errors)
+        return answer.errors
+
+    def test_missing(self) -> None:
+        os.environ.pop("RRP_LIBRARY", None)
+        self.assertIn("looked at /no/a.so and /no/b.so", self.report(["/no/a.so", "/no/b.so"]))
+        self.assertIn("RRP_LIBRARY is /no/c.so", self.report([], RRP_LIBRARY="/no/c.so"))
+        self.assertIn("cannot be loaded", self.report([], RRP_LIBRARY=f"{EXAMPLES}/m3.plan"))
+        self.assertIn("has no rrp_check", self.report([], RRP_LIBRARY=_ctypes.__file__))
+
+
+if __name__ == "__main__":
+    unittest.main()

@@ -1,0 +1,134 @@
+"""`rrp show`: a change that is shown ends the reliance, and no smaller one does."""
+
+from __future__ import annotations
+
+import json
+import random
+import unittest
+from itertools import permutations
+
+from rrp import Plan
+from rrp.library import NO_WAY
+from rrp.remedies import Change, Remedy, smallest_remedy
+from rrp.text.assembly import assemble
+from rrp.text.changes import with_changes
+from rrp.text.reading import read_draft
+
+from .networks import random_network
+from .support import EXAMPLES, STORED_PLANS, TESTS, rrp
+
+SUSPECT = (
+    (f"{EXAMPLES}/net.rrp", "transit"),
+    (f"{EXAMPLES}/m3.plan", "l0"),
+    (f"{TESTS}/plans/reasons.rrp", "tie"),
+    (f"{TESTS}/plans/far.rrp", "all"),
+    (f"{STORED_PLANS}/ring-of-four.plan", "l0"),
+    (f"{STORED_PLANS}/role-3.plan", "l4"),
+)
+
+
+def smaller_changes(plan: Plan, size: int) -> list[Change]:
+    """Every change of any one distance to another number that is smaller than the size given."""
+    changes = []
+    for start, end in permutations(plan.routers, 2):
+        was = plan.distance(start, end)
+        if was is not None:
+            values = range(max(0, was - size + 1), min(NO_WAY, was + size))
+            changes += [Change(start, end, was, value) for value in values if value != was]
+    return changes
+
+
+class Shown(unittest.TestCase):
+    """What `rrp show` prints, applied as `rrp check --set` applies it."""
+
+    def test_each_change_ends_its_reliance(self) -> None:
+        for path, name in SUSPECT:
+            answer = rrp("show", path, name, "--json")
+            self.assertEqual(answer.status, 1)
+            shown = json.loads(answer.output)
+            self.assertEqual(len(shown["reliances"]), len(shown["cycle"]))
+            for reliance in shown["reliances"]:
+                self.hold(path, name, reliance)
+
+    def hold(self, path: str, name: str, reliance: dict) -> None:
+        """The reliance is gone with the change, and the verdict is the one that was shown."""
+        pair = reliance["router"], reliance["other"]
+        statement = reliance["change"]["statement"]
+        draft = read_draft(path)
+        self.assertTrue(assemble(draft).relies(name, *pair))
+        self.assertFalse(assemble(with_changes(draft, [statement])).relies(name, *pair))
+        judged = json.loads(rrp("check", path, "--set", statement, "--json").output)
+        (after,) = [each["after"] for each in judged["lists"] if each["list"] == name]
+        self.assertEqual(after, reliance["change"]["then"])
+
+    def test_the_text_has_the_same_changes(self) -> None:
+        for path, name in SUSPECT:
+            shown = json.loads(rrp("show", path, name, "--json").output)
+            text = rrp("show", path, name).output
+            for reliance in shown["reliances"]:
+                self.assertIn(f": {reliance['change']['statement']} (now ", text)
+                claim, reason = reliance["sentence"].split(": ")
+                self.assertIn(f". {claim}:\n   {reason}\n", text)
+
+
+class Smallest(unittest.TestCase):
+    """Held against trying every smaller change of every distance of the plan."""
+
+    def hold(self, plan: Plan, name: str, pair: tuple[str, str]) -> Remedy:
+        """The remedy ends the reliance, and is the smallest that does."""
+        remedy = smallest_remedy(plan, name, *pair)
+        changed = remedy.change.applied(plan)
+        self.assertFalse(changed.relies(name, *pair))
+        self.assertEqual(remedy.verdict, changed.verdict(name))
+        size = min(remedy.change.size, 40)
+        for change in smaller_changes(plan, size):
+            self.assertTrue(change.applied(plan).relies(name, *pair), (change, remedy))
+        return remedy
+
+    def stable_if_any(self, plan: Plan, name: str, pair: tuple[str, str], remedy: Remedy) -> None:
+        """Where a change of the same size makes the list stable too, the remedy does."""
+        changes = smaller_changes(plan, remedy.change.size + 1)
+        alike = [each.applied(plan) for each in changes if each.size == remedy.change.size]
+        ending = [changed for changed in alike if not changed.relies(name, *pair)]
+        stable = any(changed.verdict(name).stable for changed in ending)
+        self.assertEqual(remedy.verdict.stable, stable)
+
+    def test_random_networks(self) -> None:
+        draw, cycles, starts = random.Random(4456), 0, set()
+        while cycles < 40:
+            plan = random_network(draw)
+            for verdict in plan.verdicts():
+                cycles += not verdict.stable
+                for pair in zip(verdict.cycle, [*verdict.cycle[1:], *verdict.cycle[:1]]):
+                    remedy = self.hold(plan, verdict.name, pair)
+                    self.stable_if_any(plan, verdict.name, pair, remedy)
+                    starts.add(pair.index(remedy.change.start))
+                    starts.add(remedy.change.becomes > remedy.change.was)
+        self.assertEqual(starts, {0, 1, False, True})
+
+    def test_every_reliance_on_an_offer(self) -> None:
+        draw = random.Random(4456)
+        for _ in range(12):
+            plan = random_network(draw)
+            for pair in permutations(plan.routers, 2):
+                found = plan.explain("l0", *pair)
+                if found.relies and found.words == "better offer":
+                    self.hold(plan, "l0", pair)
+
+    def test_only_no_way_ends_it(self) -> None:
+        plan = Plan.read(f"{TESTS}/plans/far.rrp")
+        remedy = self.hold(plan, "all", ("a", "b"))
+        self.assertEqual(remedy.change.statement, "distance a > cb none")
+        for value in range(0, NO_WAY, 5):
+            for end, was in (("cb", 0), ("ca", 65534)):
+                changed = Change("a", end, was, value).applied(plan)
+                self.assertTrue(changed.relies("all", "a", "b"))
+
+    def test_none_ends_it(self) -> None:
+        net = Plan.read(f"{EXAMPLES}/net.rrp")
+        self.assertTrue(net.relies("transit", "lon-b", "lon-rr"))
+        self.assertIsNone(smallest_remedy(net, "transit", "lon-b", "lon-rr"))
+
+
+if __name__ == "__main__":
+    unittest.main()

@@ -1,0 +1,78 @@
+#!/usr/bin/env bash
+# Builds the planner's tool and tests it: its unit tests, among them all stored outputs and fuzzed inputs; plans of the
+# second checker to text and back, and their verdicts by name; the command as ./build leaves it, and as pip installs it.
+# usage: tests/run-tool.sh [SEED]        (needs rt, gcc, cargo and python3)
+set -uo pipefail
+cd "$(dirname "$0")/.."
+seed=${1:-4456}
+plans=300
+out=target/tool
+passed=0
+failed=0
+
+# Runs the words after the first, and counts under that name whether they succeed.
+try() {
+    local name=$1
+    shift
+    if "$@"; then
+        passed=$((passed + 1))
+        echo "tool: $name: passed"
+    else
+        failed=$((failed + 1))
+        echo "tool: $name: FAILED"
+    fi
+}
+
+# The unit tests, or those of the modules named.
+unit_tests() {
+    PYTHONPATH=python python3 -m unittest discover -s python/tests -t python "$@"
+}
+
+# `second` with the words given. It writes plans without the library.
+second() {
+    CARGO_TARGET_DIR=$PWD/$out/second cargo run --quiet --release --offline \
+        --manifest-path tests/second/Cargo.toml --bin second -- "$@"
+}
+
+# Plans that the second checker writes come back from text as the same bytes, and are judged by name and filed as it
+# expects.
+random_plans() {
+    rm -rf "$out/plans"
+    second write "$out/plans" --seed "$seed" --plans "$plans" >/dev/null || return 1
+    [ "$(find "$out/plans" -name '*.plan' | wc -l)" -eq "$plans" ] || return 1
+    export RRP_PLANS=$PWD/$out/plans
+    unit_tests -p test_roundtrip.py && unit_tests -p test_filing.py
+}
+
+# The command finds the example's suspect list, started from anywhere and by a link to it.
+command_runs() {
+    local root=$PWD
+    ln -sf "$root/target/bin/rrp" "$out/rrp"
+    (cd / && "$root/$out/rrp" check "$root/examples/net.rrp" >"$root/$out/net.answer")
+    [ $? -eq 1 ] && grep -q '^transit *suspect: lon-rr -> par-rr -> fra-rr -> lon-rr$' "$out/net.answer"
+}
+
+# Installed by pip, without a network, the command has the library beside it.
+pip_installs() {
+    local root=$PWD
+    rm -rf "$out/installed"
+    PIP_ROOT_USER_ACTION=ignore python3 -m pip install --quiet --no-index --target "$out/installed" ./python || return 1
+    (cd / && env -u RRP_LIBRARY PYTHONPATH="$root/$out/installed" \
+        "$root/$out/installed/bin/rrp" check "$root/examples/m3.plan" >/dev/null)
+    [ $? -eq 1 ] && [ -f "$out/installed/rrp/librrp.so" ]
+}
+
+mkdir -p "$out"
+try "the build" ./build
+try "the sources compile" python3 -m compileall -q python/rrp python/tests
+try "the unit tests" unit_tests
+try "random plans to text and back" random_plans
+try "the command" command_runs
+if python3 -m pip --version >/dev/null 2>&1; then
+    try "the command as pip installs it" pip_installs
+else
+    echo "tool: the command as pip installs it: not tried, there is no pip here"
+fi
+
+echo "tool: $passed passed, $failed failed"
+[ "$failed" -eq 0 ]
