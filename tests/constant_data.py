@@ -2,8 +2,9 @@
 """Finds the constant arrays of more than 16 elements in the sources of the product's crates, and prints them.
 
 Constant data is the value of a `const`, and outside of one each array that is written element by element and each byte
-string. An array in an array counts with all its elements. Memory to work in, `[0; 64]` in a local, is no constant data.
-The product's crates are all of crates.txt but the programs that only test it.
+string. An array in an array counts with all its elements, also where it is a constant and stands there by its name. Of
+constants with one name the largest counts. Memory to work in, `[0; 64]` in a local, is no constant data. The product's
+crates are all of crates.txt but the programs that only test it.
 """
 import re
 import sys
@@ -11,9 +12,14 @@ from pathlib import Path
 
 MOST = 16
 TEST_PROGRAMS = {'cases'}
-TOKEN = re.compile(r'''(?P<comment> //[^\n]* ) | (?P<string> b"(?: \\. | [^"\\] )*" ) | (?P<char> b'(?: \\. | [^'\\] )+' )
-                       | (?P<number> [0-9][0-9A-Za-z_]* ) | (?P<word> [^\W\d]\w* ) | (?P<mark> \S )''', re.VERBOSE)
+TOKEN = re.compile(r'''(?P<comment> //[^\n]* | /\*.*?\*/ ) | (?P<raw> br(?P<hashes> \#*)".*?"(?P=hashes) )
+                       | (?P<string> b"(?: \\. | [^"\\] )*" ) | (?P<char> b'(?: \\. | [^'\\] )+' )
+                       | (?P<number> [0-9][0-9A-Za-z_]* ) | (?P<word> [^\W\d]\w* ) | (?P<mark> << | >> | \S )''',
+                   re.VERBOSE | re.DOTALL)
+CONTINUED = re.compile(r'\\\n\s*')
 ESCAPE = re.compile(r'\\(x[0-9a-fA-F]{2}|.)', re.DOTALL)
+OPERATORS = {'<<': lambda a, b: a << b, '>>': lambda a, b: a >> b, '+': lambda a, b: a + b, '-': lambda a, b: a - b,
+             '*': lambda a, b: a * b, '/': lambda a, b: a // b}
 CLOSING = {'[': ']', '(': ')', '{': '}'}
 
 
@@ -55,21 +61,31 @@ def split(tokens, mark):
     return parts + [part] if part else parts
 
 
+def values(name, constants):
+    """The values of the constants of a name, and what else is known while one of them is looked at: not itself."""
+    return constants.get(name, []), {other: value for other, value in constants.items() if other != name}
+
+
 def number(tokens, constants):
-    """The value of a length: a number, a constant by its last name, or a product or sum of such."""
+    """The value of a length: a number, a constant by its last name, or such joined by operators."""
     words = [text for _, text, _ in tokens]
-    for mark, join in (('+', lambda a, b: a + b), ('*', lambda a, b: a * b)):
+    if 'as' in words:
+        return number(tokens[:words.index('as')], constants)
+    for mark, join in OPERATORS.items():
         parts = split(tokens, mark)
         if len(parts) > 1:
             value = number(parts[0], constants)
             for part in parts[1:]:
                 value = join(value, number(part, constants))
             return value
-    if words and words[-1] in constants:
-        return number(constants[words[-1]], constants)
+    if words and words[0] == '(' and group_end(tokens, 0) == len(tokens):
+        return number(tokens[1:-1], constants)
     if len(words) == 1 and re.match(r'[0-9]', words[0]):
         return int(re.sub(r'(usize|[ui]\d+)$|_', '', words[0]), 0)
-    raise Unknown(' '.join(words))
+    found, others = values(words[-1], constants) if words else ([], {})
+    if not found:
+        raise Unknown(' '.join(words))
+    return max(number(value, others) for value in found)
 
 
 def elements(tokens, constants, constant):
@@ -79,7 +95,12 @@ def elements(tokens, constants, constant):
         kind, text, _ = tokens[place]
         end = group_end(tokens, place) if text in CLOSING else place + 1
         if kind == 'string':
-            most = max(most, len(ESCAPE.sub('.', text[2:-1])))
+            most = max(most, len(ESCAPE.sub('.', CONTINUED.sub('', text[2:-1]))))
+        elif kind == 'raw':
+            most = max(most, len(text.split('"', 1)[1].rsplit('"', 1)[0]))
+        elif kind == 'word':
+            found, others = values(text, constants)
+            most = max([most, *(elements(value, others, True) for value in found)])
         elif text == '[':
             most = max(most, array(tokens[place + 1:end - 1], constants, constant))
         elif text in CLOSING:
@@ -112,8 +133,10 @@ def constants_of(tokens):
 def long_arrays(sources):
     """The constant arrays with more than MOST elements in sources, path → text: (path, line, what)."""
     read = {path: tokens_of(text) for path, text in sources.items()}
-    known = {name: value for tokens in read.values() for name, _, value, _ in constants_of(tokens)}
-    found = []
+    known, found = {}, []
+    for tokens in read.values():
+        for name, _, value, _ in constants_of(tokens):
+            known.setdefault(name, []).append(value)
 
     def judge(path, line, tokens, constant):
         try:

@@ -42,8 +42,8 @@ plan =
     ∷ 4 ∷ 2 ∷ 3 ∷ 5 ∷ 2 ∷ 3 ∷ 4 ∷ 2 ∷ 4 ∷ 5 ∷ 1 ∷ 0  -- m; count and numbers of each list
     ∷ []
 
--- Reflector 0, reflector 1 of role 3, clients 2 to 4, of which 3 neighbours both reflectors. From 0 there is no way to 2 and to 4, and it is
--- 10 to 3; from 1 it is 5 to 3 and 4 to 4; every other distance is 30. The lists are 2,3 and 3,4.
+-- Reflector 0, reflector 1 of role 3, clients 2 to 4, of which 3 neighbours both reflectors. From 0 there is no way to 2 and to 4, and
+-- it is 10 to 3; from 1 it is 5 to 3 and 4 to 4; every other distance is 30. The lists are 2,3 and 3,4.
 unfoldable pub shared : List ℕ
 shared =
     82 ∷ 82 ∷ 80 ∷ 49 ∷ 5 ∷ 4

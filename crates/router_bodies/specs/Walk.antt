@@ -23,8 +23,8 @@ pub record Reached (s : List ℕ) (n v j : ℕ) : Type 0 where
 abbrev pub goesOn : List ℕ → ℕ → ℕ → ℕ → ℕ → Bool
 goesOn s n v last j = eqb (sessionFirst s j) v && ltb last (sessionSecond s j) && ltb (sessionSecond s j) n
 
--- With the sessions of the routers before v read, a neighbour p counts for u if it is a reflector. For a reflector u that lasts until its
--- own sessions are read: what is counted for one matters to no row.
+-- With the sessions of the routers before v read, a neighbour p counts for u if p is a reflector. If u is one too, its count is kept only
+-- until its own sessions are read, since row 13 asks for no count of a reflector.
 abbrev pub countsFor : List ℕ → ℕ → ℕ → ℕ → ℕ → Bool
 countsFor routers n v u p = reflectorIn routers n p && (not (reflectorIn routers n u) || leb v u)
 

@@ -17,7 +17,7 @@ ghost use Rattle.router_bodies.specs.Walk.{Reached, Counted, forgotten, 
 // The most parents that a client may have.
 const MOST: u8 = 4;
 
-// Before v's own sessions: sets the count of a reflector to 0, so that only clients have high counts.
+// Before v's own sessions: sets the count of a reflector to 0, which matters to no row and leaves few counts high.
 pub fn forget(reflector: bool, v: usize, counts: &mut [u8; 64])
     requires { ⌜ v < 64 ⌝ }
     ensures { λ _. ⌜ now (counts .exit) ≡ forgotten reflector v (now (counts .entry)) ⌝ }
@@ -89,8 +89,9 @@ fn few_before(routers: &[u8], end: usize, counts: &[u8; 64]) -> bool
     true
 }
 
-// Row 13, by the counts after sessions whose first routers are before `past`. A router has no more parents than there are others, from
-// `past` on none but those before it, and mostly no count is above four.
+// Row 13, by the counts after sessions whose first routers are before `past`. None has five parents if there are but four routers. If
+// `past` is at most four, only the routers before it may: those from `past` on have parents before `past` alone. Else the greatest count
+// mostly tells at once that none has.
 pub fn few(routers: &[u8], n: usize, past: usize, counts: &[u8; 64]) -> bool
     requires { ⌜ (past ≤ n) × (n ≤ 64) × (5 * n ≤ length (now routers)) ⌝ }
     ensures { λ r. ⌜ ((s : List ℕ) → Reached s n past (sessionCount s)
