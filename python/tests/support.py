@@ -4,6 +4,7 @@ from __future__ import annotations
 
 import io
 import os
+import signal
 import subprocess
 import sys
 from contextlib import redirect_stderr, redirect_stdout
@@ -47,11 +48,16 @@ def rrp(*words: str) -> Answer:
 
 
 def rrp_process(*words: str, **options) -> subprocess.Popen:
-    """Starts the command as a process of its own."""
+    """Starts the command as a process of its own, which heeds interrupts."""
     environment = {**os.environ, "PYTHONPATH": PYTHON, **options.pop("environment", {})}
     command = [sys.executable, "-m", "rrp", *words]
     pipes = {"stdout": subprocess.PIPE, "stderr": subprocess.PIPE, **options}
-    return subprocess.Popen(command, env=environment, **pipes)
+    return subprocess.Popen(command, env=environment, preexec_fn=heed_interrupts, **pipes)
+
+
+def heed_interrupts() -> None:
+    """Where a shell runs the tests in the background, they ignore interrupts, and so would this."""
+    signal.signal(signal.SIGINT, signal.SIG_DFL)
 
 
 def read(path: str) -> str:
