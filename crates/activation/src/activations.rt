@@ -1,7 +1,7 @@
 // An activation on the caller's table: one pass over the neighbours of the router that may advertise a route. Each route has a key, a
 // number that orders routes by distance, then by egress, then by sender; the best has the least.
 
-use bodies::distances::NO_WAY;
+use distance_body::NO_WAY;
 use network::NO_ROUTER;
 use network::Network;
 use tables::RouteBytes;
@@ -44,7 +44,7 @@ fn route_key(distances: &[u8], n: usize, w: usize, egress: usize, sender: usize)
     requires { ⌜ (w < n) × (egress < n) × (sender < n) × (n ≤ 64) × (2 * (n * n) ≤ length (now distances)) ⌝ }
     ensures { λ r. ⌜ r ≡ routeKey (distanceIn (now (distances .entry)) n w egress) egress sender ⌝ }
 {
-    let distance = bodies::distances::distance(distances, n, w, egress);
+    let distance = distance_body::distance(distances, n, w, egress);
     distance * DISTANCE_PLACE + egress * EGRESS_PLACE + sender_mark(egress, sender)
 }
 

@@ -31,7 +31,7 @@ pub fn assess(
 {
     let n = net.n;
     let mut relied = [0u64; 64];
-    reliance::reliances::reliance_rows(net, rows, distances, &mut relied);
+    reliance::reliance_rows(net, rows, distances, &mut relied);
     let mut closed = relied;
     closing::close(&mut closed, n);
     graph::groups::labels(&closed, n, labels);

@@ -1,4 +1,1 @@
-// The distances, and the rules of the plan's four bodies in specs/: refusals 4 to 7 and 13. The other readers are router_bodies and
-// list_body.
-
-pub mod distances;
+// The rules of a plan's four bodies, refusals 4 to 7 and 13: definitions in specs/, theorems in proofs/. There is no code here.

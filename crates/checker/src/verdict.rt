@@ -33,12 +33,12 @@ pub fn verdict(
 ) -> VerdictAnswer
     ensures { λ r. ⌜ VerdictCall (now (plan .entry)) list r (lent labels) (lent ranks) (lent table) (lent cycle) ⌝ }
 {
-    let refused = refusals::buffers::verdict_refusal(plan, list, labels, ranks, table, cycle);
+    let refused = refusing::buffers::verdict_refusal(plan, list, labels, ranks, table, cycle);
     if refused != 0 {
         return VerdictAnswer::Refused(refused);
     }
     let mut rows = [0u64; 64];
-    let net = network::decode::decode(plan, list, &mut rows);
+    let net = decoding::decode(plan, list, &mut rows);
     let distances = plan::parts::part(plan, DISTANCES);
     answer(assessment::assess(net, &rows, distances, labels, ranks, table, cycle))
 }

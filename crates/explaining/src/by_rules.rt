@@ -12,7 +12,7 @@ ghost use lib.ListN.{length};
 ghost use Rattle.routing.specs.Instance.{Instance};
 ghost use Rattle.routing.specs.RouterBytes.{asRouter, RouterBelow};
 ghost use Rattle.network.specs.Decoded.{instance};
-ghost use Rattle.network.specs.Measured.{Measured};
+ghost use Rattle.preference.specs.Measured.{Measured};
 ghost use Rattle.network.specs.WellFormed.{WellFormed};
 ghost use Rattle.explanations.specs.Explained.{WayTo, againstOwn, byOffer, onReflector, onClient, explained};
 
@@ -26,13 +26,13 @@ fn against_own(distances: &[u8], n: usize, w: usize, offer: usize, own: u8) -> E
         return Explanation::Yes(Rule::AnyOffer(offer));
     }
     let client = base::wide(own);
-    let to_offer = bodies::distances::distance(distances, n, w, offer);
-    let to_client = bodies::distances::distance(distances, n, w, client);
-    if network::comparison::nearer(to_offer, to_client, offer, client) {
+    let to_offer = distance_body::distance(distances, n, w, offer);
+    let to_client = distance_body::distance(distances, n, w, client);
+    if preference::nearer(to_offer, to_client, offer, client) {
         return Explanation::Yes(Rule::BetterOffer(
             offer,
             client,
-            queries::compare::difference(to_offer, to_client),
+            comparing::compare::difference(to_offer, to_client),
         ));
     }
     Explanation::No(Reason::OfferNotBetter)
@@ -49,7 +49,7 @@ fn by_offer(distances: &[u8], n: usize, w: usize, offer: u8, own: u8) -> Explana
         return Explanation::No(Reason::NoOffer);
     }
     let egress = base::wide(offer);
-    if !bodies::distances::has_way(distances, n, w, egress) {
+    if !distance_body::has_way(distances, n, w, egress) {
         return Explanation::No(Reason::NoWayToTheOffer);
     }
     against_own(distances, n, w, egress, own)
@@ -63,9 +63,9 @@ fn on_reflector(net: Network, rows: &[u64; 64], distances: &[u8], w: usize, v: u
     if !base::bits::has_bit(net.reflectors, w) {
         return Explanation::Yes(Rule::Parent);
     }
-    let own = reliance::reliances::best_client(net, rows, distances, w);
-    let other = reliance::reliances::best_client(net, rows, distances, v);
-    let offer = reliance::reliances::offered(net, v, other);
+    let own = offers::best_client(net, rows, distances, w);
+    let other = offers::best_client(net, rows, distances, v);
+    let offer = offers::offered(net, v, other);
     by_offer(distances, net.n, w, offer, own)
 }
 
@@ -80,7 +80,7 @@ fn on_client(net: Network, rows: &[u64; 64], distances: &[u8], w: usize, v: usiz
     if !base::bits::has_bit(net.reflectors, w) {
         return Explanation::Yes(Rule::PeerClient);
     }
-    let own = reliance::reliances::best_client(net, rows, distances, w);
+    let own = offers::best_client(net, rows, distances, w);
     if base::wide(own) == v {
         return Explanation::Yes(Rule::OwnBestClient);
     }

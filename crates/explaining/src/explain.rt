@@ -8,12 +8,12 @@ ghost use Rattle.explanations.specs.Explain.{Explains};
 pub fn explain(plan: &[u8], list: usize, router: usize, other: usize) -> Explanation
     ensures { λ r. ⌜ Explains (now (plan .entry)) list router other r ⌝ }
 {
-    let refused = refusals::numbers::relies_refusal(plan, list, router, other);
+    let refused = refusing::numbers::relies_refusal(plan, list, router, other);
     if refused != 0 {
         return Explanation::Refused(refused);
     }
     let mut rows = [0u64; 64];
-    let net = network::decode::decode(plan, list, &mut rows);
+    let net = decoding::decode(plan, list, &mut rows);
     let distances = plan::parts::part(plan, DISTANCES);
     crate::by_rules::explained(net, &rows, distances, router, other)
 }

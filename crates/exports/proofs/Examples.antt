@@ -27,7 +27,7 @@ use Rattle.settling.specs.Settled.{chooseAll, chosenAfter, settledTable}
 use Rattle.tables.specs.TableBytes.{readRoute, tableOf, tableBytes, activateBytes, runBytes}
 use Rattle.refusals.specs.Refusals.{egressListRefusal, compareRefusal, reliesRefusal, buffersOk, verdictRefusal}
 use Rattle.refusals.specs.Refusals.{tableChecks, sequenceOk, activateRefusal, runRefusal}
-use Rattle.queries.specs.Compare.{whichBetter, hasMargin, marginNumber}
+use Rattle.comparing.specs.Compare.{whichBetter, hasMargin, marginNumber}
 use Rattle.running.specs.Activate.{activateTable}
 use Rattle.explanations.specs.Explained.{againstOwn, byOffer, onReflector, onClient, explained}
 use Rattle.checker.specs.Verdict.{isStable, labelsOf, ranksOf, highestOf, settledBytes, cycleOf, sizeOf}

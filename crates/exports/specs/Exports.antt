@@ -13,7 +13,7 @@ use Rattle.routing.specs.Reliance.{relies}
 use Rattle.network.specs.FromPlan.{instanceOf}
 use Rattle.plan.specs.Refused.{unlessRefused}
 use Rattle.refusals.specs.Refusals.{egressListRefusal, compareRefusal, reliesRefusal, verdictRefusal, runRefusal}
-use Rattle.queries.specs.Compare.{whichBetter, hasMargin, marginNumber}
+use Rattle.comparing.specs.Compare.{whichBetter, hasMargin, marginNumber}
 use Rattle.explanations.specs.declared.explanation.Values.{Values}
 use Rattle.explanations.specs.Explained.{explained}
 use Rattle.explanations.specs.Explain.{valuesOf}

@@ -23,8 +23,8 @@ use Rattle.routing.proofs.Margins.{known, margins}
 use Rattle.routing.proofs.OneComparison.{one-comparison}
 use Rattle.network.specs.FromPlan.{instanceOf}
 use Rattle.refusals.specs.Refusals.{compareRefusal}
-use Rattle.queries.specs.declared.compare.CompareAnswer.{CompareAnswer}
-use Rattle.queries.specs.Compare.{whichBetter, hasMargin, marginNumber, compareBetter, compareHasMargin, compareMargin, Compares}
+use Rattle.comparing.specs.declared.compare.CompareAnswer.{CompareAnswer}
+use Rattle.comparing.specs.Compare.{whichBetter, hasMargin, marginNumber, compareBetter, compareHasMargin, compareMargin, Compares}
 use Rattle.plan.proofs.Refused.{when-refused, when-given}
 use Rattle.guarantees.specs.Comparisons.{MarginSays, EveryMarginSays, EveryComparisonAgrees}
 

@@ -17,12 +17,12 @@ use Rattle.network.specs.FromPlan.{instanceOf}
 use Rattle.refusals.specs.Refusals.{compareRefusal, reliesRefusal}
 use Rattle.refusals.proofs.InOrder.{compare-in-order}
 use Rattle.refusals.proofs.Granted.{relies-asked}
-use Rattle.queries.specs.declared.compare.CompareAnswer.the-variants.{Compared}
-use Rattle.queries.specs.declared.compare.Preferred.the-variants.{First}
-use Rattle.queries.specs.declared.compare.Margin.the-variants.{Of}
+use Rattle.comparing.specs.declared.compare.CompareAnswer.the-variants.{Compared}
+use Rattle.comparing.specs.declared.compare.Preferred.the-variants.{First}
+use Rattle.comparing.specs.declared.compare.Margin.the-variants.{Of}
 use Rattle.queries.specs.declared.relies.ReliesAnswer.{ReliesAnswer}
 use Rattle.queries.specs.Relies.{reliesFlag, Relied}
-use Rattle.queries.specs.Compare.{preferredOf, compared}
+use Rattle.comparing.specs.Compare.{preferredOf, compared}
 use Rattle.explanations.specs.declared.explanation.Explanation.{Explanation}
 use Rattle.explanations.specs.declared.explanation.Explanation.the-variants.{Yes}
 use Rattle.explanations.specs.declared.explanation.Rule.the-variants.{BetterOffer}

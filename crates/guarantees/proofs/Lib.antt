@@ -1,13 +1,6 @@
 pub mod VerdictMeaning
 pub mod Series
-pub mod Questions
 pub mod Comparisons
 pub mod Explanations
-pub mod SmallPlans
-pub mod TellingExamples
-pub mod CutOffExamples
-pub mod MarginExamples
-pub mod SkippingExamples
-pub mod ParentsExamples
 pub mod SeriesExamples
 pub mod RefusedCalls

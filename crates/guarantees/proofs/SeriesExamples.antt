@@ -1,10 +1,10 @@
 -- The example of a series, worked out from the definitions that the contracts cite.
 use native.Mathlib.Omega.{arith}
 use mathlib.Core.Path.{refl}
-use Rattle.guarantees.specs.SmallPlans.{smallPlan}
+use Rattle.example_plans.specs.SmallPlans.{smallPlan}
 use Rattle.guarantees.specs.Series.{seriesBuffer, seriesActs, ForThis}
 use Rattle.guarantees.specs.SeriesExamples.{plan, start, calls, roundsOf, SeriesExamples}
-use Rattle.guarantees.proofs.Questions.{allRules}
+use Rattle.example_plans.proofs.Questions.{allRules}
 
 pub series-examples : SeriesExamples
 unfolding allRules smallPlan seriesBuffer seriesActs ForThis plan start calls roundsOf

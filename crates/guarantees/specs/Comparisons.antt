@@ -10,8 +10,8 @@ use lib.IntN.{pos, natAbs}
 use lib.Signed.{_<ℤ_}
 use Rattle.routing.specs.OneComparison.{OneComparison}
 use Rattle.network.specs.FromPlan.{instanceOf}
-use Rattle.queries.specs.declared.compare.CompareAnswer.{CompareAnswer}
-use Rattle.queries.specs.Compare.{whichBetter, compareBetter, compareHasMargin, compareMargin, Compares}
+use Rattle.comparing.specs.declared.compare.CompareAnswer.{CompareAnswer}
+use Rattle.comparing.specs.Compare.{whichBetter, compareBetter, compareHasMargin, compareMargin, Compares}
 
 -- what an answer r of the comparison of e and f says; 1 is the first, 2 the second, 0 neither
 pub record MarginSays (e f : ℕ) (r : CompareAnswer) : Type 0 where

@@ -4,12 +4,12 @@ use mathlib.Core.Path.{_≡_}
 use mathlib.Core.List.{List}
 use lib.IntN.{ℤ}
 use Rattle.queries.specs.declared.relies.ReliesAnswer.{ReliesAnswer}
-use Rattle.queries.specs.declared.compare.CompareAnswer.{CompareAnswer}
-use Rattle.queries.specs.declared.compare.CompareAnswer.the-variants.{Compared}
-use Rattle.queries.specs.declared.compare.Preferred.the-variants.{First}
-use Rattle.queries.specs.declared.compare.Margin.the-variants.{Of}
+use Rattle.comparing.specs.declared.compare.CompareAnswer.{CompareAnswer}
+use Rattle.comparing.specs.declared.compare.CompareAnswer.the-variants.{Compared}
+use Rattle.comparing.specs.declared.compare.Preferred.the-variants.{First}
+use Rattle.comparing.specs.declared.compare.Margin.the-variants.{Of}
 use Rattle.queries.specs.Relies.{reliesNumber, reliesFlag, Relied}
-use Rattle.queries.specs.Compare.{Compares}
+use Rattle.comparing.specs.Compare.{Compares}
 use Rattle.explanations.specs.declared.explanation.Explanation.{Explanation}
 use Rattle.explanations.specs.declared.explanation.Explanation.the-variants.{Yes}
 use Rattle.explanations.specs.declared.explanation.Rule.the-variants.{BetterOffer}

@@ -9,13 +9,13 @@ use denote.Ref.{RefT, ptr, now}
 use Rattle.base.specs.Bytes.{bytesOn}
 use Rattle.plan.specs.Refusal.{planRefusal}
 use Rattle.refusals.specs.Refusals.{egressListRefusal, compareRefusal, reliesRefusal, activateRefusal, runRefusal}
-use Rattle.queries.specs.declared.compare.CompareAnswer.{CompareAnswer}
-use Rattle.queries.specs.declared.compare.CompareAnswer.the-variants.{Refused}
+use Rattle.comparing.specs.declared.compare.CompareAnswer.{CompareAnswer}
+use Rattle.comparing.specs.declared.compare.CompareAnswer.the-variants.{Refused}
 use Rattle.queries.specs.declared.size.SizeAnswer.{SizeAnswer}
 use Rattle.running.specs.declared.run.RunAnswer.{RunAnswer}
 use Rattle.queries.specs.EgressList.{StretchOf}
 use Rattle.queries.specs.Size.{Sizes}
-use Rattle.queries.specs.Compare.{compareBetter, compareHasMargin, compareMargin, Compares}
+use Rattle.comparing.specs.Compare.{compareBetter, compareHasMargin, compareMargin, Compares}
 use Rattle.explanations.specs.declared.explanation.Explanation.{Explanation}
 use Rattle.explanations.specs.declared.explanation.Explanation.the-variants as explanations
 use Rattle.explanations.specs.Explain.{bare, valuesOf, Explains}

@@ -5,7 +5,7 @@ use mathlib.Core.Path.{_≡_}
 use mathlib.Core.List.{List, [], _∷_}
 use Rattle.routing.specs.Rounds.{rounds}
 use Rattle.running.specs.Run.{runRounds}
-use Rattle.guarantees.specs.SmallPlans.{smallPlan}
+use Rattle.example_plans.specs.SmallPlans.{smallPlan}
 use Rattle.guarantees.specs.Series.{Call, activateCall, runCall, callRefusal, seriesBuffer, seriesActs, ForThis, Start, Enough}
 
 -- M3's plan: its list 1 names router 3 alone, and is stable

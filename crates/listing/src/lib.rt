@@ -33,7 +33,7 @@ fn list_line(out: &mut [u8], at: usize, plan: &[u8], list: usize) -> usize
     ensures { λ r. ⌜ Put lineRoom (now (out .entry)) at (listLine (now (plan .entry)) list) (now (out .exit)) r ⌝ }
 {
     let mut rows = [0u64; 64];
-    let net = network::decode::decode(plan, list, &mut rows);
+    let net = decoding::decode(plan, list, &mut rows);
     let distances = plan::parts::part(plan, DISTANCES);
     let mut labels = [0u8; 64];
     let mut ranks = [0u8; 64];

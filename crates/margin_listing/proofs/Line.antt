@@ -11,9 +11,9 @@ use Rattle.plan.specs.Refused.{unlessRefused}
 use Rattle.routing.specs.Preference.{marginOf}
 use Rattle.network.specs.FromPlan.{instanceOf}
 use Rattle.refusals.specs.Refusals.{compareRefusal}
-use Rattle.queries.specs.declared.compare.CompareAnswer.{CompareAnswer}
-use Rattle.queries.specs.declared.compare.CompareAnswer.the-variants.{Refused}
-use Rattle.queries.specs.Compare.{marginCase, compared, Compares}
+use Rattle.comparing.specs.declared.compare.CompareAnswer.{CompareAnswer}
+use Rattle.comparing.specs.declared.compare.CompareAnswer.the-variants.{Refused}
+use Rattle.comparing.specs.Compare.{marginCase, compared, Compares}
 use Rattle.report.specs.Text.{refusedLine}
 use Rattle.margin_text.specs.Margin.{lineOf, compareLine, marginText}
 use Rattle.margin_listing.specs.Answered.{givenLine, answerLine}

@@ -1,10 +1,10 @@
 -- The line of what a comparison returned.
 use Prim.Native.Nat.{ℕ}
 use mathlib.Core.List.{List}
-use Rattle.queries.specs.declared.compare.Margin.{Margin}
-use Rattle.queries.specs.declared.compare.Margin.the-variants.{Absent, Of}
-use Rattle.queries.specs.declared.compare.CompareAnswer.{CompareAnswer}
-use Rattle.queries.specs.declared.compare.CompareAnswer.the-variants.{Refused, Compared}
+use Rattle.comparing.specs.declared.compare.Margin.{Margin}
+use Rattle.comparing.specs.declared.compare.Margin.the-variants.{Absent, Of}
+use Rattle.comparing.specs.declared.compare.CompareAnswer.{CompareAnswer}
+use Rattle.comparing.specs.declared.compare.CompareAnswer.the-variants.{Refused, Compared}
 use Rattle.report.specs.Text.{refusedLine, marginLine, noneLine}
 
 abbrev pub givenLine : Margin → List ℕ

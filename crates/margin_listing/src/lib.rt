@@ -1,8 +1,8 @@
 // The line that the margin program prints of its input.
 
 use base::wide;
-use queries::compare::CompareAnswer;
-use queries::compare::Margin;
+use comparing::compare::CompareAnswer;
+use comparing::compare::Margin;
 ghost use Prim.Native.Nat.{_≤_};
 ghost use lib.ListN.{length};
 ghost use Rattle.fields.specs.Buffer.{Put, AtFront};
@@ -47,6 +47,6 @@ pub fn margin_text(input: &[u8], out: &mut [u8]) -> usize
     let router = wide(input[0]);
     let first = wide(input[1]);
     let second = wide(input[2]);
-    let answer = queries::compare::compare(&input[3..], router, first, second);
+    let answer = comparing::compare::compare(&input[3..], router, first, second);
     answer_line(out, answer)
 }

@@ -1,4 +1,2 @@
 pub mod Examples
 pub mod FromPlan
-pub mod Measured
-pub mod Marks

@@ -1,4 +1,3 @@
-pub mod Measured
 pub mod Decoded
 pub mod FromPlan
 pub mod WellFormed

@@ -1,7 +1,4 @@
-// A plan with one of its lists as the code holds it, read once from the plan's bytes.
-
-pub mod comparison;
-pub mod decode;
+// A plan with one of its lists as the code holds it: the type, and in specs/ the instance that it denotes and that of a plan. No code.
 
 // The byte that stands for no router.
 pub const NO_ROUTER: u8 = 255;

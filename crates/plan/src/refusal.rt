@@ -15,11 +15,11 @@ fn bodies_refusal(plan: &[u8], table: [entries::Entry; 4], n: u8) -> u8
     ensures { λ r. ⌜ r ≡ bodyChecks (now (plan .entry)) table n 0 ⌝ }
 {
     let routers = entries::body_of(plan, table[entries::ROUTERS]);
-    if !router_bodies::routers::routers_ok(routers, n as usize) {
+    if !router_body::routers_ok(routers, n as usize) {
         return 4;
     }
     let sessions = entries::body_of(plan, table[entries::SESSIONS]);
-    let answers = router_bodies::sessions::answers(routers, sessions, n as usize);
+    let answers = session_body::answers(routers, sessions, n as usize);
     if !answers.ordered {
         return 5;
     }
@@ -27,7 +27,7 @@ fn bodies_refusal(plan: &[u8], table: [entries::Entry; 4], n: u8) -> u8
         return 13;
     }
     let distances = entries::body_of(plan, table[entries::DISTANCES]);
-    if !bodies::distances::distances_ok(distances, n as usize) {
+    if !distance_body::distances_ok(distances, n as usize) {
         return 6;
     }
     let lists = entries::body_of(plan, table[entries::LISTS]);

@@ -14,19 +14,18 @@ use Rattle.bodies.specs.Lists.{listPlace, memberOk, listAtOk, listOk, eachListO
 use Rattle.plan.specs.Refusal.{refuse, bodyChecks, planChecks, planRefusal}
 use Rattle.network.specs.FromPlan.{named}
 use Rattle.network.specs.Examples.{threeRouters}
-use Rattle.routing.specs.Preference.{prefers, better, marginOf}
+use Rattle.routing.specs.Preference.{prefers}
 use Rattle.routing.specs.Reliance.{listedClientOf, bestClient, offer, betterOffer, relies}
 use Rattle.refusals.specs.Refusals.{egressListRefusal}
 use Rattle.queries.specs.Size.{sizeRouters, sizeLists}
 use Rattle.queries.specs.EgressList.{egressListStart, egressListSize}
-use Rattle.queries.specs.Compare.{whichBetter, hasMargin, marginNumber, preferredOf, compared}
 use Rattle.queries.specs.Relies.{relied}
 use Rattle.queries.specs.Examples.{QueryExamples}
 
 pub query-examples : QueryExamples
 unfolding
-    threeRouters sizeRouters sizeLists egressListStart egressListSize whichBetter hasMargin marginNumber preferredOf compared relied egressListRefusal
-    listedClientOf bestClient offer betterOffer relies prefers better marginOf
+    threeRouters sizeRouters sizeLists egressListStart egressListSize relied egressListRefusal
+    listedClientOf bestClient offer betterOffer relies prefers
     pairs inSession named refuse bodyChecks planChecks planRefusal
     headerOk routerCountOk kindsOk placesOk sizesOk contentsOk routerOk routersOk sessionOk sessionsOk
     parentCount fewParents parentsOk count distancesOk
@@ -38,20 +37,6 @@ query-examples =
       stretchStart = refl;
       stretchSize = refl;
       refusedStretch = refl;
-      firstIsBetter = refl;
-      secondIsBetter = refl;
-      neither = refl;
-      firstIs1 = refl;
-      secondIs2 = refl;
-      neitherIs0 = refl;
-      minus253 = refl;
-      thereIsAMargin = refl;
-      numberOfSecond = refl;
-      numberOfFirst = refl;
-      numberOfNeither = refl;
-      absentIsNone = refl;
-      zeroIsAMargin = refl;
-      numberOfMinusFour = refl;
       itRelies = refl;
       itDoesNot = refl;
       flagOfYes = refl;

@@ -1,5 +1,4 @@
 pub mod Examples
 pub mod ListStretch
-pub mod Preferring
 pub mod Relying
 pub mod Sizing

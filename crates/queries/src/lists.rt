@@ -8,7 +8,7 @@ ghost use Rattle.queries.specs.EgressList.{StretchOf};
 pub fn egress_list_refusal(plan: &[u8], list: usize) -> u8
     ensures { λ r. ⌜ r ≡ egressListRefusal (now (plan .entry)) list ⌝ }
 {
-    refusals::numbers::list_refusal(plan, list)
+    refusing::numbers::list_refusal(plan, list)
 }
 
 // The numbers of a list as that part of the plan itself; empty if refused.

@@ -14,14 +14,14 @@ pub enum ReliesAnswer {
 pub fn relies(plan: &[u8], list: usize, router: usize, other: usize) -> ReliesAnswer
     ensures { λ r. ⌜ Relied (now (plan .entry)) list router other r ⌝ }
 {
-    let refused = refusals::numbers::relies_refusal(plan, list, router, other);
+    let refused = refusing::numbers::relies_refusal(plan, list, router, other);
     if refused != 0 {
         return ReliesAnswer::Refused(refused);
     }
     let mut rows = [0u64; 64];
-    let net = network::decode::decode(plan, list, &mut rows);
+    let net = decoding::decode(plan, list, &mut rows);
     let distances = plan::parts::part(plan, DISTANCES);
-    if reliance::reliances::relies(net, &rows, distances, router, other) {
+    if reliance::relies(net, &rows, distances, router, other) {
         return ReliesAnswer::Yes;
     }
     ReliesAnswer::No

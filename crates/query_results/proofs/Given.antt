@@ -7,17 +7,17 @@ use lib.IntN.{ℤ}
 use Rattle.base.specs.Seek.{flag}
 use Rattle.routing.specs.Reliance.{relies}
 use Rattle.network.specs.FromPlan.{instanceOf}
-use Rattle.queries.specs.declared.compare.Preferred.{Preferred}
-use Rattle.queries.specs.declared.compare.Margin.{Margin}
-use Rattle.queries.specs.declared.compare.CompareAnswer.{CompareAnswer}
-use Rattle.queries.specs.declared.compare.CompareAnswer.the-variants as compares
+use Rattle.comparing.specs.declared.compare.Preferred.{Preferred}
+use Rattle.comparing.specs.declared.compare.Margin.{Margin}
+use Rattle.comparing.specs.declared.compare.CompareAnswer.{CompareAnswer}
+use Rattle.comparing.specs.declared.compare.CompareAnswer.the-variants as compares
 use Rattle.queries.specs.declared.relies.ReliesAnswer.{ReliesAnswer}
 use Rattle.queries.specs.declared.relies.ReliesAnswer.the-variants as relying
 use Rattle.queries.specs.declared.size.SizeAnswer.{SizeAnswer}
 use Rattle.plan.specs.Refusal.{planRefusal}
 use Rattle.refusals.specs.Refusals.{egressListRefusal, compareRefusal, reliesRefusal}
-use Rattle.queries.specs.Compare.{preferredNumber, marginPresent, marginValue, compared}
-use Rattle.queries.specs.Compare.{compareNumber, compareBetter, compareHasMargin, compareMargin, Compares}
+use Rattle.comparing.specs.Compare.{preferredNumber, marginPresent, marginValue, compared}
+use Rattle.comparing.specs.Compare.{compareNumber, compareBetter, compareHasMargin, compareMargin, Compares}
 use Rattle.queries.specs.Relies.{relied, reliesNumber, reliesFlag, Relied}
 use Rattle.queries.specs.Size.{sizeRouters, sizeLists, Sizes}
 use Rattle.plan.proofs.Refused.{when-refused, when-given}

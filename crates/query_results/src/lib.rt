@@ -8,7 +8,7 @@ use checker::relies::ReliesAnswer;
 ghost use mathlib.Core.Path.{_≡_};
 ghost use Rattle.base.specs.Lent.{lent};
 ghost use Rattle.base.specs.Seek.{flag};
-ghost use Rattle.queries.specs.Compare.{preferredNumber, marginPresent, marginValue};
+ghost use Rattle.comparing.specs.Compare.{preferredNumber, marginPresent, marginValue};
 ghost use Rattle.exports.specs.Exports.{SizeExport, ListExport, CompareExport, ReliesExport};
 
 pub fn size(plan: &[u8], routers: &mut u64, lists: &mut u64) -> u8

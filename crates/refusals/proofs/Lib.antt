@@ -1,3 +1,4 @@
 pub mod Examples
 pub mod Granted
 pub mod InOrder
+pub mod Ready

@@ -1,4 +1,1 @@
-// Rows 8 to 10 of the refusal table: the numbers, buffers and tables that the calls are handed.
-
-pub mod buffers;
-pub mod numbers;
+// Rows 8 to 10 of the refusal table, call by call: definitions in specs/, theorems in proofs/. There is no code here.

@@ -1,2 +1,1 @@
-pub mod OwnClient
 pub mod RelianceRows

@@ -1,7 +1,7 @@
--- The reliances of all routers as rows of bits.
+-- Reliances as the code finds and holds them, those of all routers as rows of bits.
 use Prim.Native.Nat.{ℕ, _≤_, _<_}
 use mathlib.Core.Path.{_≡_}
-use mathlib.Core.Bool.{_&&_, _||_}
+use mathlib.Core.Bool.{true, false, _&&_, _||_}
 use mathlib.Core.List.{List}
 use mathlib.Core.Option.{Option}
 use lib.Dec.{eqb}
@@ -9,7 +9,14 @@ use lib.ListN.{length, getD}
 use Rattle.base.specs.Bits.{bitN}
 use Rattle.base.specs.Seek.{flag}
 use Rattle.routing.specs.Instance.{Instance, isRouter}
-use Rattle.routing.specs.Reliance.{relies}
+use Rattle.routing.specs.Reliance.{bestClient, relies}
+use Rattle.routing.specs.RouterBytes.{asRouter}
+
+-- w is an unlisted reflector, whose reliances rule 3 decides, and the byte `own` its best client
+pub record UnlistedReflector (I : Instance) (w own : ℕ) : Type 0 where
+  pub unlisted : I .listed w ≡ false
+  pub reflector : I .reflector w ≡ true
+  pub client : asRouter own ≡ bestClient I w
 
 -- a word with bit v for each reflector v of a row, and for the best client, if there is one
 abbrev pub Candidates : ℕ → ℕ → Option ℕ → ℕ → Type 0

@@ -7,13 +7,13 @@ ghost use Rattle.running.specs.Activate.{Activates};
 pub fn activate(plan: &[u8], list: usize, router: usize, table: &mut [u8]) -> u8
     ensures { λ r. ⌜ Activates (now (plan .entry)) list router (now (table .entry)) r (now (table .exit)) ⌝ }
 {
-    let asked = refusals::numbers::router_refusal(plan, list, router);
+    let asked = refusing::numbers::router_refusal(plan, list, router);
     if asked != 0 {
         return asked;
     }
     let mut rows = [0u64; 64];
-    let net = network::decode::decode(plan, list, &mut rows);
-    let refused = refusals::buffers::table_refusal(net, &rows, table);
+    let net = decoding::decode(plan, list, &mut rows);
+    let refused = refusing::buffers::table_refusal(net, &rows, table);
     if refused != 0 {
         return refused;
     }

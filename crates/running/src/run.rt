@@ -29,13 +29,13 @@ fn refused_run(number: u8) -> RunAnswer
 pub fn run(plan: &[u8], list: usize, sequence: &[u8], limit: usize, table: &mut [u8]) -> RunAnswer
     ensures { λ r. ⌜ Runs (now (plan .entry)) list (now (sequence .entry)) limit (now (table .entry)) r (now (table .exit)) ⌝ }
 {
-    let asked = refusals::numbers::sequence_refusal(plan, list, sequence);
+    let asked = refusing::numbers::sequence_refusal(plan, list, sequence);
     if asked != 0 {
         return refused_run(asked);
     }
     let mut rows = [0u64; 64];
-    let net = network::decode::decode(plan, list, &mut rows);
-    let refused = refusals::buffers::table_refusal(net, &rows, table);
+    let net = decoding::decode(plan, list, &mut rows);
+    let refused = refusing::buffers::table_refusal(net, &rows, table);
     if refused != 0 {
         return refused_run(refused);
     }

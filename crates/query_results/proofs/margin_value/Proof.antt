@@ -2,7 +2,7 @@ use mathlib.Core.Path.{_∙_, sym, ap}
 use borrow.Author.Needs.{needs}
 use mir.Syntax.{w64}
 use mir.ValLaws.{toZ-ofZ}
-use Rattle.queries.specs.Compare.{marginValue}
+use Rattle.comparing.specs.Compare.{marginValue}
 use Rattle.query_results.proofs.margin_value.Statement.{statement}
 use Rattle.query_results.proofs.margin_value.Tie as tie
 

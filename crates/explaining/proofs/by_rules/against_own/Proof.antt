@@ -10,8 +10,8 @@ use Rattle.routing.specs.Instance.{Instance}
 use Rattle.routing.specs.Preference.{prefers}
 use Rattle.routing.specs.RouterBytes.{asRouter}
 use Rattle.routing.proofs.RouterBytes.{router-none, router-some, router-below}
-use Rattle.network.specs.Measured.{Measured, ReadAs}
-use Rattle.network.proofs.Measured.{read-as}
+use Rattle.preference.specs.Measured.{Measured, ReadAs}
+use Rattle.preference.proofs.Measured.{read-as}
 use Rattle.explanations.specs.Explained.{WayTo, againstOwn}
 use Rattle.explanations.specs.declared.explanation.Explanation.the-variants.{Yes}
 use Rattle.explanations.specs.declared.explanation.Rule.the-variants.{BetterOffer}

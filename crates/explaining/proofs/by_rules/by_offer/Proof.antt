@@ -7,8 +7,8 @@ use borrow.Author.Needs.{needs}
 use Rattle.routing.specs.Instance.{Instance}
 use Rattle.routing.specs.RouterBytes.{asRouter}
 use Rattle.routing.proofs.RouterBytes.{router-none, router-some, router-below}
-use Rattle.network.specs.Measured.{Measured}
-use Rattle.network.proofs.Measured.{some-way, no-way}
+use Rattle.preference.specs.Measured.{Measured}
+use Rattle.preference.proofs.Measured.{some-way, no-way}
 use Rattle.explanations.specs.Explained.{byOffer}
 use Rattle.explaining.proofs.Cases.{offer-none, offer-no-way, offer-way}
 use Rattle.explaining.proofs.by_rules.by_offer.Statement.{statement}

@@ -4,7 +4,7 @@ use lib.Dec.{lit<}
 use Rattle.explanations.specs.Explained.{explained}
 use Rattle.refusals.specs.Refusals.{reliesRefusal}
 use Rattle.refusals.proofs.Granted.{ReliesAsked, relies-asked}
-use Rattle.queries.proofs.Relying.{ready, of-plan}
+use Rattle.refusals.proofs.Ready.{ready, of-plan}
 use Rattle.explaining.proofs.Explaining.{explains-refused, explains-given}
 use Rattle.explaining.proofs.explain.explain.Statement.{statement}
 use Rattle.explaining.proofs.explain.explain.Tie as tie

@@ -5,7 +5,8 @@ use Rattle.routing.specs.Reliance.{relies}
 use Rattle.network.specs.FromPlan.{instanceOf}
 use Rattle.refusals.specs.Refusals.{reliesRefusal}
 use Rattle.refusals.proofs.Granted.{ReliesAsked, relies-asked}
-use Rattle.queries.proofs.Relying.{ready, of-plan, relied-refused, relied-yes, relied-no}
+use Rattle.refusals.proofs.Ready.{ready, of-plan}
+use Rattle.queries.proofs.Relying.{relied-refused, relied-yes, relied-no}
 use Rattle.queries.proofs.relies.relies.Statement.{statement}
 use Rattle.queries.proofs.relies.relies.Tie as tie
 

@@ -1,0 +1,3 @@
+// The call that compares two egress routers at a router.
+
+pub mod compare;

@@ -1,8 +1,0 @@
--- The examples of margins, worked out from the definitions that the contracts cite.
-use mathlib.Core.Path.{refl}
-use Rattle.guarantees.specs.MarginExamples.{ends, cyclePlan, marginExamples, MarginExamplesHold}
-use Rattle.guarantees.proofs.Questions.{allRules}
-
-pub margin-examples : MarginExamplesHold
-unfolding allRules ends cyclePlan marginExamples
-margin-examples = refl
