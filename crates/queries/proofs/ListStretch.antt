@@ -25,9 +25,13 @@ module _ (plan : List ℕ) (k : ℕ) where
   stretch-given h = record { starts = when-given _ _ _ h; sizes = when-given _ _ _ h }
 
 -- of a list that is not refused the stretch is its numbers
-pub handed-back : (plan : RefT (List ℕ)) (k : ℕ) (part : RefT (List ℕ)) → StretchOf plan k part → egressListRefusal (now plan) k ≡ 0 → HandedBack (now plan) k (now part)
+pub handed-back : (plan : RefT (List ℕ)) (k : ℕ) (part : RefT (List ℕ)) → StretchOf plan k part → egressListRefusal (now plan) k ≡ 0 → HandedBack plan k part
 handed-back plan k part s h =
     let g = stretch-given (now plan) k h in
     let a = list-asked (now plan) k h in
     let is : now part ≡ listNumbers (now plan) k = rw (g .starts, g .sizes) at (s .bytes) in
-    record { stretch-is = is; numbers = rw is (numbers-of (now plan) (passed (now plan) (a .planOk)) k (a .list)) }
+    record {
+      stretch-is = is;
+      numbers = rw is (numbers-of (now plan) (passed (now plan) (a .planOk)) k (a .list));
+      place = rw (g .starts) at (s .address);
+    }

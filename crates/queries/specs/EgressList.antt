@@ -3,8 +3,8 @@
 use Prim.Native.Nat.{ℕ}
 use mathlib.Core.List.{List}
 use mathlib.Core.Path.{_≡_}
-use denote.Ref.{RefT, now}
-use Rattle.base.specs.Bytes.{PartOf}
+use denote.Ref.{RefT, ptr, now}
+use Rattle.base.specs.Bytes.{PartOf, bytesOn}
 use Rattle.plan.specs.EgressLists.{listStart, listSize, listNumbers, NumbersOf}
 use Rattle.refusals.specs.Refusals.{egressListRefusal}
 use Rattle.plan.specs.Refused.{field}
@@ -20,7 +20,9 @@ egressListSize plan k = field (egressListRefusal plan k) (listSize plan k)
 abbrev pub StretchOf : RefT (List ℕ) → ℕ → RefT (List ℕ) → Type 0
 StretchOf plan k part = PartOf plan (egressListStart (now plan) k) (egressListSize (now plan) k) part
 
--- "the numbers of list k"; the theorem `handed-back` says that the stretch of a list that is not refused is these
-pub record HandedBack (plan : List ℕ) (k : ℕ) (stretch : List ℕ) : Type 0 where
-  pub stretch-is : stretch ≡ listNumbers plan k
-  pub numbers : NumbersOf plan k stretch
+-- "the numbers of list k handed back as that stretch of the plan itself": the numbers, and the place in the caller's memory. The theorem
+-- `handed-back` says so of a list that is not refused.
+pub record HandedBack (plan : RefT (List ℕ)) (k : ℕ) (part : RefT (List ℕ)) : Type 0 where
+  pub stretch-is : now part ≡ listNumbers (now plan) k
+  pub numbers : NumbersOf (now plan) k (now part)
+  pub place : ptr part ≡ bytesOn (ptr plan) (listStart (now plan) k)

@@ -1,3 +1,4 @@
+use native.Mathlib.Omega.{arith}
 use mathlib.Core.Path.{_≡_, refl, _∙_, sym}
 use borrow.Author.Needs.{needs}
 use lib.Dec.{lit<}
@@ -24,7 +25,8 @@ guard c = c .before .before .before
 relies-requires : tie.Need-relies-requires
 relies-requires c κs =
     let d = c .before in
-    ready _ _ _ _ (given (guard d)) _ _ (d .before .decode .ensures) _ (d .part .ensures)
+    let r = ready _ _ _ _ (given (guard d)) _ _ (d .before .decode .ensures) _ (d .part .ensures) in
+    (r .0, omega (arith, r .1), omega (arith, r .1))
 
 -- the reliance found is that of the plan's network
 judged : (c : tie.After-relies) → let a = guard (c .before .before) .before .before .before .args in

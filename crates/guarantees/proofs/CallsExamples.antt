@@ -3,7 +3,7 @@ use native.Mathlib.Omega.{arith}
 use mathlib.Core.Path.{refl}
 use Rattle.example_plans.specs.SmallPlans.{smallPlan}
 use Rattle.guarantees.specs.Series.{seriesBuffer, seriesActs, ForThis}
-use Rattle.guarantees.specs.SeriesExamples.{plan, start, calls, roundsOf, SeriesExamples}
+use Rattle.guarantees.specs.CallsExamples.{plan, start, calls, roundsOf, SeriesExamples}
 use Rattle.example_plans.proofs.Questions.{allRules}
 
 pub series-examples : SeriesExamples
@@ -20,4 +20,6 @@ series-examples =
       buffer = refl;
       fourAreNotEnough = λ h. omega (arith, h);
       fiveAreEnough = omega arith;
+      settled = refl;
+      later = refl;
     }

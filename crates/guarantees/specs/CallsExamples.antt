@@ -36,6 +36,9 @@ fourRounds = roundsOf (3 ∷ 2 ∷ 1 ∷ 0 ∷ 3 ∷ 2 ∷ 1 ∷ 0 ∷ 3 ∷ 2 �
 abbrev pub fiveRounds : List Call
 fiveRounds = roundsOf (3 ∷ 2 ∷ 1 ∷ 0 ∷ 3 ∷ 2 ∷ 1 ∷ 0 ∷ 3 ∷ 2 ∷ 1 ∷ 0 ∷ 3 ∷ 2 ∷ 1 ∷ 0 ∷ 3 ∷ 2 ∷ 1 ∷ 0 ∷ [])
 
+abbrev pub oneActEach : List Call
+oneActEach = activateCall plan 1 0 ∷ activateCall plan 1 1 ∷ activateCall plan 1 2 ∷ activateCall plan 1 3 ∷ []
+
 pub record SeriesExamples : Type 0 where
   -- "Fix a plan and one of its lists whose verdict is stable. .. It starts from a lent buffer whose first 2n bytes are any held-route
   -- table for that plan and list."
@@ -57,3 +60,7 @@ pub record SeriesExamples : Type 0 where
   -- "at least the highest rank plus two": the highest rank is 3. Misread as plus one: four are enough. As plus three: five are not.
   pub fourAreNotEnough : Enough plan 1 fourRounds start → ⊥
   pub fiveAreEnough : Enough plan 1 fiveRounds start
+  -- "the first 2n bytes then equal .. the settled table .., and no later act or call of the series alters a byte": after five rounds, and
+  -- after calls of one more act each.
+  pub settled : seriesBuffer fiveRounds start ≡ 3 ∷ 1 ∷ 3 ∷ 3 ∷ 3 ∷ 0 ∷ 3 ∷ 3 ∷ 9 ∷ []
+  pub later : seriesBuffer oneActEach (seriesBuffer fiveRounds start) ≡ 3 ∷ 1 ∷ 3 ∷ 3 ∷ 3 ∷ 0 ∷ 3 ∷ 3 ∷ 9 ∷ []
