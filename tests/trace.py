@@ -10,8 +10,9 @@ An entry is `CRATE/FOLDER/FILE: NAME, NAME`, and of edits `CRATE/must-fail: NAME
   tests/FOLDER/NAME.expected;
 - must-fail edit: an edit of that crate.
 A word in a comment declares nothing, nor does a name local to a proof. Each row has a contract, a theorem or an
-example. No two edits have one name. Each edit is named in some row, and so is each definition of specs/, but for
-those that the examples are made of, and each example: a field of a record called ..Examples, or what has type Example.
+example, and where it has definitions a theorem or an example, but for inner definitions. No two edits have one name.
+Each edit is named in some row, and so is each definition of specs/, but for those that the examples are made of, and
+each example: a field of a record called ..Examples, or what has type Example.
 """
 import re
 import sys
@@ -25,6 +26,8 @@ COLUMNS = {
     'pinning example': ('specs', 'proofs'),
     'must-fail edit': ('must-fail',),
 }
+# the first column of the rows that need neither theorem nor example
+INNER = 'inner definition'
 EXAMPLE_FILES = re.compile(r'(Examples|SmallPlans)$')
 EXAMPLE = re.compile(r'^(?:abbrev|unfoldable) pub (\S+) : Example$', re.MULTILINE)
 DECLARATION = re.compile(r'''\s* (?P<marks> ((pub|abbrev|unfoldable)\s+)* ) (?P<kind> (record|data)\s+ )?
@@ -231,6 +234,13 @@ def check_cell(repository, column, cell, named):
     return problems
 
 
+def unpinned(row):
+    """Whether a row has definitions and nothing but contracts beside them."""
+    pins = [name for column, name in row if column == 'pinning example']
+    theorems = [name for column, name in row if column == 'contract or theorem' and '/proofs/' in name]
+    return any(column == 'definition' for column, name in row) and not pins and not theorems
+
+
 def check(root):
     """(column, name) of each name in docs/TRACE.md, and what is wrong, one line each."""
     repository = Repository(root)
@@ -243,6 +253,8 @@ def check(root):
             wrongs += check_cell(repository, column, cell, row)
         if not any(column in ('contract or theorem', 'pinning example') for column, name in row):
             wrongs.append('the row has no contract, theorem or example')
+        elif titles[0] != INNER and unpinned(row):
+            wrongs.append('the row has definitions, and no theorem or example')
         problems += [f'docs/TRACE.md:{number}: {problem}' for problem in wrongs]
         named += row
     crates = {}

@@ -103,6 +103,7 @@ TRACE = [
      '`shown/stdout`<br>`tests/shown/three.expected`',
      '`rules/must-fail: next_adds_two`'],
 ]
+PINS = TRACE[2][3]
 TABLE = ''.join('| ' + ' | '.join(row) + ' |\n' for row in TRACE)
 
 # (what is wrong, what is replaced in the table, by what, what is said of it)
@@ -163,6 +164,8 @@ CASES = [
      'rules/specs/Examples: nextOf8 is named in no row'),
     ('a row that shows nothing', '`rules/proofs/Rule: next-more` | `shown/stdout`<br>`tests/shown/three.expected`', '|',
      'the row has no contract, theorem or example'),
+    ('a definition that nothing pins', PINS, '',
+     'the row has definitions, and no theorem or example'),
     ('a row with a cell too few', '`code/must-fail: step_of_two` |', '',
      'the row has 4 cells, not 5'),
     ('words in place of an entry', '`shown/stdout`', 'every call',
@@ -187,6 +190,9 @@ def main():
     said = problems(TABLE)
     if said:
         failed.append(f'a repository with nothing wrong is refused: {said}')
+    said = problems(TABLE.replace('sentence', 'inner definition').replace(PINS, ''))
+    if any('no theorem or example' in problem for problem in said):
+        failed.append(f'an inner definition without a pin is refused: {said}')
     said = problems(TABLE, {'crates/rules/must-fail/step_of_two.edit': ''})
     if 'rules/must-fail: step_of_two is also the name of an edit of code' not in said:
         failed.append(f'two edits of one name: {said}')
@@ -196,7 +202,7 @@ def main():
             failed.append(f'{wrong}: {said}')
     for failure in failed:
         print(failure)
-    print(f'trace_test: {len(CASES) + 2 - len(failed)} passed, {len(failed)} failed')
+    print(f'trace_test: {len(CASES) + 3 - len(failed)} passed, {len(failed)} failed')
     sys.exit(1 if failed else 0)
 
 
