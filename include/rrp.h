@@ -156,7 +156,7 @@ uint8_t rrp_verdict(const uint8_t *plan, size_t plan_len, size_t list, uint8_t *
                     uint64_t *size);
 
 /* Activates one router, in the table's 2n bytes: a router of the list keeps its own route, and any other then holds the best route
- * that a neighbour announces to it at that moment, of those whose egress it has a way to, or none. No other router's entry
+ * that a neighbour advertises to it at that moment, of those whose egress it has a way to, or none. No other router's entry
  * changes. Refusals 1 to 10 and 13. */
 uint8_t rrp_activate(const uint8_t *plan, size_t plan_len, size_t list, size_t router, uint8_t *table, size_t table_len);
 

@@ -1,5 +1,5 @@
-// The answers of the verdict and of a run, put into the variables that a C caller lends. Each function returns the call's refusal number, and
-// if that is not 0 it has written nothing.
+// The answers of the verdict and of a run, put into the variables that a C caller lends. Each function returns the call's refusal number,
+// and if that is not 0 it has written nothing.
 
 use checker::verdict::VerdictAnswer;
 ghost use Rattle.base.specs.Lent.{lent};

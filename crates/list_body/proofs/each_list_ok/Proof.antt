@@ -1,4 +1,4 @@
--- The walk's laws are in proofs/ListWalk.antt.
+-- The walk's laws are in proofs/ListWalk.antt of crate bodies.
 use Prim.Native.Nat.{_+_, _-_, _≤_}
 use native.Mathlib.Omega.{arith}
 use mathlib.Core.Path.{sym, ap, subst}
