@@ -39,6 +39,6 @@ pub fn verdict(
     }
     let mut rows = [0u64; 64];
     let net = decoding::decode(plan, list, &mut rows);
-    let distances = plan::parts::part(plan, DISTANCES);
+    let distances = reading::parts::part(plan, DISTANCES);
     answer(assessment::assess(net, &rows, distances, labels, ranks, table, cycle))
 }

@@ -73,7 +73,7 @@ pub fn compare(plan: &[u8], router: usize, first: usize, second: usize) -> Compa
         return CompareAnswer::Refused(refused);
     }
     let n = plan[ROUTER_COUNT] as usize;
-    let distances = plan::parts::part(plan, DISTANCES);
+    let distances = reading::parts::part(plan, DISTANCES);
     let to_first = distance_body::distance(distances, n, router, first);
     let to_second = distance_body::distance(distances, n, router, second);
     let preferred = which_better(to_first, to_second, first, second);

@@ -94,9 +94,9 @@ pub fn decode(plan: &[u8], list: usize, rows: &mut [u64; 64]) -> Network
     ensures { λ r. ⌜ ReadFrom (now (plan .entry)) list r (now (rows .exit)) ⌝ }
 {
     let n = base::wide(plan[ROUTER_COUNT]);
-    let roles = role_words(plan::parts::part(plan, ROUTERS), n);
-    neighbour_rows(plan::parts::part(plan, SESSIONS), rows);
-    let span = plan::lists::list_span(plan, list);
+    let roles = role_words(reading::parts::part(plan, ROUTERS), n);
+    neighbour_rows(reading::parts::part(plan, SESSIONS), rows);
+    let span = reading::lists::list_span(plan, list);
     let start = span.start;
     let stop = start + span.count;
     let listed = listed_word(&plan[start..stop]);

@@ -14,6 +14,6 @@ pub fn explain(plan: &[u8], list: usize, router: usize, other: usize) -> Explana
     }
     let mut rows = [0u64; 64];
     let net = decoding::decode(plan, list, &mut rows);
-    let distances = plan::parts::part(plan, DISTANCES);
+    let distances = reading::parts::part(plan, DISTANCES);
     crate::by_rules::explained(net, &rows, distances, router, other)
 }

@@ -34,7 +34,7 @@ fn list_line(out: &mut [u8], at: usize, plan: &[u8], list: usize) -> usize
 {
     let mut rows = [0u64; 64];
     let net = decoding::decode(plan, list, &mut rows);
-    let distances = plan::parts::part(plan, DISTANCES);
+    let distances = reading::parts::part(plan, DISTANCES);
     let mut labels = [0u8; 64];
     let mut ranks = [0u8; 64];
     let mut table = [0u8; 128];

@@ -1,5 +1,2 @@
-// A whole plan: its refusals in order, and the parts of one that is not refused.
-
-pub mod lists;
-pub mod parts;
-pub mod refusal;
+// A whole plan: the rows of the refusal table in order, and what a plan that is not refused is. Definitions in specs/, theorems in
+// proofs/. There is no code here.

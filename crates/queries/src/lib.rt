@@ -12,5 +12,5 @@ ghost use Rattle.plan.specs.Refusal.{planRefusal};
 pub fn check(plan: &[u8]) -> u8
     ensures { λ r. ⌜ r ≡ planRefusal (now (plan .entry)) ⌝ }
 {
-    plan::refusal::refusal(plan)
+    reading::refusal::refusal(plan)
 }

@@ -18,7 +18,7 @@ pub fn egress_list(plan: &[u8], list: usize) -> &[u8]
     if egress_list_refusal(plan, list) != 0 {
         return &plan[0..0];
     }
-    let span = plan::lists::list_span(plan, list);
+    let span = reading::lists::list_span(plan, list);
     let start = span.start;
     let stop = start + span.count;
     &plan[start..stop]

@@ -20,7 +20,7 @@ pub fn relies(plan: &[u8], list: usize, router: usize, other: usize) -> ReliesAn
     }
     let mut rows = [0u64; 64];
     let net = decoding::decode(plan, list, &mut rows);
-    let distances = plan::parts::part(plan, DISTANCES);
+    let distances = reading::parts::part(plan, DISTANCES);
     if reliance::relies(net, &rows, distances, router, other) {
         return ReliesAnswer::Yes;
     }

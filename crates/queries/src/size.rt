@@ -14,7 +14,7 @@ pub struct SizeAnswer {
 pub fn size(plan: &[u8]) -> SizeAnswer
     ensures { λ r. ⌜ Sizes (now (plan .entry)) r ⌝ }
 {
-    let refused = plan::refusal::refusal(plan);
+    let refused = reading::refusal::refusal(plan);
     if refused != 0 {
         return SizeAnswer {
             refused: refused,
@@ -25,6 +25,6 @@ pub fn size(plan: &[u8]) -> SizeAnswer
     SizeAnswer {
         refused: 0,
         routers: plan[ROUTER_COUNT] as usize,
-        lists: plan::lists::list_count(plan),
+        lists: reading::lists::list_count(plan),
     }
 }

@@ -30,7 +30,7 @@ pub fn list(plan: &[u8], list: usize, start: &mut u64, count: &mut u64) -> u8
     if refused != 0 {
         return refused;
     }
-    let span = plan::lists::list_span(plan, list);
+    let span = reading::lists::list_span(plan, list);
     *start = span.start as u64;
     *count = span.count as u64;
     0

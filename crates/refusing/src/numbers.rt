@@ -10,11 +10,11 @@ ghost use Rattle.refusals.specs.Refusals.{egressListRefusal, compareRefusal, re
 pub fn list_refusal(plan: &[u8], list: usize) -> u8
     ensures { λ r. ⌜ r ≡ egressListRefusal (now (plan .entry)) list ⌝ }
 {
-    let refused = plan::refusal::refusal(plan);
+    let refused = reading::refusal::refusal(plan);
     if refused != 0 {
         return refused;
     }
-    if plan::lists::list_count(plan) <= list {
+    if reading::lists::list_count(plan) <= list {
         return 8;
     }
     0
@@ -39,7 +39,7 @@ fn and_router(plan: &[u8], refused: u8, router: usize) -> u8
 pub fn compare_refusal(plan: &[u8], router: usize, first: usize, second: usize) -> u8
     ensures { λ r. ⌜ r ≡ compareRefusal (now (plan .entry)) router first second ⌝ }
 {
-    let at = and_router(plan, plan::refusal::refusal(plan), router);
+    let at = and_router(plan, reading::refusal::refusal(plan), router);
     let with_first = and_router(plan, at, first);
     and_router(plan, with_first, second)
 }

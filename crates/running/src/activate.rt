@@ -17,7 +17,7 @@ pub fn activate(plan: &[u8], list: usize, router: usize, table: &mut [u8]) -> u8
     if refused != 0 {
         return refused;
     }
-    let distances = plan::parts::part(plan, DISTANCES);
+    let distances = reading::parts::part(plan, DISTANCES);
     activation::activations::activate(net, &rows, distances, router, table);
     0
 }

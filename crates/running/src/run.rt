@@ -39,7 +39,7 @@ pub fn run(plan: &[u8], list: usize, sequence: &[u8], limit: usize, table: &mut 
     if refused != 0 {
         return refused_run(refused);
     }
-    let distances = plan::parts::part(plan, DISTANCES);
+    let distances = reading::parts::part(plan, DISTANCES);
     let done = runs::apply(net, &rows, distances, sequence, limit, table);
     RunAnswer {
         refused: 0,

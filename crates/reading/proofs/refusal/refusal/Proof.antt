@@ -9,10 +9,10 @@ use lib.ListN.{length}
 use Rattle.base.proofs.Numbers.{yes, no}
 use Rattle.contents.specs.Header.{headerOk, routerCount, routerCountOk}
 use Rattle.contents.specs.Contents.{contentsOk}
 use Rattle.plan.specs.Refusal.{refuse, planChecks, planRefusal}
 use Rattle.contents.proofs.Facts.{header-facts, count-facts}
-use Rattle.plan.proofs.refusal.refusal.Statement.{statement}
-use Rattle.plan.proofs.refusal.refusal.Tie as tie
+use Rattle.reading.proofs.refusal.refusal.Statement.{statement}
+use Rattle.reading.proofs.refusal.refusal.Tie as tie
 
 abbrev plan₁ : tie.Else1 → List ℕ
 plan₁ c = c .before .before .before .args .plan .now

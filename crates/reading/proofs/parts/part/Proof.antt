@@ -2,9 +2,9 @@ use mathlib.Core.Path.{_∙_, ap}
 use borrow.Author.Needs.{needs}
 use lib.ListN.{getD}
 use Rattle.contents.specs.Contents.{noEntry, body}
 use Rattle.plan.proofs.Passed.{passed, part-within}
-use Rattle.plan.proofs.parts.part.Statement.{statement}
-use Rattle.plan.proofs.parts.part.Tie as tie
+use Rattle.reading.proofs.parts.part.Statement.{statement}
+use Rattle.reading.proofs.parts.part.Tie as tie
 
 pub part-spec : {M : Type 1} → statement M
 part-spec =

@@ -6,8 +6,8 @@ use borrow.Author.Needs.{needs}
 use lib.ListN.{length, getD}
 use Rattle.bodies.specs.Lists.{listPlace}
 use Rattle.bodies.proofs.ListWalk.{place-start, place-next}
-use Rattle.plan.proofs.lists.list_place.Statement.{statement}
-use Rattle.plan.proofs.lists.list_place.Tie as tie
+use Rattle.reading.proofs.lists.list_place.Statement.{statement}
+use Rattle.reading.proofs.lists.list_place.Tie as tie
 
 abbrev Inv-loop : tie.InvT-loop
 Inv-loop s list place₀ k₀ place k = (k ≤ list) × (place ≡ listPlace s k)

@@ -16,11 +16,11 @@ use Rattle.bodies.specs.Parents.{parentsOk}
 use Rattle.bodies.specs.Distances.{distancesOk}
 use Rattle.bodies.specs.Lists.{listsOk}
 use Rattle.contents.specs.Passed.{Contents}
 use Rattle.plan.specs.Refusal.{refuse, bodyChecks}
 use Rattle.contents.proofs.Facts.{contents-facts}
 use Rattle.contents.proofs.Places.{Within, bodies-within, body-length}
-use Rattle.plan.proofs.refusal.bodies_refusal.Statement.{statement}
-use Rattle.plan.proofs.refusal.bodies_refusal.Tie as tie
+use Rattle.reading.proofs.refusal.bodies_refusal.Statement.{statement}
+use Rattle.reading.proofs.refusal.bodies_refusal.Tie as tie
 
 -- where the function's entry is, from after each check
 abbrev entry₁ : tie.Else1 → tie.Start

@@ -3,9 +3,9 @@ use mathlib.Core.Path.{_∙_, ap}
 use borrow.Author.Needs.{needs}
 use lib.Dec.{lit<}
 use lib.ListN.{length, getD}
 use Rattle.plan.proofs.Passed.{passed}
-use Rattle.plan.proofs.lists.list_count.Statement.{statement}
-use Rattle.plan.proofs.lists.list_count.Tie as tie
+use Rattle.reading.proofs.lists.list_count.Statement.{statement}
+use Rattle.reading.proofs.lists.list_count.Tie as tie
 
 pub list-count-spec : {M : Type 1} → statement M
 list-count-spec =

@@ -2,9 +2,9 @@ use mathlib.Core.Path.{ap}
 use borrow.Author.Needs.{needs}
 use lib.ListN.{getD}
 use Rattle.contents.specs.Contents.{noEntry}
 use Rattle.plan.proofs.Passed.{passed}
-use Rattle.plan.proofs.parts.part_start.Statement.{statement}
-use Rattle.plan.proofs.parts.part_start.Tie as tie
+use Rattle.reading.proofs.parts.part_start.Statement.{statement}
+use Rattle.reading.proofs.parts.part_start.Tie as tie
 
 pub part-start-spec : {M : Type 1} → statement M
 part-start-spec =

@@ -6,11 +6,11 @@ use lib.Dec.{lit<}
 use lib.ListN.{length, getD}
 use Rattle.contents.specs.Contents.{listsBody}
 use Rattle.bodies.specs.Lists.{listPlace}
 use Rattle.plan.specs.EgressLists.{listStart, listSize}
 use Rattle.plan.proofs.Passed.{passed}
 use Rattle.plan.proofs.ListWithin.{places-within, span-within}
-use Rattle.plan.proofs.lists.list_span.Statement.{statement}
-use Rattle.plan.proofs.lists.list_span.Tie as tie
+use Rattle.reading.proofs.lists.list_span.Statement.{statement}
+use Rattle.reading.proofs.lists.list_span.Tie as tie
 
 -- the place found is the list's, in the plan's own body
 place-is : (c : tie.After-list-place) → let a = c .before .before .before .args in c .list-place .result ≡ listPlace (listsBody (a .plan .now)) (a .list)
