@@ -112,7 +112,7 @@ measures_size() {
 linked() {
     local command=$1
     shift
-    RRP_LIB_DIR=$PWD/$archive CARGO_TARGET_DIR=$PWD/$out/second \
+    RRP_LIB_DIR=$PWD/$archive CARGO_TARGET_DIR=$PWD/target/second \
         cargo "$command" --quiet --release --offline --features library --manifest-path tests/second/Cargo.toml "$@"
 }
 

@@ -28,10 +28,10 @@ unit_tests() {
     PYTHONPATH=python python3 -m unittest discover -s python/tests -t python "$@"
 }
 
-# `second` with the words given. It writes plans without the library.
+# `second` with the words given, built as tests/run-embedding.sh builds it, and so not built again after it.
 second() {
-    CARGO_TARGET_DIR=$PWD/$out/second cargo run --quiet --release --offline \
-        --manifest-path tests/second/Cargo.toml --bin second -- "$@"
+    RRP_LIB_DIR=$PWD/target/staticlib CARGO_TARGET_DIR=$PWD/target/second cargo run --quiet --release --offline \
+        --features library --manifest-path tests/second/Cargo.toml --bin second -- "$@"
 }
 
 # Plans that the second checker writes come back from text as the same bytes, and are judged by name and filed as it
