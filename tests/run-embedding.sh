@@ -10,21 +10,8 @@ seed=${1:-4456}
 plans=20000
 out=target/embedding
 archive=target/staticlib
-passed=0
-failed=0
-
-# Runs the words after the first, and counts under that name whether they succeed.
-try() {
-    local name=$1
-    shift
-    if "$@"; then
-        passed=$((passed + 1))
-        echo "embedding: $name: passed"
-    else
-        failed=$((failed + 1))
-        echo "embedding: $name: FAILED"
-    fi
-}
+part=embedding
+. tests/try.sh
 
 # Says whether a command writes just what a file holds.
 writes() {
@@ -151,5 +138,4 @@ try "the margin program" rt check margin
 try "the margin program against the second checker" agrees margin ask
 try "the programs on inputs that come in parts" reads_in_parts
 
-echo "embedding: $passed passed, $failed failed"
-[ "$failed" -eq 0 ]
+total

@@ -7,21 +7,8 @@ cd "$(dirname "$0")/.."
 seed=${1:-4456}
 plans=300
 out=target/tool
-passed=0
-failed=0
-
-# Runs the words after the first, and counts under that name whether they succeed.
-try() {
-    local name=$1
-    shift
-    if "$@"; then
-        passed=$((passed + 1))
-        echo "tool: $name: passed"
-    else
-        failed=$((failed + 1))
-        echo "tool: $name: FAILED"
-    fi
-}
+part=tool
+. tests/try.sh
 
 # The unit tests, or those of the modules named.
 unit_tests() {
@@ -74,5 +61,4 @@ else
     echo "tool: the command as pip installs it: not tried, there is no pip here"
 fi
 
-echo "tool: $passed passed, $failed failed"
-[ "$failed" -eq 0 ]
+total

@@ -1,4 +1,4 @@
--- How the parents are counted while the sessions are read, router by router: those that have it as their first number.
+-- How parents are counted while the sessions are read, router by router: of each router those whose first number it is.
 -- `routers` is the body of kind 1, `s` that of kind 2.
 use Prim.Native.Nat.{ℕ, _+_, _≤_, _<_}
 use mathlib.Core.Path.{_≡_}
