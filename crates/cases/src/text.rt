@@ -19,7 +19,7 @@ pub fn number(x: usize) {
 // A number that may be below 0, with its sign.
 pub fn signed(x: i64) {
     let mut digits = [0u8; 21];
-    let size = fields::put_signed(&mut digits, 0, x);
+    let size = text_fields::put_signed(&mut digits, 0, x);
     word(&digits[0..size]);
 }
 

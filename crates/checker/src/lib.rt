@@ -1,14 +1,13 @@
-// The public calls, those of crates queries, comparing, explaining and running among them. None has a `requires`: any bytes and
-// numbers get a result or a refusal number.
+// Every public call. None has a `requires`: any bytes and numbers get a result or a refusal number.
 
-pub mod verdict;
-
-pub use comparing::compare;
-pub use explaining::explain;
-pub use explanations::explanation;
-pub use queries::check;
-pub use queries::lists;
-pub use queries::relies;
-pub use queries::size;
-pub use running::activate;
-pub use running::run;
+pub use call_compare::compare;
+pub use call_distances::distances;
+pub use call_explain::explain;
+pub use call_query::check;
+pub use call_query::lists;
+pub use call_query::relies;
+pub use call_query::size;
+pub use call_run::activate;
+pub use call_run::run;
+pub use call_verdict::verdict;
+pub use route_explain_rules::explanation;

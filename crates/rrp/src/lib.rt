@@ -3,11 +3,11 @@
 
 ghost use mathlib.Core.Path.{_≡_};
 ghost use Rattle.base.specs.Lent.{lent};
-ghost use Rattle.plan.specs.Refusal.{planRefusal};
-ghost use Rattle.running.specs.Activate.{Activates};
-ghost use Rattle.sheets.specs.Distances.{DistancesCall};
-ghost use Rattle.exports.specs.Exports.{SizeExport, ListExport, CompareExport, ReliesExport, ExplainExport};
-ghost use Rattle.exports.specs.Exports.{VerdictExport, RunExport};
+ghost use Rattle.plan_rules.specs.Refusal.{planRefusal};
+ghost use Rattle.call_run.specs.Activate.{Activates};
+ghost use Rattle.links_rules.specs.Distances.{DistancesCall};
+ghost use Rattle.c_rules.specs.Exports.{SizeExport, ListExport, CompareExport, ReliesExport, ExplainExport};
+ghost use Rattle.c_rules.specs.Exports.{VerdictExport, RunExport};
 
 #[no_mangle]
 pub extern "C" fn rrp_check(plan: &[u8]) -> u8
@@ -20,14 +20,14 @@ pub extern "C" fn rrp_check(plan: &[u8]) -> u8
 pub extern "C" fn rrp_size(plan: &[u8], routers: &mut u64, lists: &mut u64) -> u8
     ensures { λ r. ⌜ SizeExport (now (plan .entry)) r (lent routers) (lent lists) ⌝ }
 {
-    query_results::size(plan, routers, lists)
+    c_query::size(plan, routers, lists)
 }
 
 #[no_mangle]
 pub extern "C" fn rrp_list(plan: &[u8], list: usize, start: &mut u64, count: &mut u64) -> u8
     ensures { λ r. ⌜ ListExport (now (plan .entry)) list r (lent start) (lent count) ⌝ }
 {
-    query_results::list(plan, list, start, count)
+    c_query::list(plan, list, start, count)
 }
 
 #[no_mangle]
@@ -42,7 +42,7 @@ pub extern "C" fn rrp_compare(
 ) -> u8
     ensures { λ r. ⌜ CompareExport (now (plan .entry)) router first second r (lent better) (lent «has_margin») (lent margin) ⌝ }
 {
-    query_results::compare(plan, router, first, second, better, has_margin, margin)
+    c_query::compare(plan, router, first, second, better, has_margin, margin)
 }
 
 #[no_mangle]
@@ -55,7 +55,7 @@ pub extern "C" fn rrp_relies(
 ) -> u8
     ensures { λ r. ⌜ ReliesExport (now (plan .entry)) list router other r (lent relies) ⌝ }
 {
-    query_results::relies(plan, list, router, other, relies)
+    c_query::relies(plan, list, router, other, relies)
 }
 
 #[no_mangle]
@@ -74,7 +74,7 @@ pub extern "C" fn rrp_explain(
     ensures { λ r. ⌜ ExplainExport (now (plan .entry)) list router other r
         (lent relies) (lent code) (lent offer) (lent «has_own») (lent own) (lent margin) ⌝ }
 {
-    explanation_results::explain(
+    c_explain::explain(
         plan,
         list,
         router,
@@ -102,7 +102,7 @@ pub extern "C" fn rrp_verdict(
     ensures { λ r. ⌜ VerdictExport (now (plan .entry)) list r
         (lent labels) (lent ranks) (lent table) (lent cycle) (lent stable) (lent size) ⌝ }
 {
-    table_results::verdict(plan, list, labels, ranks, table, cycle, stable, size)
+    c_tables::verdict(plan, list, labels, ranks, table, cycle, stable, size)
 }
 
 #[no_mangle]
@@ -126,7 +126,7 @@ pub extern "C" fn rrp_run(
     ensures { λ r. ⌜ RunExport (now (plan .entry)) list (now (sequence .entry)) limit r
         (lent table) (lent applied) (lent rounds) (lent exhausted) ⌝ }
 {
-    table_results::run(
+    c_tables::run(
         plan,
         list,
         sequence,
@@ -142,5 +142,5 @@ pub extern "C" fn rrp_run(
 pub extern "C" fn rrp_distances(n: usize, links: &[u8], out: &mut [u8]) -> u8
     ensures { λ r. ⌜ DistancesCall n (now (links .entry)) r (now (out .entry)) (now (out .exit)) ⌝ }
 {
-    links::distances(n, links, out)
+    checker::distances(n, links, out)
 }

@@ -1,0 +1,83 @@
+-- The results that C sees, worked out from the definitions that the contracts cite.
+use Rattle.base.specs.Below.{allBelow, anyBelow}
+use Rattle.base.specs.Best.{keepBest, best}
+use Rattle.base.specs.Seek.{seek, highest, count}
+use Rattle.base.specs.Tab.{tab, joined}
+use Rattle.plan_contents.specs.Header.{headerOk, routerCountOk}
+use Rattle.plan_contents.specs.Contents.{kindsOk, placesOk, sizesOk, contentsOk}
+use Rattle.plan_rules.specs.Routers.{routerOk, routersOk}
+use Rattle.plan_rules.specs.Sessions.{sessionOk, sessionsOk, pairs, inSession}
+use Rattle.plan_rules.specs.Parents.{parentCount, fewParents, parentsOk}
+use Rattle.plan_rules.specs.Distances.{distancesOk}
+use Rattle.plan_rules.specs.Lists.{listPlace, memberOk, listAtOk, listOk, eachListOk, listsOk}
+use Rattle.plan_rules.specs.Refusal.{refuse, bodyChecks, planChecks, planRefusal}
+use Rattle.links_rules.specs.Sheet.{linkOk, sheetOk}
+use Rattle.links_rules.specs.Sums.{direct, summing}
+use Rattle.links_rules.specs.Distances.{sumsOk, distancesRefusal, rowOf, bodyOf, distancesBody, distancesAfter}
+use Rattle.net_rules.specs.FromPlan.{named}
+use Rattle.route_rules.specs.Preference.{prefers, better, marginOf}
+use Rattle.route_rules.specs.Reliance.{listedClientOf, bestClient, offer, betterOffer, relies}
+use Rattle.route_rules.specs.Activation.{reflects, advertises, hears, senderOf, routeTo, choice, choose, entryOk, tableOk}
+use Rattle.route_rules.specs.Rounds.{acted, roundsFrom, rounds}
+use Rattle.graph_groups.specs.Closure.{closing}
+use Rattle.graph_groups.specs.Groups.{together, label, stable, grouped}
+use Rattle.graph_ranks.specs.Rank.{rankOver, rankRounds, rank}
+use Rattle.graph_cycle.specs.Cycle.{start, next, walk, second, first, lap, cycleIn, cycle}
+use Rattle.route_theorems.specs.Settled.{chooseAll, chosenAfter, settledTable}
+use Rattle.net_tables.specs.TableBytes.{readRoute, tableOf, tableBytes, activateBytes, runBytes}
+use Rattle.call_rules.specs.Refusals.{egressListRefusal, compareRefusal, reliesRefusal, buffersOk, verdictRefusal}
+use Rattle.call_rules.specs.Refusals.{tableChecks, sequenceOk, activateRefusal, runRefusal}
+use Rattle.call_compare.specs.Compare.{whichBetter, hasMargin, marginNumber}
+use Rattle.call_run.specs.Activate.{activateTable}
+use Rattle.route_explain_rules.specs.Explained.{againstOwn, byOffer, onReflector, onClient, explained}
+use Rattle.call_verdict.specs.Verdict.{isStable, labelsOf, ranksOf, highestOf, settledBytes, cycleOf, sizeOf}
+use Rattle.call_verdict.specs.Verdict.{labelsAfter, ranksAfter, tableAfter, cycleAfter}
+use Rattle.call_run.specs.Run.{runApplied, runRounds, runExhausted, runTable}
+use Rattle.c_rules.specs.Examples.{plan, twoRouters, ExportExamples}
+
+pub export-examples : ExportExamples
+unfolding
+    plan twoRouters egressListRefusal compareRefusal reliesRefusal whichBetter hasMargin marginNumber
+    againstOwn byOffer onReflector onClient explained
+    isStable labelsOf ranksOf highestOf settledBytes cycleOf sizeOf buffersOk verdictRefusal labelsAfter ranksAfter tableAfter cycleAfter
+    tableChecks sequenceOk activateRefusal activateTable runRefusal runApplied runRounds runExhausted runTable
+    readRoute tableOf tableBytes activateBytes runBytes chooseAll chosenAfter settledTable start next walk second first lap cycleIn cycle
+    rankOver rankRounds rank together label stable grouped closing acted roundsFrom rounds
+    reflects advertises hears senderOf routeTo choice choose entryOk tableOk listedClientOf bestClient offer betterOffer relies prefers better marginOf
+    pairs inSession named refuse bodyChecks planChecks planRefusal
+    headerOk routerCountOk kindsOk placesOk sizesOk contentsOk routerOk routersOk sessionOk sessionsOk
+    parentCount fewParents parentsOk count distancesOk
+    linkOk sheetOk direct summing sumsOk distancesRefusal rowOf bodyOf distancesBody distancesAfter joined
+    listPlace memberOk listAtOk listOk eachListOk listsOk allBelow anyBelow keepBest best seek highest tab
+export-examples =
+    record {
+      sized = λ r n m e. (e .number, e .routers-are, e .lists-are);
+      firstList = λ r s c e. (e .number, e .started, e .counted);
+      secondList = λ r s c e. (e .number, e .started, e .counted);
+      firstBetter = λ r b p m e. (e .number, e .compared, e .flagged, e .measured);
+      secondBetter = λ r b p m e. (e .number, e .compared, e .flagged, e .measured);
+      neitherBetter = λ r b p m e. (e .number, e .compared, e .flagged, e .measured);
+      noMargin = λ r b p m e. (e .number, e .compared, e .flagged, e .measured);
+      relies = λ r v e. (e .number, e .answered);
+      reliesNot = λ r v e. (e .number, e .answered);
+      betterOffer = λ r a c o p n m e. (e .number, e .answered, e .coded, e .offer, e .compared, e .owned, e .measured);
+      ownBestClient = λ r a c o p n m e. (e .number, e .answered, e .coded, e .offer, e .compared, e .owned, e .measured);
+      firstListed = λ r a c o p n m e. (e .number, e .answered, e .coded, e .offer, e .compared, e .owned, e .measured);
+      anyOffer = λ r a c o p n m e. (e .number, e .answered, e .coded, e .offer, e .compared, e .owned, e .measured);
+      unlistedClient = λ r a c o p n m e. (e .number, e .answered, e .coded, e .offer, e .compared, e .owned, e .measured);
+      refusedExplain = λ r a c o p n m e. (e .number, e .answered, e .coded, e .offer, e .compared, e .owned, e .measured);
+      refusedSize = λ r n m e. (e .number, e .routers-are, e .lists-are);
+      refusedList = λ r s c e. (e .number, e .started, e .counted);
+      refusedCompare = λ r b p m e. (e .number, e .compared, e .flagged, e .measured);
+      refusedRelies = λ r v e. (e .number, e .answered);
+      suspect = λ r l k t c v s e. (e .numbered, e .judged, e .sized, e .labelled, e .ranked, e .settled, e .cycled);
+      stable = λ r l k t c v s e. (e .numbered, e .judged, e .sized, e .labelled, e .ranked, e .settled, e .cycled);
+      refusedVerdict = λ r l k t c v s e. (e .numbered, e .judged, e .sized, e .labelled, e .ranked, e .settled, e .cycled);
+      activated = λ r t e. (e .number, e .bytes);
+      limited = λ r t a n x e. (e .numbered, e .bytes, e .acted, e .whole, e .cut);
+      unlimited = λ r t a n x e. (e .numbered, e .bytes, e .acted, e .whole, e .cut);
+      refusedRun = λ r t a n x e. (e .numbered, e .bytes, e .acted, e .whole, e .cut);
+      distances = λ r o e. (e .number, e .bytes);
+      refusedDistances = λ r o e. (e .number, e .bytes);
+      noWayBack = λ r o e. (e .number, e .bytes);
+    }

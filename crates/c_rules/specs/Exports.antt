@@ -1,0 +1,102 @@
+-- The public calls as C sees them: the returned number r is the call's refusal, and every variable and buffer that a pointer reaches is
+-- given before the call and after it.
+use Prim.Native.Nat.{ℕ}
+use mathlib.Core.List.{List}
+use mathlib.Core.Path.{_≡_}
+use lib.IntN.{ℤ}
+use Rattle.base.specs.Lent.{Lent}
+use Rattle.base.specs.Seek.{flag}
+use Rattle.plan_contents.specs.Header.{routerCount}
+use Rattle.plan_rules.specs.EgressLists.{listCount, listStart, listSize}
+use Rattle.plan_rules.specs.Refusal.{planRefusal}
+use Rattle.route_rules.specs.Reliance.{relies}
+use Rattle.net_rules.specs.FromPlan.{instanceOf}
+use Rattle.plan_rules.specs.Refused.{unlessRefused}
+use Rattle.call_rules.specs.Refusals.{egressListRefusal, compareRefusal, reliesRefusal, verdictRefusal, runRefusal}
+use Rattle.call_compare.specs.Compare.{whichBetter, hasMargin, marginNumber}
+use Rattle.route_explain_rules.specs.declared.explanation.Values.{Values}
+use Rattle.route_explain_rules.specs.Explained.{explained}
+use Rattle.route_explain_rules.specs.Values.{valuesOf}
+use Rattle.call_verdict.specs.Verdict.{isStable, sizeOf, labelsAfter, ranksAfter, tableAfter, cycleAfter}
+use Rattle.call_run.specs.Run.{runApplied, runRounds, runExhausted, runTable}
+
+-- a result variable of a call whose refusal is `number`: "unchanged" if refused, else the value
+abbrev pub Holds : {A : Type 0} (number : ℕ) (variable : Lent A) (value : A) → Type 0
+Holds number variable value = variable .after ≡ unlessRefused number (variable .before) value
+
+-- rrp_size: n, the number of routers, and m, the number of lists
+pub record SizeExport (plan : List ℕ) (r : ℕ) (routers lists : Lent ℕ) : Type 0 where
+  pub number : r ≡ planRefusal plan
+  pub routers-are : Holds (planRefusal plan) routers (routerCount plan)
+  pub lists-are : Holds (planRefusal plan) lists (listCount plan)
+
+-- rrp_list: where in the plan the numbers of list k start, and how many they are
+pub record ListExport (plan : List ℕ) (k r : ℕ) (start count : Lent ℕ) : Type 0 where
+  pub number : r ≡ egressListRefusal plan k
+  pub started : Holds (egressListRefusal plan k) start (listStart plan k)
+  pub counted : Holds (egressListRefusal plan k) count (listSize plan k)
+
+-- rrp_compare: 1 if at w the first, e, is better, 2 if the second, f, is, 0 if neither is; 1 if there is a margin, else 0; and the
+-- margin, an integer, 0 where there is none
+pub record CompareExport (plan : List ℕ) (w e f r : ℕ) (preferred present : Lent ℕ) (margin : Lent ℤ) : Type 0 where
+  pub number : r ≡ compareRefusal plan w e f
+  pub compared : Holds (compareRefusal plan w e f) preferred (whichBetter plan w e f)
+  pub flagged : Holds (compareRefusal plan w e f) present (flag (hasMargin plan w e f))
+  pub measured : Holds (compareRefusal plan w e f) margin (marginNumber plan w e f)
+
+-- rrp_relies: 1 if w relies on v for list k, else 0
+pub record ReliesExport (plan : List ℕ) (k w v r : ℕ) (relied : Lent ℕ) : Type 0 where
+  pub number : r ≡ reliesRefusal plan k w v
+  pub answered : Holds (reliesRefusal plan k w v) relied (flag (relies (instanceOf plan k) w v))
+
+-- rrp_explain: 1 if w relies on v for list k, else 0; the number of the rule or the place of the reason; and of a better offer its route,
+-- 1 if it was compared with an own best client, else 0, that one's route and the margin, an integer. What the answer does not have is 0.
+abbrev pub whyOf : (plan : List ℕ) (k w v : ℕ) → Values
+whyOf plan k w v = valuesOf (explained (instanceOf plan k) w v)
+
+pub record ExplainExport (plan : List ℕ) (k w v r : ℕ) (relied code offered hasOwn own : Lent ℕ) (margin : Lent ℤ) : Type 0 where
+  pub number : r ≡ reliesRefusal plan k w v
+  pub answered : Holds (reliesRefusal plan k w v) relied (flag (whyOf plan k w v .relies))
+  pub coded : Holds (reliesRefusal plan k w v) code (whyOf plan k w v .code)
+  pub offer : Holds (reliesRefusal plan k w v) offered (whyOf plan k w v .offer)
+  pub compared : Holds (reliesRefusal plan k w v) hasOwn (flag (whyOf plan k w v .compared))
+  pub owned : Holds (reliesRefusal plan k w v) own (whyOf plan k w v .own)
+  pub measured : Holds (reliesRefusal plan k w v) margin (whyOf plan k w v .margin)
+
+-- "Yes must agree with the plain reliance answer for every pair": rrp_relies and rrp_explain return one number, and leave one answer if it
+-- is 0
+abbrev pub SameReliance : Type 0
+SameReliance =
+    (plan : List ℕ) (k w v r s : ℕ) (plain relied code offered hasOwn own : Lent ℕ) (margin : Lent ℤ)
+    → ReliesExport plan k w v r plain → ExplainExport plan k w v s relied code offered hasOwn own margin
+    → (r ≡ s) × (r ≡ 0 → relied .after ≡ plain .after)
+
+-- rrp_verdict: stable 1 or 0; the size is the highest rank if stable, else the cycle's length. `number` is the call's refusal.
+pub record VerdictWritten (number : ℕ) (plan : List ℕ) (k r : ℕ)
+    (labels ranks table shown : Lent (List ℕ)) (stable size : Lent ℕ) : Type 0 where
+  pub numbered : r ≡ number
+  pub labelled : labels .after ≡ labelsAfter number plan k (labels .before)
+  pub ranked : ranks .after ≡ ranksAfter number plan k (ranks .before)
+  pub settled : table .after ≡ tableAfter number plan k (table .before)
+  pub cycled : shown .after ≡ cycleAfter number plan k (shown .before)
+  pub judged : Holds number stable (flag (isStable plan k))
+  pub sized : Holds number size (sizeOf plan k)
+
+abbrev pub VerdictExport : (plan : List ℕ) (k r : ℕ) (labels ranks table shown : Lent (List ℕ)) (stable size : Lent ℕ) → Type 0
+VerdictExport plan k r labels ranks table shown =
+    VerdictWritten (verdictRefusal plan k (labels .before) (ranks .before) (table .before) (shown .before))
+    plan k r labels ranks table shown
+
+-- rrp_run: the activations applied, the whole rounds in them, and 1 if the sequence is longer than the limit, else 0.
+-- `number` is the call's refusal.
+pub record RunWritten (number : ℕ) (plan : List ℕ) (k : ℕ) (acts : List ℕ) (limit r : ℕ)
+    (table : Lent (List ℕ)) (applied rounds exhausted : Lent ℕ) : Type 0 where
+  pub numbered : r ≡ number
+  pub bytes : table .after ≡ runTable plan k acts limit (table .before)
+  pub acted : Holds number applied (runApplied number acts limit)
+  pub whole : Holds number rounds (runRounds number plan acts limit)
+  pub cut : Holds number exhausted (flag (runExhausted number acts limit))
+
+abbrev pub RunExport : (plan : List ℕ) (k : ℕ) (acts : List ℕ) (limit r : ℕ) (table : Lent (List ℕ))
+    (applied rounds exhausted : Lent ℕ) → Type 0
+RunExport plan k acts limit r table = RunWritten (runRefusal plan k acts (table .before)) plan k acts limit r table

@@ -1,0 +1,61 @@
+// The refusals of calls that are lent buffers or handed a table: rows 9 and 10, after row 8.
+
+use plan_contents::header::ROUTER_COUNT;
+use net_rules::Network;
+ghost use mathlib.Core.Path.{_≡_};
+ghost use mathlib.Core.List.{List};
+ghost use Prim.Native.Nat.{ℕ, _*_, _≤_};
+ghost use Rattle.net_rules.specs.Decoded.{decoded};
+ghost use Rattle.call_rules.specs.Refusals.{buffersOk, verdictRefusal, tableChecks};
+
+fn buffers_ok(n: usize, labels: &[u8], ranks: &[u8], table: &[u8], cycle: &[u8]) -> bool
+    requires { ⌜ n ≤ 64 ⌝ }
+    ensures { λ r. ⌜ r ≡ buffersOk n (now (labels .entry)) (now (ranks .entry)) (now (table .entry)) (now (cycle .entry)) ⌝ }
+{
+    if labels.len() < n {
+        return false;
+    }
+    if ranks.len() < n {
+        return false;
+    }
+    if table.len() < 2 * n {
+        return false;
+    }
+    n <= cycle.len()
+}
+
+// Rows up to 9 of a verdict.
+pub fn verdict_refusal(
+    plan: &[u8],
+    list: usize,
+    labels: &[u8],
+    ranks: &[u8],
+    table: &[u8],
+    cycle: &[u8],
+) -> u8
+    ensures { λ r. ⌜ r ≡ verdictRefusal (now (plan .entry)) list
+        (now (labels .entry)) (now (ranks .entry)) (now (table .entry)) (now (cycle .entry)) ⌝ }
+{
+    let refused = crate::numbers::list_refusal(plan, list);
+    if refused != 0 {
+        return refused;
+    }
+    if !buffers_ok(plan[ROUTER_COUNT] as usize, labels, ranks, table, cycle) {
+        return 9;
+    }
+    0
+}
+
+// Rows 9 and 10 of a call that takes a table, whatever the distances.
+pub fn table_refusal(net: Network, rows: &[u64; 64], table: &[u8]) -> u8
+    requires { ⌜ net .n ≤ 64 ⌝ }
+    ensures { λ r. ⌜ ((distances : List ℕ) → r ≡ tableChecks (decoded net (now (rows .entry)) distances) (now (table .entry))) ⌝ }
+{
+    if table.len() < 2 * net.n {
+        return 9;
+    }
+    if !net_tables::table_ok(net, rows, table) {
+        return 10;
+    }
+    0
+}

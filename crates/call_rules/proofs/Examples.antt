@@ -1,0 +1,53 @@
+-- The examples, worked out from the rows.
+use mathlib.Core.Path.{refl}
+use Rattle.base.specs.Below.{allBelow, anyBelow}
+use Rattle.base.specs.Seek.{count}
+use Rattle.base.specs.Tab.{tab}
+use Rattle.plan_contents.specs.Header.{headerOk, routerCountOk}
+use Rattle.plan_contents.specs.Contents.{kindsOk, placesOk, sizesOk, contentsOk}
+use Rattle.plan_rules.specs.Routers.{routerOk, routersOk}
+use Rattle.plan_rules.specs.Sessions.{sessionOk, sessionsOk, pairs, inSession}
+use Rattle.plan_rules.specs.Parents.{parentCount, fewParents, parentsOk}
+use Rattle.plan_rules.specs.Distances.{distancesOk}
+use Rattle.plan_rules.specs.Lists.{listPlace, memberOk, listAtOk, listOk, eachListOk, listsOk}
+use Rattle.plan_rules.specs.Refusal.{refuse, bodyChecks, planChecks}
+use Rattle.net_rules.specs.FromPlan.{named}
+use Rattle.net_rules.specs.Examples.{threeRouters}
+use Rattle.route_rules.specs.Activation.{entryOk, tableOk}
+use Rattle.net_tables.specs.TableBytes.{readRoute, tableOf}
+use Rattle.call_rules.specs.Refusals.{sequenceOk, egressListRefusal, compareRefusal, reliesRefusal, buffersOk, verdictRefusal, tableChecks, activateRefusal, runRefusal}
+use Rattle.call_rules.specs.Examples.{lent, broken, short, three, two, RefusalsExamples}
+
+pub refusals-examples : RefusalsExamples
+unfolding
+    threeRouters lent broken short three two
+    sequenceOk egressListRefusal compareRefusal reliesRefusal buffersOk verdictRefusal tableChecks activateRefusal runRefusal
+    readRoute tableOf entryOk tableOk pairs inSession named refuse bodyChecks planChecks
+    headerOk routerCountOk kindsOk placesOk sizesOk contentsOk routerOk routersOk sessionOk sessionsOk
+    parentCount fewParents parentsOk count distancesOk
+    listPlace memberOk listAtOk listOk eachListOk listsOk allBelow anyBelow tab
+refusals-examples =
+    record {
+      lastList = refl;
+      listAtM = refl;
+      lastRouters = refl;
+      routerAtN = refl;
+      firstAtN = refl;
+      secondAtN = refl;
+      relyingAtN = refl;
+      otherAtN = refl;
+      activatedLast = refl;
+      activatedAtN = refl;
+      lastNamed = refl;
+      namedAtN = refl;
+      longEnough = refl;
+      labelsShort = refl;
+      ranksShort = refl;
+      tableShort = refl;
+      cycleShort = refl;
+      activatedInFive = refl;
+      tableBroken = refl;
+      eightBeforeNine = refl;
+      eightBeforeNineOfAVerdict = refl;
+      eightBeforeTen = refl;
+    }

@@ -1,0 +1,170 @@
+-- What a call that is not refused was handed.
+use Prim.Native.Nat.{ℕ, _*_, _≤_, _<_}
+use native.Mathlib.Omega.{arith}
+use mathlib.Core.Path.{_≡_, refl, _∙_, sym, ap}
+use mathlib.Core.Bool.{Bool, true, false, _&&_}
+use mathlib.Core.List.{List}
+use mathlib.Core.Logic.{⊎-elim}
+use borrow.Author.Tests.{ltb-true, leb-true}
+use lib.ListN.{length}
+use Rattle.base.proofs.Below.{all-at}
+use Rattle.base.proofs.Numbers.{facts, eq-or-ne, true-or-false}
+use Rattle.plan_contents.specs.Header.{routerCount}
+use Rattle.plan_rules.specs.EgressLists.{listCount}
+use Rattle.plan_rules.specs.Refusal.{refuse, planChecks, planRefusal}
+use Rattle.plan_rules.proofs.Cascade.{call-cascade, refuse-passed}
+use Rattle.plan_rules.proofs.Passed.{passed}
+use Rattle.route_rules.specs.Instance.{Instance}
+use Rattle.route_rules.specs.Rounds.{ActsBelow}
+use Rattle.net_tables.specs.TableBytes.{TableIn}
+use Rattle.call_rules.specs.Refusals.{sequenceOk, askedChecks, egressListRefusal, compareRefusal, reliesRefusal, routerRefusal, sequenceRefusal, buffersOk, verdictRefusal, tableChecks}
+use Rattle.call_rules.specs.InOrder.{InOrder}
+use Rattle.call_rules.proofs.InOrder.{asked-in-order, list-in-order, compare-in-order, relies-in-order, verdict-in-order}
+
+module _ (plan : List ℕ) (h : planRefusal plan ≡ 0) where
+  pub header-long : 26 ≤ length plan
+  header-long = passed plan h .header .least
+
+  pub few-routers : routerCount plan ≤ 64
+  few-routers = passed plan h .count .most
+
+module _ (plan : List ℕ) (ok : Bool) where
+  -- a call that is refused by row 8 or before has that number, whatever its other checks
+  pub asked-refused : (rest asked : ℕ) → asked ≡ askedChecks plan ok 0 → (asked ≡ 0 → ⊥) → asked ≡ askedChecks plan ok rest
+  asked-refused rest asked e ne = e ∙ sym (call-cascade plan ok .refused (λ z. ne (e ∙ z)) rest)
+
+  -- .. and one that is not has theirs
+  pub asked-passed : (rest : ℕ) → askedChecks plan ok 0 ≡ 0 → rest ≡ askedChecks plan ok rest
+  asked-passed rest e = sym (call-cascade plan ok .passed e rest)
+
+  -- one condition x of row 8 after others
+  more : (x : Bool) → askedChecks plan ok (refuse x 8 0) ≡ askedChecks plan (ok && x) 0
+  unfolding refuse
+  more x = ap (planChecks plan) (both ok)
+    where
+      both : (b : Bool) → refuse b 8 (refuse x 8 0) ≡ refuse (b && x) 8 0
+      both true = refl
+      both false = refl
+
+  pub more-refused : (x : Bool) (asked : ℕ) → asked ≡ askedChecks plan ok 0 → (asked ≡ 0 → ⊥) → asked ≡ askedChecks plan (ok && x) 0
+  more-refused x asked e ne = asked-refused (refuse x 8 0) asked e ne ∙ more x
+
+  pub more-passed : {x : Bool} (b : Bool) → x ≡ b → askedChecks plan ok 0 ≡ 0 → refuse b 8 0 ≡ askedChecks plan (ok && x) 0
+  more-passed {x} b h z = ap (λ y. refuse y 8 0) (sym h) ∙ asked-passed (refuse x 8 0) z ∙ more x
+
+  pub more-asked : (x : Bool) (asked number : ℕ) → asked ≡ askedChecks plan ok 0
+      → (asked ≡ 0 → number ≡ refuse x 8 0) × ((asked ≡ 0 → ⊥) → number ≡ asked) → number ≡ askedChecks plan (ok && x) 0
+  more-asked x asked number e h =
+      ⊎-elim (λ (z : asked ≡ 0). h .0 z ∙ more-passed x refl (sym e ∙ z)) (λ (ne : asked ≡ 0 → ⊥). h .1 ne ∙ more-refused x asked e ne)
+      (eq-or-ne asked 0)
+
+-- a call that is not refused passes every row
+record Granted (plan : List ℕ) (ok long : Bool) : Type 0 where
+  planOk : planRefusal plan ≡ 0
+  callOk : ok ≡ true
+  longOk : long ≡ true
+
+granted : {plan : List ℕ} {ok long rule : Bool} {number : ℕ} → InOrder plan ok long rule number → number ≡ 0 → Granted plan ok long
+granted {plan} {ok} {long} r z = record { planOk = p; callOk = a; longOk = b }
+  where
+    p : planRefusal plan ≡ 0
+    p = ⊎-elim (λ e. e) (λ ne. sym (r .plan-rows ne) ∙ z) (eq-or-ne (planRefusal plan) 0)
+
+    a : ok ≡ true
+    a = ⊎-elim (λ e. e) (λ (e : ok ≡ false). absurd (omega (arith, r .row-8 p e))) (true-or-false ok)
+
+    b : long ≡ true
+    b = ⊎-elim (λ e. e) (λ (e : long ≡ false). absurd (omega (arith, r .row-9 p a e))) (true-or-false long)
+
+pub record ListAsked (plan : List ℕ) (k : ℕ) : Type 0 where
+  pub planOk : planRefusal plan ≡ 0
+  pub list : k < listCount plan
+
+pub list-asked : (plan : List ℕ) (k : ℕ) → egressListRefusal plan k ≡ 0 → ListAsked plan k
+list-asked plan k h =
+    let g = granted (list-in-order plan k) h in
+    record { planOk = g .planOk; list = ltb-true _ _ (g .callOk) }
+
+pub record CompareAsked (plan : List ℕ) (w e f : ℕ) : Type 0 where
+  pub planOk : planRefusal plan ≡ 0
+  pub router : w < routerCount plan
+  pub first : e < routerCount plan
+  pub second : f < routerCount plan
+
+pub compare-asked : (plan : List ℕ) (w e f : ℕ) → compareRefusal plan w e f ≡ 0 → CompareAsked plan w e f
+compare-asked plan w e f h =
+    let g = granted (compare-in-order plan w e f) h in
+    let q : ((w < routerCount plan) × (e < routerCount plan)) × (f < routerCount plan) = simp facts at (g .callOk) in
+    record { planOk = g .planOk; router = q .0 .0; first = q .0 .1; second = q .1 }
+
+pub record RouterAsked (plan : List ℕ) (k w : ℕ) : Type 0 where
+  pub planOk : planRefusal plan ≡ 0
+  pub list : k < listCount plan
+  pub router : w < routerCount plan
+
+pub router-asked : (plan : List ℕ) (k w : ℕ) → routerRefusal plan k w ≡ 0 → RouterAsked plan k w
+router-asked plan k w h =
+    let g = granted (asked-in-order plan _) h in
+    let q : (k < listCount plan) × (w < routerCount plan) = simp facts at (g .callOk) in
+    record { planOk = g .planOk; list = q .0; router = q .1 }
+
+pub record ReliesAsked (plan : List ℕ) (k w v : ℕ) : Type 0 where
+  pub planOk : planRefusal plan ≡ 0
+  pub list : k < listCount plan
+  pub router : w < routerCount plan
+  pub other : v < routerCount plan
+
+pub relies-asked : (plan : List ℕ) (k w v : ℕ) → reliesRefusal plan k w v ≡ 0 → ReliesAsked plan k w v
+relies-asked plan k w v h =
+    let g = granted (relies-in-order plan k w v) h in
+    let q : ((k < listCount plan) × (w < routerCount plan)) × (v < routerCount plan) = simp facts at (g .callOk) in
+    record { planOk = g .planOk; list = q .0 .0; router = q .0 .1; other = q .1 }
+
+pub record SequenceAsked (plan : List ℕ) (k : ℕ) (acts : List ℕ) : Type 0 where
+  pub planOk : planRefusal plan ≡ 0
+  pub list : k < listCount plan
+  pub routers : ActsBelow (routerCount plan) acts
+  pub some : 0 < routerCount plan
+
+pub sequence-asked : (plan : List ℕ) (k : ℕ) (acts : List ℕ) → sequenceRefusal plan k acts ≡ 0 → SequenceAsked plan k acts
+unfolding sequenceOk
+sequence-asked plan k acts h =
+    let g = granted (asked-in-order plan _) h in
+    let q : (k < listCount plan) × (sequenceOk acts (routerCount plan) ≡ true) = simp facts at (g .callOk) in
+    record {
+      planOk = g .planOk;
+      list = q .0;
+      routers = λ i l. ltb-true _ _ (all-at _ _ (q .1) i l);
+      some = passed plan (g .planOk) .count .some;
+    }
+
+pub record VerdictAsked (plan : List ℕ) (k : ℕ) (labels ranks table cycle : List ℕ) : Type 0 where
+  pub planOk : planRefusal plan ≡ 0
+  pub list : k < listCount plan
+  pub labelsLong : routerCount plan ≤ length labels
+  pub ranksLong : routerCount plan ≤ length ranks
+  pub tableLong : 2 * routerCount plan ≤ length table
+  pub cycleLong : routerCount plan ≤ length cycle
+
+pub verdict-asked : (plan : List ℕ) (k : ℕ) (labels ranks table cycle : List ℕ) → verdictRefusal plan k labels ranks table cycle ≡ 0
+    → VerdictAsked plan k labels ranks table cycle
+unfolding buffersOk
+verdict-asked plan k labels ranks table cycle h =
+    let g = granted (verdict-in-order plan k labels ranks table cycle) h in
+    let n = routerCount plan in
+    let q : (((n ≤ length labels) × (n ≤ length ranks)) × (2 * n ≤ length table)) × (n ≤ length cycle)
+    = simp facts at (g .longOk) in
+    record {
+      planOk = g .planOk;
+      list = ltb-true _ _ (g .callOk);
+      labelsLong = q .0 .0 .0;
+      ranksLong = q .0 .0 .1;
+      tableLong = q .0 .1;
+      cycleLong = q .1;
+    }
+
+pub table-asked : (I : Instance) (table : List ℕ) → tableChecks I table ≡ 0 → TableIn I table
+unfolding tableChecks
+table-asked I table h =
+    let long = refuse-passed _ 8 _ h in
+    record { long = leb-true _ _ (long .0); rule = refuse-passed _ 9 0 (long .1) .0 }

@@ -1,0 +1,55 @@
+-- Examples that tell rows 8 to 10 of the refusal table from a misreading of them, on the plan of three routers and two lists that
+-- network's examples give in literal bytes. Beside each stands what a misreading gives.
+use Prim.Native.Nat.{ℕ}
+use mathlib.Core.Path.{_≡_}
+use mathlib.Core.List.{List, [], _∷_}
+use Rattle.net_rules.specs.Examples.{threeRouters}
+use Rattle.call_rules.specs.Refusals.{egressListRefusal, compareRefusal, reliesRefusal, verdictRefusal, activateRefusal, runRefusal}
+
+-- tables for list 0: one that obeys its rule, one in which 2 holds a route from 0, which is not its neighbour, and one of 5 bytes
+unfoldable pub lent : List ℕ
+lent = 255 ∷ 255 ∷ 1 ∷ 1 ∷ 255 ∷ 255 ∷ []
+
+unfoldable pub broken : List ℕ
+broken = 255 ∷ 255 ∷ 1 ∷ 1 ∷ 1 ∷ 0 ∷ []
+
+unfoldable pub short : List ℕ
+short = 255 ∷ 255 ∷ 1 ∷ 1 ∷ 255 ∷ []
+
+-- a byte for each router, and one fewer
+unfoldable pub three : List ℕ
+three = 9 ∷ 9 ∷ 9 ∷ []
+
+unfoldable pub two : List ℕ
+two = 9 ∷ 9 ∷ []
+
+pub record RefusalsExamples : Type 0 where
+  -- row 8: "the list asked for is m or more"
+  pub lastList : egressListRefusal threeRouters 1 ≡ 0  -- m - 1 or more: 8
+  pub listAtM : egressListRefusal threeRouters 2 ≡ 8  -- above m: 0
+  -- ".. or a router asked for, .. is n or more"; "Each router number handed over in these is a router asked for."
+  pub lastRouters : compareRefusal threeRouters 2 2 2 ≡ 0  -- n - 1 or more: 8
+  pub routerAtN : compareRefusal threeRouters 3 0 0 ≡ 8  -- above n: 0
+  pub firstAtN : compareRefusal threeRouters 0 3 0 ≡ 8  -- not asked for: 0
+  pub secondAtN : compareRefusal threeRouters 0 0 3 ≡ 8  -- not asked for: 0
+  pub relyingAtN : reliesRefusal threeRouters 0 3 0 ≡ 8  -- not asked for: 0
+  pub otherAtN : reliesRefusal threeRouters 0 0 3 ≡ 8  -- not asked for: 0
+  pub activatedLast : activateRefusal threeRouters 0 2 lent ≡ 0  -- n - 1 or more: 8
+  pub activatedAtN : activateRefusal threeRouters 0 3 lent ≡ 8  -- above n: 0
+  -- ".. or named in a sequence of acts"
+  pub lastNamed : runRefusal threeRouters 0 (0 ∷ 2 ∷ []) lent ≡ 0  -- n - 1 or more: 8
+  pub namedAtN : runRefusal threeRouters 0 (0 ∷ 3 ∷ []) lent ≡ 8  -- by the first act: 0
+  -- row 9: "The verdict call needs n bytes for labels, n for ranks, 2n for the settled table, n for the ring."
+  pub longEnough : verdictRefusal threeRouters 0 three three lent three ≡ 0  -- a byte more: 9
+  pub labelsShort : verdictRefusal threeRouters 0 two three lent three ≡ 9  -- no need of it: 0
+  pub ranksShort : verdictRefusal threeRouters 0 three two lent three ≡ 9
+  pub tableShort : verdictRefusal threeRouters 0 three three short three ≡ 9  -- n for the table: 0
+  pub cycleShort : verdictRefusal threeRouters 0 three three lent two ≡ 9
+  -- "An act or a run needs 2n bytes of table"
+  pub activatedInFive : activateRefusal threeRouters 0 0 short ≡ 9  -- n bytes: 0
+  -- row 10: "a held-route table breaks its rule"
+  pub tableBroken : activateRefusal threeRouters 0 0 broken ≡ 10  -- with any router as sender: 0
+  -- "the first check in order that fails now decides" (document 02)
+  pub eightBeforeNine : activateRefusal threeRouters 0 3 short ≡ 8  -- the last: 9
+  pub eightBeforeNineOfAVerdict : verdictRefusal threeRouters 2 two three lent three ≡ 8  -- the last: 9
+  pub eightBeforeTen : runRefusal threeRouters 2 (0 ∷ []) broken ≡ 8  -- the last: 10

@@ -1,0 +1,69 @@
+-- Document 01, "Refusal table, in order of checking", rows 8 to 10: what each call is refused for beyond its plan.
+use Prim.Native.Nat.{ℕ, _*_}
+use mathlib.Core.List.{List}
+use mathlib.Core.Bool.{Bool, _&&_}
+use lib.Dec.{leb, ltb}
+use lib.ListN.{length, getD}
+use Rattle.base.specs.Below.{allBelow}
+use Rattle.plan_contents.specs.Header.{routerCount}
+use Rattle.plan_rules.specs.EgressLists.{listCount}
+use Rattle.plan_rules.specs.Refusal.{refuse, planChecks}
+use Rattle.route_rules.specs.Instance.{Instance}
+use Rattle.net_rules.specs.FromPlan.{instanceOf}
+use Rattle.net_tables.specs.TableBytes.{tableRule}
+
+-- Row 8: "the list asked for is m or more, or a router asked for, or named in a sequence of acts, is n or more".
+abbrev pub hasList : List ℕ → ℕ → Bool
+hasList plan k = ltb k (listCount plan)
+
+abbrev pub hasRouter : List ℕ → ℕ → Bool
+hasRouter plan w = ltb w (routerCount plan)
+
+-- of the whole sequence, also past the limit
+unfoldable pub sequenceOk : List ℕ → ℕ → Bool
+sequenceOk acts n = allBelow (λ i. ltb (getD acts i 0) n) (length acts)
+
+-- rows up to 8 of a call whose list and routers are `ok`, before its other checks, which are `rest`
+abbrev pub askedChecks : List ℕ → Bool → ℕ → ℕ
+askedChecks plan ok rest = planChecks plan (refuse ok 8 rest)
+
+-- a list's numbers handed back
+unfoldable pub egressListRefusal : List ℕ → ℕ → ℕ
+egressListRefusal plan k = askedChecks plan (hasList plan k) 0
+
+-- "Each router number handed over in these is a router asked for."
+unfoldable pub compareRefusal : List ℕ → ℕ → ℕ → ℕ → ℕ
+compareRefusal plan w e f = askedChecks plan (hasRouter plan w && hasRouter plan e && hasRouter plan f) 0
+
+unfoldable pub reliesRefusal : List ℕ → ℕ → ℕ → ℕ → ℕ
+reliesRefusal plan k w v = askedChecks plan (hasList plan k && hasRouter plan w && hasRouter plan v) 0
+
+-- rows up to 8 of an activation and of a run
+abbrev pub routerRefusal : List ℕ → ℕ → ℕ → ℕ
+routerRefusal plan k w = askedChecks plan (hasList plan k && hasRouter plan w) 0
+
+abbrev pub sequenceRefusal : List ℕ → ℕ → List ℕ → ℕ
+sequenceRefusal plan k acts = askedChecks plan (hasList plan k && sequenceOk acts (routerCount plan)) 0
+
+-- Row 9: "The verdict call needs n bytes for labels, n for ranks, 2n for the settled table, n for the ring." The ring is called cycle.
+unfoldable pub buffersOk : ℕ → List ℕ → List ℕ → List ℕ → List ℕ → Bool
+buffersOk n labels ranks table cycle =
+    leb n (length labels) && leb n (length ranks) && leb (2 * n) (length table) && leb n (length cycle)
+
+unfoldable pub verdictRefusal : List ℕ → ℕ → List ℕ → List ℕ → List ℕ → List ℕ → ℕ
+verdictRefusal plan k labels ranks table cycle =
+    askedChecks plan (hasList plan k) (refuse (buffersOk (routerCount plan) labels ranks table cycle) 9 0)
+
+-- Row 9: "An act or a run needs 2n bytes of table." Row 10: "a held-route table breaks its rule".
+abbrev pub tableLong : Instance → List ℕ → Bool
+tableLong I table = leb (2 * I .n) (length table)
+
+unfoldable pub tableChecks : Instance → List ℕ → ℕ
+tableChecks I table = refuse (tableLong I table) 9 (refuse (tableRule I table) 10 0)
+
+unfoldable pub activateRefusal : List ℕ → ℕ → ℕ → List ℕ → ℕ
+activateRefusal plan k w table = askedChecks plan (hasList plan k && hasRouter plan w) (tableChecks (instanceOf plan k) table)
+
+unfoldable pub runRefusal : List ℕ → ℕ → List ℕ → List ℕ → ℕ
+runRefusal plan k acts table =
+    askedChecks plan (hasList plan k && sequenceOk acts (routerCount plan)) (tableChecks (instanceOf plan k) table)

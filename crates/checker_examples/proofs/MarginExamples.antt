@@ -1,0 +1,8 @@
+-- The examples of margins, worked out from the definitions that the contracts cite.
+use mathlib.Core.Path.{refl}
+use Rattle.checker_examples.specs.MarginExamples.{ends, cyclePlan, marginExamples, MarginExamplesHold}
+use Rattle.checker_examples.proofs.Questions.{allRules}
+
+pub margin-examples : MarginExamplesHold
+unfolding allRules ends cyclePlan marginExamples
+margin-examples = refl

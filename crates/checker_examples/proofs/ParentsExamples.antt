@@ -1,0 +1,8 @@
+-- The examples of row 13, worked out from the definitions that the contracts cite.
+use mathlib.Core.Path.{refl}
+use Rattle.checker_examples.specs.ParentsExamples.{around, sessionBroken, distanceBroken, listsBroken, parentsExamples, ParentsExamplesHold}
+use Rattle.checker_examples.proofs.Questions.{allRules}
+
+pub parents-examples : ParentsExamplesHold
+unfolding allRules around sessionBroken distanceBroken listsBroken parentsExamples
+parents-examples = refl

@@ -1,0 +1,52 @@
+-- What an answer is worked out from: the definitions that the contracts of the public calls cite, down to the bytes.
+use Prim.Native.Nat.{ℕ}
+use mathlib.Core.List.{List}
+use Rattle.base.specs.Below.{allBelow, anyBelow}
+use Rattle.base.specs.Best.{keepBest, best}
+use Rattle.base.specs.Seek.{seek, highest, count}
+use Rattle.base.specs.Tab.{tab}
+use Rattle.plan_contents.specs.Header.{headerOk, routerCountOk}
+use Rattle.plan_contents.specs.Contents.{kindsOk, placesOk, sizesOk, contentsOk}
+use Rattle.plan_rules.specs.Routers.{routerOk, routersOk}
+use Rattle.plan_rules.specs.Sessions.{sessionOk, sessionsOk, pairs, inSession}
+use Rattle.plan_rules.specs.Parents.{parentCount, fewParents, parentsOk}
+use Rattle.plan_rules.specs.Distances.{distancesOk}
+use Rattle.plan_rules.specs.Lists.{listPlace, memberOk, listAtOk, listOk, eachListOk, listsOk}
+use Rattle.plan_rules.specs.Refusal.{refuse, bodyChecks, planChecks, planRefusal}
+use Rattle.net_rules.specs.FromPlan.{named}
+use Rattle.route_rules.specs.Preference.{prefers, better, marginOf}
+use Rattle.route_rules.specs.Reliance.{listedClientOf, bestClient, offer, betterOffer, relies}
+use Rattle.route_rules.specs.Activation.{reflects, advertises, hears, senderOf, routeTo, choice, choose, entryOk, tableOk}
+use Rattle.route_rules.specs.Rounds.{acted, roundsFrom, rounds}
+use Rattle.graph_groups.specs.Closure.{closing}
+use Rattle.graph_groups.specs.Groups.{together, label, stable, grouped}
+use Rattle.graph_ranks.specs.Rank.{rankOver, rankRounds, rank}
+use Rattle.graph_cycle.specs.Cycle.{start, next, walk, second, first, lap, cycleIn, cycle}
+use Rattle.route_theorems.specs.Settled.{chooseAll, chosenAfter, settledTable}
+use Rattle.net_tables.specs.TableBytes.{readRoute, tableOf, tableBytes, activateBytes, runBytes}
+use Rattle.call_rules.specs.Refusals.{sequenceOk, egressListRefusal, compareRefusal, reliesRefusal, buffersOk, verdictRefusal, tableChecks, activateRefusal, runRefusal}
+use Rattle.call_query.specs.Size.{sizeRouters, sizeLists}
+use Rattle.call_query.specs.EgressList.{egressListStart, egressListSize}
+use Rattle.call_compare.specs.Compare.{whichBetter, hasMargin, marginNumber, preferredOf, compared}
+use Rattle.call_query.specs.Relies.{relied}
+use Rattle.call_verdict.specs.Verdict.{isStable, labelsOf, ranksOf, highestOf, settledBytes, cycleOf, verdictOf, verdictAnswer, labelsAfter, ranksAfter, tableAfter, cycleAfter}
+use Rattle.call_run.specs.Activate.{activateTable}
+use Rattle.call_run.specs.Run.{runApplied, runRounds, runExhausted, runTable}
+use Rattle.checker_examples.specs.Questions.{Question, Answer, answerTo}
+
+-- to unfold this is to unfold them all
+unfoldable pub allRules : List ℕ → Question → Answer
+unfolding
+    answerTo
+    planRefusal egressListRefusal compareRefusal reliesRefusal verdictRefusal activateRefusal runRefusal
+    sizeRouters sizeLists egressListStart egressListSize whichBetter hasMargin marginNumber preferredOf compared relied
+    isStable labelsOf ranksOf highestOf settledBytes cycleOf verdictOf verdictAnswer labelsAfter ranksAfter tableAfter cycleAfter
+    activateTable runApplied runRounds runExhausted runTable
+    buffersOk tableChecks sequenceOk readRoute tableOf tableBytes activateBytes runBytes chooseAll chosenAfter settledTable
+    start next walk second first lap cycleIn cycle rankOver rankRounds rank together label stable grouped closing acted roundsFrom rounds
+    reflects advertises hears senderOf routeTo choice choose entryOk tableOk listedClientOf bestClient offer betterOffer relies prefers better marginOf
+    pairs inSession named refuse bodyChecks planChecks
+    headerOk routerCountOk kindsOk placesOk sizesOk contentsOk routerOk routersOk sessionOk sessionsOk
+    parentCount fewParents parentsOk count distancesOk
+    listPlace memberOk listAtOk listOk eachListOk listsOk allBelow anyBelow keepBest best seek highest tab
+allRules = answerTo

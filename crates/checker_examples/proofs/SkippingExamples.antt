@@ -1,0 +1,8 @@
+-- The examples of role 3, worked out from the definitions that the contracts cite.
+use mathlib.Core.Path.{refl}
+use Rattle.checker_examples.specs.SkippingExamples.{twoSites, skipping, skippingExamples, SkippingExamplesHold}
+use Rattle.checker_examples.proofs.Questions.{allRules}
+
+pub skipping-examples : SkippingExamplesHold
+unfolding allRules twoSites skipping skippingExamples
+skipping-examples = refl

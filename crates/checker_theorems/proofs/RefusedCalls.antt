@@ -1,0 +1,37 @@
+-- A refused call returns its number alone, and leaves what it was lent.
+use mathlib.Core.Path.{_∙_, ap}
+use lib.ListN.{take, drop}
+use denote.Ref.{ptr, now}
+use Rattle.base.specs.Bytes.{bytesOn}
+use Rattle.call_query.specs.EgressList.{egressListStart, egressListSize}
+use Rattle.call_query.specs.Size.{sizeRouters, sizeLists}
+use Rattle.call_run.specs.Activate.{activateTable}
+use Rattle.call_run.specs.Run.{runApplied, runRounds, runExhausted, runTable}
+use Rattle.plan_rules.proofs.Refused.{when-refused}
+use Rattle.checker_theorems.specs.RefusedCalls.{RefusedCalls}
+
+pub refused-calls : RefusedCalls
+unfolding egressListStart egressListSize sizeRouters sizeLists activateTable runApplied runRounds runExhausted runTable
+refused-calls =
+    record {
+      list = λ plan k part s ne. (
+        s .bytes ∙ ap (λ size. take size (drop (egressListStart (now plan) k) (now plan))) (when-refused _ _ _ ne),
+        s .address ∙ ap (bytesOn (ptr plan)) (when-refused _ _ _ ne),
+      );
+      size = λ plan r s ne. (s .number, s .routers ∙ when-refused _ _ _ ne, s .lists ∙ when-refused _ _ _ ne);
+      compare = λ plan w e f r s ne. (
+        s .answer ∙ when-refused _ _ _ ne,
+        s .value ∙ when-refused _ _ _ ne,
+        s .present ∙ when-refused _ _ _ ne,
+        s .margin ∙ when-refused _ _ _ ne,
+      );
+      explain = λ plan k w v r s ne. (s .answer ∙ when-refused _ _ _ ne, s .values ∙ when-refused _ _ _ ne);
+      activate = λ plan k w table r after s ne. (s .number, s .bytes ∙ when-refused _ _ _ ne);
+      run = λ plan k acts limit table r after s ne. (
+        s .number,
+        s .applied ∙ when-refused _ _ _ ne,
+        s .whole ∙ when-refused _ _ _ ne,
+        s .exhausted ∙ when-refused _ _ _ ne,
+        s .bytes ∙ when-refused _ _ _ ne,
+      );
+    }

@@ -1,0 +1,40 @@
+-- Document 01, "Refusal table": "beside a refusal number every other returned field is zero or no", and lent buffers are unchanged. What
+-- the contracts of the calls that return more than a number, a yes or no, or a verdict say of a refused call.
+use Prim.Native.Nat.{ℕ}
+use mathlib.Core.Path.{_≡_}
+use mathlib.Core.Bool.{false}
+use mathlib.Core.List.{List, []}
+use lib.IntN.{pos}
+use denote.Ref.{RefT, ptr, now}
+use Rattle.base.specs.Bytes.{bytesOn}
+use Rattle.plan_rules.specs.Refusal.{planRefusal}
+use Rattle.call_rules.specs.Refusals.{egressListRefusal, compareRefusal, reliesRefusal, activateRefusal, runRefusal}
+use Rattle.call_compare.specs.declared.compare.CompareAnswer.{CompareAnswer}
+use Rattle.call_compare.specs.declared.compare.CompareAnswer.the-variants.{Refused}
+use Rattle.call_query.specs.declared.size.SizeAnswer.{SizeAnswer}
+use Rattle.call_run.specs.declared.run.RunAnswer.{RunAnswer}
+use Rattle.call_query.specs.EgressList.{StretchOf}
+use Rattle.call_query.specs.Size.{Sizes}
+use Rattle.call_compare.specs.Compare.{compareBetter, compareHasMargin, compareMargin, Compares}
+use Rattle.route_explain_rules.specs.declared.explanation.Explanation.{Explanation}
+use Rattle.route_explain_rules.specs.declared.explanation.Explanation.the-variants as explanations
+use Rattle.route_explain_rules.specs.Values.{bare, valuesOf}
+use Rattle.call_explain.specs.Explain.{Explains}
+use Rattle.call_run.specs.Activate.{Activates}
+use Rattle.call_run.specs.Run.{Runs}
+
+pub record RefusedCalls : Type 0 where
+  -- "If refused, the stretch is empty": at the plan's own start
+  pub list : (plan : RefT (List ℕ)) (k : ℕ) (part : RefT (List ℕ)) → StretchOf plan k part → (egressListRefusal (now plan) k ≡ 0 → ⊥)
+      → (now part ≡ []) × (ptr part ≡ bytesOn (ptr plan) 0)
+  pub size : (plan : List ℕ) (r : SizeAnswer) → Sizes plan r → (planRefusal plan ≡ 0 → ⊥)
+      → (r .refused ≡ planRefusal plan) × (r .routers ≡ 0) × (r .lists ≡ 0)
+  pub compare : (plan : List ℕ) (w e f : ℕ) (r : CompareAnswer) → Compares plan w e f r → (compareRefusal plan w e f ≡ 0 → ⊥)
+      → (r ≡ Refused (compareRefusal plan w e f)) × (compareBetter r ≡ 0) × (compareHasMargin r ≡ false) × (compareMargin r ≡ pos 0)
+  pub explain : (plan : List ℕ) (k w v : ℕ) (r : Explanation) → Explains plan k w v r → (reliesRefusal plan k w v ≡ 0 → ⊥)
+      → (r ≡ explanations.Refused (reliesRefusal plan k w v)) × (valuesOf r ≡ bare false 0)
+  pub activate : (plan : List ℕ) (k w : ℕ) (table : List ℕ) (r : ℕ) (after : List ℕ) → Activates plan k w table r after
+      → (activateRefusal plan k w table ≡ 0 → ⊥) → (r ≡ activateRefusal plan k w table) × (after ≡ table)
+  pub run : (plan : List ℕ) (k : ℕ) (acts : List ℕ) (limit : ℕ) (table : List ℕ) (r : RunAnswer) (after : List ℕ)
+      → Runs plan k acts limit table r after → (runRefusal plan k acts table ≡ 0 → ⊥)
+      → (r .refused ≡ runRefusal plan k acts table) × (r .applied ≡ 0) × (r .rounds ≡ 0) × (r .exhausted ≡ false) × (after ≡ table)

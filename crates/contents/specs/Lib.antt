@@ -1,4 +1,0 @@
-pub mod Header
-pub mod Contents
-pub mod Passed
-pub mod Examples

@@ -1,8 +1,0 @@
-use mathlib.Core.Path.{ap}
-use lib.Dec.{eqb}
-use borrow.Author.Needs.{needs}
-use Rattle.distance_body.proofs.diagonal_ok.Statement.{statement}
-use Rattle.distance_body.proofs.diagonal_ok.Tie as tie
-
-pub diagonal-ok-spec : {M : Type 1} → statement M
-diagonal-ok-spec = tie.close (tie.spec (λ c κs. search needs) (λ c. ap (λ d. eqb d 0) (c .distance .ensures .0)))

@@ -1,8 +1,0 @@
--- The examples of row 13, worked out from the definitions that the contracts cite.
-use mathlib.Core.Path.{refl}
-use Rattle.example_plans.specs.ParentsExamples.{around, sessionBroken, distanceBroken, listsBroken, parentsExamples, ParentsExamplesHold}
-use Rattle.example_plans.proofs.Questions.{allRules}
-
-pub parents-examples : ParentsExamplesHold
-unfolding allRules around sessionBroken distanceBroken listsBroken parentsExamples
-parents-examples = refl

@@ -1,8 +1,0 @@
--- The examples of role 3, worked out from the definitions that the contracts cite.
-use mathlib.Core.Path.{refl}
-use Rattle.example_plans.specs.SkippingExamples.{twoSites, skipping, skippingExamples, SkippingExamplesHold}
-use Rattle.example_plans.proofs.Questions.{allRules}
-
-pub skipping-examples : SkippingExamplesHold
-unfolding allRules twoSites skipping skippingExamples
-skipping-examples = refl

@@ -1,4 +1,0 @@
-pub mod Explained
-pub mod Reasons
-pub mod Explain
-pub mod Examples

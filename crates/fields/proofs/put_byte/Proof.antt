@@ -1,8 +1,0 @@
-use borrow.Author.Needs.{needs}
-use Rattle.fields.proofs.Writing.{put-one}
-use Rattle.fields.proofs.put_byte.Statement.{statement}
-use Rattle.fields.proofs.put_byte.Tie as tie
-
-pub put-byte-spec : {M : Type 1} → statement M
-put-byte-spec =
-    tie.close (tie.spec (λ c. search needs) (λ c. search needs) (λ c. search needs) (λ c. put-one _ (search needs)))

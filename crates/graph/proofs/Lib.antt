@@ -1,4 +1,0 @@
-pub mod Examples
-pub mod Reaching
-pub mod Sharing
-pub mod RowGroups

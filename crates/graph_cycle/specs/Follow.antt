@@ -1,0 +1,25 @@
+-- What following the walk asks, and what it finds.
+use Prim.Native.Nat.{ℕ, _≤_, _<_}
+use mathlib.Core.Path.{_≡_}
+use mathlib.Core.List.{List}
+use lib.ListN.{length, getD}
+use Rattle.graph_groups.specs.Closure.{Relation, Within, AllReturn}
+use Rattle.graph_cycle.specs.Cycle.{trail, first, second}
+
+-- the walk stays among the routers below n
+abbrev pub Stays : Relation → Relation → ℕ → Type 0
+Stays R C n = (k : ℕ) → trail R C n k < n
+
+-- what following the walk of R in the groups of C asks
+pub record FollowAsked (R C : Relation) (n : ℕ) (path : List ℕ) : Type 0 where
+  pub small : n ≤ 64
+  pub long : length path ≡ 64
+  pub stays : Stays R C n
+  pub within : Within R n
+  pub returns : AllReturn C n
+
+-- what following the walk f finds: where the lap starts and ends, and the routers up to there, in order
+pub record Followed (f : ℕ → ℕ) (n : ℕ) (path : List ℕ) (from upto : ℕ) : Type 0 where
+  pub starts : from ≡ first f n
+  pub ends : upto ≡ second f n
+  pub kept : (i : ℕ) → i < upto → getD path i 0 ≡ f i

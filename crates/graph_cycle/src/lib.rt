@@ -1,0 +1,144 @@
+// The cycle of a relation that is not stable, given as rows of bits.
+
+use base::bits::bit;
+use base::bits::lowest_bit;
+use base::bits::without_lowest;
+use base::wide;
+use graph_groups::groups::share;
+ghost use mathlib.Core.Path.{_≡_};
+ghost use mathlib.Core.Bool.{not};
+ghost use mathlib.Core.List.{_++_};
+ghost use Prim.Native.Nat.{_+_, _≤_, _<_, min};
+ghost use lib.Dec.{ltb, eqb};
+ghost use lib.ListN.{length, getD, drop};
+ghost use Rattle.base.specs.Tab.{tab};
+ghost use Rattle.base.specs.Seek.{flag, seek};
+ghost use Rattle.base.specs.Bits.{bits};
+ghost use Rattle.graph_groups.specs.Closure.{Within, Returns, AllReturn};
+ghost use Rattle.graph_groups.specs.Groups.{together, grouped};
+ghost use Rattle.graph_cycle.specs.Cycle.{start, next, trail, cycle, CycleAsked};
+ghost use Rattle.graph_cycle.specs.Follow.{FollowAsked, Followed};
+
+// Whether i and j are two routers of one group: 1 or 0.
+fn share_apart(closed: &[u64; 64], i: usize, j: usize) -> u64
+    requires { ⌜ (i < 64) × (j < 64) ⌝ }
+    ensures { λ r. ⌜ r ≡ min (flag (not (eqb i j))) (together (bits (now (closed .entry))) i j) ⌝ }
+{
+    if i == j {
+        return 0;
+    }
+    share(closed, i, j)
+}
+
+// Whether i is in a group of two or more. A router that does not reach itself is in none.
+fn is_grouped(closed: &[u64; 64], n: usize, i: usize) -> bool
+    requires { ⌜ (n ≤ 64) × (i < 64) × Returns (bits (now closed)) n i ⌝ }
+    ensures { λ r. ⌜ r ≡ ltb 0 (grouped (bits (now (closed .entry))) n i) ⌝ }
+{
+    if bit(closed[i], i) == 0 {
+        return false;
+    }
+    let mut j = 0;
+    while j < n {
+        if 0 < share_apart(closed, i, j) {
+            return true;
+        }
+        j += 1;
+    }
+    false
+}
+
+// The lowest router in a group of two or more, n if there is none.
+fn first_grouped(closed: &[u64; 64], n: usize) -> usize
+    requires { ⌜ (n ≤ 64) × AllReturn (bits (now closed)) n ⌝ }
+    ensures { λ r. ⌜ r ≡ start (bits (now (closed .entry))) n ⌝ }
+{
+    let mut i = 0;
+    while i < n {
+        if is_grouped(closed, n, i) {
+            return i;
+        }
+        i += 1;
+    }
+    n
+}
+
+// The lowest router that w is related to in its group, n if there is none.
+fn next_router(rows: &[u64; 64], closed: &[u64; 64], n: usize, w: usize) -> usize
+    requires { ⌜ (n ≤ 64) × (w < n) × Within (bits (now rows)) n ⌝ }
+    ensures { λ r. ⌜ r ≡ next (bits (now (rows .entry))) (bits (now (closed .entry))) n w ⌝ }
+{
+    let mut left = rows[w];
+    while left != 0 {
+        let v = lowest_bit(left);
+        if 0 < share(closed, w, v) {
+            return v;
+        }
+        left = without_lowest(left);
+    }
+    n
+}
+
+// The first place below k of router w on a path, k if there is none.
+fn place(path: &[u8; 64], k: usize, w: usize) -> usize
+    requires { ⌜ k ≤ 64 ⌝ }
+    ensures { λ r. ⌜ r ≡ seek (λ i. flag (eqb (getD (now (path .entry)) i 0) w)) k ⌝ }
+{
+    let mut i = 0;
+    while i < k {
+        if wide(path[i]) == w {
+            return i;
+        }
+        i += 1;
+    }
+    k
+}
+
+// A part of a path: from a place up to before another.
+struct Stretch {
+    from: usize,
+    upto: usize,
+}
+
+// Follows the walk until it meets a router for the second time.
+fn follow(rows: &[u64; 64], closed: &[u64; 64], n: usize, path: &mut [u8; 64]) -> Stretch
+    requires { ⌜ FollowAsked (bits (now rows)) (bits (now closed)) n (now path) ⌝ }
+    ensures { λ r. ⌜ Followed (trail (bits (now (rows .entry))) (bits (now (closed .entry))) n) n (now (path .exit)) (r .from) (r .upto) ⌝ }
+{
+    let mut w = first_grouped(closed, n);
+    let mut k = 0;
+    let mut met = 0;
+    while met == k {
+        path[k] = w as u8;
+        w = next_router(rows, closed, n, w);
+        k += 1;
+        met = place(path, k, w);
+    }
+    Stretch { from: met, upto: k }
+}
+
+// Copies `count` bytes of a path to the front of `out`.
+fn copy_part(path: &[u8; 64], from: usize, count: usize, out: &mut [u8])
+    requires { ⌜ (from + count ≤ 64) × (count ≤ length (now out)) ⌝ }
+    ensures { λ _. ⌜ now (out .exit) ≡ tab (λ d. getD (now (path .entry)) (from + d) 0) count ++ drop count (now (out .entry)) ⌝ }
+{
+    let mut d = 0;
+    while d < count {
+        out[d] = path[from + d];
+        d += 1;
+    }
+}
+
+// Writes the cycle to the front of `out`, and returns its length.
+pub fn cycle(rows: &[u64; 64], closed: &[u64; 64], n: usize, out: &mut [u8]) -> usize
+    requires { ⌜ CycleAsked (bits (now rows)) (bits (now closed)) n (now out) ⌝ }
+    ensures count { λ r. ⌜ r ≡ length (cycle (bits (now (rows .entry))) n) ⌝ }
+    ensures written { λ r. ⌜ now (out .exit) ≡ cycle (bits (now (rows .entry))) n ++ drop r (now (out .entry)) ⌝ }
+{
+    let mut path = [0u8; 64];
+    let lap = follow(rows, closed, n, &mut path);
+    let from = lap.from;
+    let count = lap.upto - from;
+    copy_part(&path, from, count, out);
+    count
+}

@@ -1,0 +1,5 @@
+pub mod Examples
+pub mod Reaching
+pub mod Sharing
+pub mod RowGroups
+pub mod RowClosure

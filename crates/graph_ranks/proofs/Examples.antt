@@ -1,0 +1,10 @@
+-- The examples, worked out from the rule.
+use mathlib.Core.Path.{refl}
+use Rattle.base.specs.Seek.{highest}
+use Rattle.base.specs.Tab.{tab}
+use Rattle.graph_ranks.specs.Rank.{rankOver, rankRounds, rank}
+use Rattle.graph_ranks.specs.Examples.{deep, flat, RankExamples}
+
+pub rank-examples : RankExamples
+unfolding deep flat rankOver rankRounds rank highest tab
+rank-examples = record { ranks = refl; highestOfAll = refl }

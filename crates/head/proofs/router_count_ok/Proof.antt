@@ -1,8 +1,0 @@
-use Rattle.base.proofs.Numbers.{tests}
-use Rattle.contents.specs.Header.{routerCountOk}
-use Rattle.head.proofs.router_count_ok.Statement.{statement}
-use Rattle.head.proofs.router_count_ok.Tie as tie
-
-pub router-count-ok-spec : {M : Type 1} → statement M
-unfolding routerCountOk
-router-count-ok-spec = tie.close (tie.spec (λ c. search tests) (λ c. search tests))

@@ -1,0 +1,53 @@
+// The least sums of a sheet, in a table of 64 words a router. A sum above 65,534 is held as 65,535, and so is no walk.
+
+use base::wide;
+use links_words::lower;
+use links_words::pass_through;
+ghost use mathlib.Core.Path.{_≡_};
+ghost use mathlib.Core.Bool.{true};
+ghost use Prim.Native.Nat.{_≤_};
+ghost use Rattle.links_rules.specs.Sheet.{linkCount, sheetOk};
+ghost use Rattle.links_rules.specs.Sums.{nowhere, staying, direct, cell, leastSums};
+ghost use Rattle.links_sums.specs.Words.{Holds};
+
+// The sum of the walk of no link, at each router.
+fn stay(words: &mut [u16], n: usize)
+    requires { ⌜ (n ≤ 64) × Holds nowhere n (now words) ⌝ }
+    ensures { λ _. ⌜ Holds staying n (now (words .exit)) ⌝ }
+{
+    let mut u = 0;
+    while u < n {
+        lower(words, u, u, 0);
+        u += 1;
+    }
+}
+
+// The sums of the walks of one link.
+fn add_links(links: &[u8], n: usize, words: &mut [u16])
+    requires { ⌜ (n ≤ 64) × (sheetOk (now links) n ≡ true) × Holds staying n (now words) ⌝ }
+    ensures { λ _. ⌜ Holds (direct (now (links .entry)) (linkCount (now (links .entry)))) n (now (words .exit)) ⌝ }
+{
+    let count = links.len() / 4;
+    let mut k = 0;
+    while k < count {
+        let from = wide(links[4 * k]);
+        let to = wide(links[4 * k + 1]);
+        let weight = base::read2(links, 4 * k + 2) as u16;
+        lower(words, from, to, weight);
+        k += 1;
+    }
+}
+
+// The least sums over all walks.
+pub fn least_sums(links: &[u8], n: usize, words: &mut [u16])
+    requires { ⌜ (n ≤ 64) × (sheetOk (now links) n ≡ true) × Holds nowhere n (now words) ⌝ }
+    ensures { λ _. ⌜ Holds (cell (leastSums (now (links .entry)) n)) n (now (words .exit)) ⌝ }
+{
+    stay(words, n);
+    add_links(links, n, words);
+    let mut via = 0;
+    while via < n {
+        pass_through(words, n, via);
+        via += 1;
+    }
+}

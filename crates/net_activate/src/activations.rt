@@ -1,0 +1,166 @@
+// An activation on the caller's table: one pass over the neighbours of the router that may advertise a route. Each route has a key, a
+// number that orders routes by distance, then by egress, then by sender; the best has the least.
+
+use plan_distances::NO_WAY;
+use net_rules::NO_ROUTER;
+use net_rules::Network;
+use net_tables::RouteBytes;
+ghost use mathlib.Core.Path.{_≡_};
+ghost use mathlib.Core.Bool.{cond};
+ghost use mathlib.Core.List.{List};
+ghost use mathlib.Core.Option.{none, some};
+ghost use Prim.Native.Nat.{ℕ, _*_, _≤_, _<_, min, max};
+ghost use lib.ListN.{length};
+ghost use Rattle.base.specs.Bits.{bitN};
+ghost use Rattle.plan_rules.specs.Distances.{distanceIn};
+ghost use Rattle.route_rules.specs.Instance.{via};
+ghost use Rattle.route_rules.specs.Activation.{reflects, advertises};
+ghost use Rattle.net_rules.specs.Decoded.{decoded, instance};
+ghost use Rattle.net_tables.specs.TableBytes.{RouteBelow, RoutesIn, TableIn, routeAt, routeOf, activateBytes};
+ghost use Rattle.net_activate.specs.OnePass.{senderMark, routeKey, toldKey, leastKey, keyRoute};
+ghost use Rattle.net_rules.specs.WellFormed.{WellFormed};
+
+// A key holds the sender's mark in its lowest byte, then the egress in a byte, then the distance.
+const EGRESS_PLACE: usize = 256;
+
+const DISTANCE_PLACE: usize = 65536;
+
+// Where there is no way, no way is the distance: such a route's key is not lower than this one, and with a way it is lower.
+const NO_KEY: usize = NO_WAY * DISTANCE_PLACE;
+
+// Of several senders of one egress, that egress itself has the least mark, then the lowest.
+fn sender_mark(egress: usize, sender: usize) -> usize
+    requires { ⌜ sender < 64 ⌝ }
+    ensures { λ r. ⌜ r ≡ senderMark egress sender ⌝ }
+{
+    if egress == sender {
+        return 0;
+    }
+    sender + 1
+}
+
+// At w, the key of the route to an egress from a sender.
+fn route_key(distances: &[u8], n: usize, w: usize, egress: usize, sender: usize) -> usize
+    requires { ⌜ (w < n) × (egress < n) × (sender < n) × (n ≤ 64) × (2 * (n * n) ≤ length (now distances)) ⌝ }
+    ensures { λ r. ⌜ r ≡ routeKey (distanceIn (now (distances .entry)) n w egress) egress sender ⌝ }
+{
+    let distance = plan_distances::distance(distances, n, w, egress);
+    distance * DISTANCE_PLACE + egress * EGRESS_PLACE + sender_mark(egress, sender)
+}
+
+// The route of a key.
+fn key_route(key: usize) -> RouteBytes
+    ensures { λ r. ⌜ routeOf r ≡ keyRoute key ⌝ }
+{
+    if NO_KEY <= key {
+        return RouteBytes {
+            egress: NO_ROUTER,
+            sender: NO_ROUTER,
+        };
+    }
+    let egress = (key / EGRESS_PLACE % 256) as u8;
+    let mark = key % EGRESS_PLACE;
+    if mark == 0 {
+        return RouteBytes {
+            egress: egress,
+            sender: egress,
+        };
+    }
+    RouteBytes {
+        egress: egress,
+        sender: (mark - 1) as u8,
+    }
+}
+
+// Whether an unlisted reflector v passes on to w what it holds from this sender.
+fn passes_on(net: Network, v: usize, sender: usize, w: usize) -> bool
+    requires { ⌜ (v < 64) × (sender < 64) × (w < 64) ⌝ }
+    ensures { λ r. ⌜ ((rows distances : List ℕ) (e : ℕ)
+        → reflects (decoded net rows distances) v (via e sender) w ≡ cond r (some e) none) ⌝ }
+{
+    if base::bits::has_bit(net.reflectors, sender) {
+        return !base::bits::has_bit(net.reflectors, w);
+    }
+    if base::bits::has_bit(net.skips, v) {
+        return base::bits::has_bit(net.reflectors, w);
+    }
+    sender != w
+}
+
+// The key of what an unlisted reflector v, holding a route, passes on to w; NO_KEY is nothing. The distance is read before it is known
+// whether the route is passed on: that compiles to code without a branch.
+fn reflected(net: Network, distances: &[u8], w: usize, v: usize, route: RouteBytes) -> usize
+    requires { ⌜ (net .n ≤ 64) × (w < net .n) × (v < net .n) × (2 * (net .n * net .n) ≤ length (now distances))
+        × RouteBelow (net .n) (routeOf route) ⌝ }
+    ensures { λ r. ⌜ ((rows : List ℕ) → r ≡ toldKey (decoded net rows (now (distances .entry))) w v
+        (reflects (decoded net rows (now (distances .entry))) v (routeOf route) w)) ⌝ }
+{
+    if route.egress == NO_ROUTER {
+        return NO_KEY;
+    }
+    let key = route_key(distances, net.n, w, base::wide(route.egress), v);
+    if passes_on(net, v, base::wide(route.sender), w) {
+        return key;
+    }
+    NO_KEY
+}
+
+// The key of what router v, a listed router or a reflector, advertises to its neighbour w, holding a route; NO_KEY is nothing.
+fn advertised(net: Network, distances: &[u8], w: usize, v: usize, route: RouteBytes) -> usize
+    requires { ⌜ (net .n ≤ 64) × (w < net .n) × (v < net .n) × (2 * (net .n * net .n) ≤ length (now distances))
+        × RouteBelow (net .n) (routeOf route) × (max (bitN (net .listed) v) (bitN (net .reflectors) v) ≡ 1) ⌝ }
+    ensures { λ r. ⌜ ((rows : List ℕ) → r ≡ toldKey (decoded net rows (now (distances .entry))) w v
+        (advertises (decoded net rows (now (distances .entry))) v (routeOf route) w)) ⌝ }
+{
+    if base::bits::has_bit(net.listed, v) {
+        return route_key(distances, net.n, w, v, v);
+    }
+    reflected(net, distances, w, v, route)
+}
+
+fn lesser(a: usize, b: usize) -> usize
+    ensures { λ r. ⌜ r ≡ min a b ⌝ }
+{
+    if b < a {
+        return b;
+    }
+    a
+}
+
+// The least key advertised to w: of its neighbours only listed routers and reflectors advertise any.
+fn best_heard(net: Network, rows: &[u64; 64], distances: &[u8], w: usize, table: &[u8]) -> usize
+    requires { ⌜ WellFormed net (now rows) (now distances) × (w < net .n) × RoutesIn (net .n) (now table) ⌝ }
+    ensures { λ r. ⌜ r ≡ leastKey (instance net (rows .entry) (distances .entry)) w (routeAt (now (table .entry))) (net .n) ⌝ }
+{
+    let mut least = NO_KEY;
+    let mut left = rows[w] & (net.listed | net.reflectors);
+    while left != 0 {
+        let v = base::bits::lowest_bit(left);
+        least = lesser(
+            least,
+            advertised(net, distances, w, v, net_tables::route_at(table, v)),
+        );
+        left = base::bits::without_lowest(left);
+    }
+    least
+}
+
+// The act of router w on a table that obeys its rule.
+pub fn activate(net: Network, rows: &[u64; 64], distances: &[u8], w: usize, table: &mut [u8])
+    requires { ⌜ WellFormed net (now rows) (now distances) × (w < net .n) × TableIn (instance net rows distances) (now table) ⌝ }
+    ensures { λ _. ⌜ now (table .exit) ≡ activateBytes (instance net (rows .entry) (distances .entry)) w (now (table .entry)) ⌝ }
+{
+    if base::bits::has_bit(net.listed, w) {
+        net_tables::put_route(
+            table,
+            w,
+            RouteBytes {
+                egress: w as u8,
+                sender: w as u8,
+            },
+        );
+        return;
+    }
+    let best = key_route(best_heard(net, rows, distances, w, table));
+    net_tables::put_route(table, w, best);
+}

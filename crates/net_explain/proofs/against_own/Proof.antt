@@ -1,0 +1,85 @@
+-- Each way out is a case of the definition.
+use native.Mathlib.Omega.{arith}
+use mathlib.Core.Path.{_≡_, _∙_, sym, ap, ap₂, subst}
+use mathlib.Core.Option.{some}
+use lib.IntN.{pos, _-ℤ_}
+use borrow.Author.Needs.{needs}
+use mir.Syntax.{w64}
+use mir.ValLaws.{toZ-ofZ}
+use Rattle.route_rules.specs.Instance.{Instance}
+use Rattle.route_rules.specs.Preference.{prefers}
+use Rattle.route_rules.specs.RouterBytes.{asRouter}
+use Rattle.route_rules.proofs.RouterBytes.{router-none, router-some, router-below}
+use Rattle.net_prefer.specs.Measured.{Measured, ReadAs}
+use Rattle.net_prefer.proofs.Measured.{read-as}
+use Rattle.route_explain_rules.specs.Explained.{WayTo, againstOwn}
+use Rattle.route_explain_rules.specs.declared.explanation.Explanation.the-variants.{Yes}
+use Rattle.route_explain_rules.specs.declared.explanation.Rule.the-variants.{BetterOffer}
+use Rattle.net_explain.proofs.Cases.{against-none, against-preferred, against-other, margin-held}
+use Rattle.net_explain.proofs.against_own.Statement.{statement}
+use Rattle.net_explain.proofs.against_own.Tie as tie
+
+returns : tie.Need-returns
+returns c I q there own =
+    let a = c .before .before .args in
+    sym (ap (againstOwn I (a .w) (a .offer)) (router-none _ (c .if1 .taken)) ∙ against-none I _ _)
+
+-- there is an own best client
+module _ (c : tie.After-wide) where
+  abbrev start : tie.Start
+  start = c .before .before .before
+
+  client : asRouter (start .args .own) ≡ some (c .wide .result)
+  client = router-some _ (c .before .if1 .left) ∙ ap some (sym (c .wide .ensures .0))
+
+distance-requires-2 : tie.Need-distance-requires-2
+distance-requires-2 c κs =
+    let d = c .before in
+    let p = start d .pre in
+    (p .0, omega (arith, d .wide .ensures .0, router-below _ (start d .args .own) (d .before .if1 .left) (p .4)), p .1, p .2)
+
+-- the two distances are read
+module _ (c : tie.After-nearer) where
+  abbrev found : tie.After-wide
+  found = c .before .before .before
+
+  module _ (I : Instance) (q : Measured I (start found .args .distances .now) (start found .args .n)) where
+    to-offer : ReadAs I (start found .args .w) (start found .args .offer) (c .before .before .distance .result)
+    to-offer = read-as I _ _ q _ _ _ (c .before .before .distance .ensures .0)
+
+    to-client : ReadAs I (start found .args .w) (found .wide .result) (c .before .distance2 .result)
+    to-client = read-as I _ _ q _ _ _ (c .before .distance2 .ensures .0)
+
+    nearer-is : c .nearer .result ≡ prefers I (start found .args .w) (start found .args .offer) (found .wide .result)
+    nearer-is = c .nearer .ensures I _ (to-offer .dist) (to-client .dist)
+
+returns-2 : tie.Need-returns-2
+returns-2 c I q there own =
+    let e = c .before .before in
+    let d = found e in
+    let a = start d .args in
+    ap (λ m. Yes (BetterOffer (a .offer) (d .wide .result) m))
+    (toZ-ofZ w64 _ (search needs) ∙ c .difference .ensures
+    ∙ sym (ap₂ (λ x y. pos x -ℤ pos y) (to-offer e I q .dist) (to-client e I q .dist))
+    ∙ sym (margin-held I _ _ _ there (subst (WayTo I (a .w)) (client d) own)))
+    ∙ sym (ap (againstOwn I (a .w) (a .offer)) (client d) ∙ against-preferred I _ _ _ (sym (nearer-is e I q) ∙ c .before .if2 .taken))
+
+returns-3 : tie.Need-returns-3
+returns-3 c I q there own =
+    let e = c .before in
+    let d = found e in
+    let a = start d .args in
+    sym (ap (againstOwn I (a .w) (a .offer)) (client d) ∙ against-other I _ _ _ (sym (nearer-is e I q) ∙ c .if2 .left))
+
+pub against-own-spec : {M : Type 1} → statement M
+against-own-spec =
+    tie.close
+    (tie.spec
+    returns
+    (λ c κs. search needs)
+    (λ c κs. search needs)
+    distance-requires-2
+    (λ c κs. search needs)
+    (λ c κs. search needs)
+    returns-2
+    returns-3)

@@ -1,0 +1,115 @@
+// Best clients and what routers offer, over a network read from a plan. A router is a byte here, NO_ROUTER for none.
+
+use net_rules::NO_ROUTER;
+use net_rules::Network;
+ghost use mathlib.Core.Path.{_≡_};
+ghost use mathlib.Core.List.{List};
+ghost use Prim.Native.Nat.{ℕ, _*_, _≤_, _<_};
+ghost use lib.ListN.{length};
+ghost use Rattle.base.specs.Best.{keepBest};
+ghost use Rattle.route_rules.specs.Instance.{Instance};
+ghost use Rattle.route_rules.specs.Preference.{prefers};
+ghost use Rattle.route_rules.specs.Reliance.{bestClient, offer, betterOffer};
+ghost use Rattle.net_offers.specs.OwnClient.{ListedClients, OwnClient, OwnClients};
+ghost use Rattle.net_rules.specs.Decoded.{decoded, instance};
+ghost use Rattle.route_rules.specs.RouterBytes.{asRouter, RouterBelow};
+ghost use Rattle.net_prefer.specs.Measured.{Measured};
+ghost use Rattle.net_rules.specs.WellFormed.{WellFormed};
+
+// The listed clients that v neighbours, as bits; v may have no way to one.
+fn listed_clients(net: Network, rows: &[u64; 64], v: usize) -> u64
+    requires { ⌜ v < 64 ⌝ }
+    ensures { λ r. ⌜ ((distances : List ℕ) → ListedClients (decoded net (now (rows .entry)) distances) v r) ⌝ }
+{
+    base::bits::without(rows[v] & net.listed, net.reflectors)
+}
+
+// Of the best client so far and e, another, to which there may be no way.
+fn keep_client(distances: &[u8], n: usize, v: usize, e: usize, best: u8) -> u8
+    requires { ⌜ (v < n) × (e < n) × (n ≤ 64) × (2 * (n * n) ≤ length (now distances)) × RouterBelow n (asRouter best) ⌝ }
+    ensures { λ r. ⌜ ((I : Instance) → Measured I (now (distances .entry)) n
+        → asRouter r ≡ keepBest (prefers I v) (I .way v e) e (asRouter best)) ⌝ }
+{
+    if !plan_distances::has_way(distances, n, v, e) {
+        return best;
+    }
+    if best == NO_ROUTER {
+        return e as u8;
+    }
+    if net_prefer::prefers(distances, n, v, e, base::wide(best)) {
+        return e as u8;
+    }
+    best
+}
+
+pub fn best_client(net: Network, rows: &[u64; 64], distances: &[u8], v: usize) -> u8
+    requires { ⌜ WellFormed net (now rows) (now distances) × (v < net .n) ⌝ }
+    ensures { λ r. ⌜ asRouter r ≡ bestClient (instance net (rows .entry) (distances .entry)) v ⌝ }
+{
+    let mut best = NO_ROUTER;
+    let mut left = listed_clients(net, rows, v);
+    while left != 0 {
+        let e = base::bits::lowest_bit(left);
+        best = keep_client(distances, net.n, v, e, best);
+        left = base::bits::without_lowest(left);
+    }
+    best
+}
+
+// A reflector's best client; a client needs none.
+pub fn own_client(net: Network, rows: &[u64; 64], distances: &[u8], v: usize) -> u8
+    requires { ⌜ WellFormed net (now rows) (now distances) × (v < net .n) ⌝ }
+    ensures { λ r. ⌜ OwnClient (instance net (rows .entry) (distances .entry)) v r ⌝ }
+{
+    if !base::bits::has_bit(net.reflectors, v) {
+        return NO_ROUTER;
+    }
+    best_client(net, rows, distances, v)
+}
+
+// The best client of every reflector.
+pub fn best_clients(net: Network, rows: &[u64; 64], distances: &[u8]) -> [u8; 64]
+    requires { ⌜ WellFormed net (now rows) (now distances) ⌝ }
+    ensures { λ r. ⌜ OwnClients (instance net (rows .entry) (distances .entry)) r ⌝ }
+{
+    let n = net.n;
+    let mut best = [NO_ROUTER; 64];
+    let mut v = 0;
+    while v < n {
+        best[v] = own_client(net, rows, distances, v);
+        v += 1;
+    }
+    best
+}
+
+// What v offers, where `own` is its best client.
+pub fn offered(net: Network, v: usize, own: u8) -> u8
+    requires { ⌜ (net .n ≤ 64) × (v < net .n) ⌝ }
+    ensures { λ r. ⌜ ((rows distances : List ℕ)
+        → asRouter own ≡ bestClient (decoded net rows distances) v → asRouter r ≡ offer (decoded net rows distances) v) ⌝ }
+{
+    let itself = v as u8;
+    if base::bits::has_bit(net.listed, v) {
+        return itself;
+    }
+    own
+}
+
+pub fn better_offer(distances: &[u8], n: usize, w: usize, offer: u8, own: u8) -> bool
+    requires { ⌜ (w < n) × (n ≤ 64) × (2 * (n * n) ≤ length (now distances))
+        × RouterBelow n (asRouter offer) × RouterBelow n (asRouter own) ⌝ }
+    ensures { λ r. ⌜ ((I : Instance) → Measured I (now (distances .entry)) n
+        → r ≡ betterOffer I w (asRouter offer) (asRouter own)) ⌝ }
+{
+    if offer == NO_ROUTER {
+        return false;
+    }
+    let first = base::wide(offer);
+    if !plan_distances::has_way(distances, n, w, first) {
+        return false;
+    }
+    if own == NO_ROUTER {
+        return true;
+    }
+    net_prefer::prefers(distances, n, w, first, base::wide(own))
+}

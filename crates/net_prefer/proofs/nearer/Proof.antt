@@ -1,0 +1,14 @@
+-- The two distances compare as the rule says.
+use native.Mathlib.Omega.{arith}
+use mathlib.Core.Path.{sym}
+use Rattle.route_rules.proofs.Preference.{prefers-nearer, prefers-farther, prefers-tie}
+use Rattle.net_prefer.proofs.nearer.Statement.{statement}
+use Rattle.net_prefer.proofs.nearer.Tie as tie
+
+pub nearer-spec : {M : Type 1} → statement M
+nearer-spec =
+    tie.close
+    (tie.spec
+    (λ c I w p q. sym (prefers-farther I _ _ _ (omega (arith, p, q))))
+    (λ c I w p q. sym (prefers-nearer I _ _ _ (omega (arith, p, q))))
+    (λ c I w p q. sym (prefers-tie I _ _ _ (omega (arith, p, q)))))

@@ -1,0 +1,44 @@
+// The one comparison of two routes, over distances alone.
+
+ghost use mathlib.Core.Path.{_≡_};
+ghost use Prim.Native.Nat.{ℕ, _*_, _≤_, _<_};
+ghost use lib.ListN.{length};
+ghost use Rattle.route_rules.specs.Instance.{Instance};
+ghost use Rattle.route_rules.specs.Preference.{prefers, better};
+ghost use Rattle.net_prefer.specs.Measured.{Measured, ReadAs};
+
+// Whether e is preferred to f at any router with these distances to them.
+pub fn nearer(first: usize, second: usize, e: usize, f: usize) -> bool
+    ensures { λ r. ⌜ ((I : Instance) (w : ℕ) → I .dist w e ≡ first → I .dist w f ≡ second → r ≡ prefers I w e f) ⌝ }
+{
+    if second < first {
+        return false;
+    }
+    if first != second {
+        return true;
+    }
+    e < f
+}
+
+// Whether e is better than f at any router with these distances to them, either of which may be that of no way.
+pub fn better(first: usize, second: usize, e: usize, f: usize) -> bool
+    ensures { λ r. ⌜ ((I : Instance) (w : ℕ) → ReadAs I w e first → ReadAs I w f second → r ≡ better I w e f) ⌝ }
+{
+    if !plan_distances::is_way(first) {
+        return false;
+    }
+    if !plan_distances::is_way(second) {
+        return true;
+    }
+    nearer(first, second, e, f)
+}
+
+// Whether w prefers e to f, in whatever network has these distances.
+pub fn prefers(distances: &[u8], n: usize, w: usize, e: usize, f: usize) -> bool
+    requires { ⌜ (w < n) × (e < n) × (f < n) × (n ≤ 64) × (2 * (n * n) ≤ length (now distances)) ⌝ }
+    ensures { λ r. ⌜ ((I : Instance) → Measured I (now (distances .entry)) n → r ≡ prefers I w e f) ⌝ }
+{
+    let first = plan_distances::distance(distances, n, w, e);
+    let second = plan_distances::distance(distances, n, w, f);
+    nearer(first, second, e, f)
+}

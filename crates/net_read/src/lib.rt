@@ -1,0 +1,109 @@
+// From the bytes of a plan that is not refused to the network, read once.
+
+use plan_contents::entries::ROUTERS;
+use plan_contents::entries::SESSIONS;
+use plan_contents::header::ROUTER_COUNT;
+use net_rules::Network;
+ghost use mathlib.Core.Path.{_≡_};
+ghost use mathlib.Core.Bool.{_&&_, _||_};
+ghost use Prim.Native.Nat.{ℕ, _*_, _≤_, _<_};
+ghost use lib.Dec.{eqb};
+ghost use lib.ListN.{length, getD, replicate};
+ghost use Rattle.base.specs.Bits.{bitN, bits};
+ghost use Rattle.plan_rules.specs.Refusal.{planRefusal};
+ghost use Rattle.plan_rules.specs.Routers.{reflectorIn};
+ghost use Rattle.plan_rules.specs.Sessions.{sessionCount, sessionFirst, sessionSecond, inSession};
+ghost use Rattle.plan_rules.specs.EgressLists.{listCount};
+ghost use Rattle.net_rules.specs.FromPlan.{skipsIn, named, ReadFrom};
+
+// The role of a client; each other role is a reflector's.
+const CLIENT: u8 = 2;
+
+// The role of a reflector that skips its clients.
+const SKIPPING: u8 = 3;
+
+// The routers by what their role says of them: bit v of a word stands for router v.
+struct RoleWords {
+    reflectors: u64,
+    skips: u64,
+}
+
+// A word with bit v set too, if that is asked for.
+fn marked(word: u64, v: usize, asked: bool) -> u64
+    requires { ⌜ v < 64 ⌝ }
+    ensures { λ r. ⌜ ((u : ℕ) → eqb (bitN r u) 1 ≡ (eqb (bitN word u) 1 || (eqb v u && asked))) ⌝ }
+{
+    if asked {
+        return base::bits::with_bit(word, v);
+    }
+    word
+}
+
+// The reflectors, and those of them that skip their clients; s is the body of kind 1.
+fn role_words(s: &[u8], n: usize) -> RoleWords
+    requires { ⌜ (n ≤ 64) × (length (now s) ≡ 5 * n) ⌝ }
+    ensures { λ r. ⌜ ((v : ℕ) → eqb (bitN (r .reflectors) v) 1 ≡ reflectorIn (now (s .entry)) n v)
+        × ((v : ℕ) → eqb (bitN (r .skips) v) 1 ≡ skipsIn (now (s .entry)) n v) ⌝ }
+{
+    let mut reflectors = 0;
+    let mut skips = 0;
+    let mut v = 0;
+    while v < n {
+        let role = s[5 * v];
+        reflectors = marked(reflectors, v, role != CLIENT);
+        skips = marked(skips, v, role == SKIPPING);
+        v += 1;
+    }
+    RoleWords { reflectors, skips }
+}
+
+// The routers that a list's numbers name.
+fn listed_word(numbers: &[u8]) -> u64
+    requires { ⌜ ((j : ℕ) → j < length (now numbers) → getD (now numbers) j 0 < 64) ⌝ }
+    ensures { λ r. ⌜ ((v : ℕ) → eqb (bitN r v) 1 ≡ named (now (numbers .entry)) v) ⌝ }
+{
+    let mut word = 0;
+    let mut j = 0;
+    while j < numbers.len() {
+        word = base::bits::with_bit(word, base::wide(numbers[j]));
+        j += 1;
+    }
+    word
+}
+
+// The row of neighbours of each router; s is the body of kind 2.
+fn neighbour_rows(s: &[u8], rows: &mut [u64; 64])
+    requires { ⌜ (now rows ≡ replicate 64 0)
+        × ((j : ℕ) → j < sessionCount (now s) → (sessionFirst (now s) j < 64) × (sessionSecond (now s) j < 64)) ⌝ }
+    ensures { λ r. ⌜ ((w v : ℕ) → eqb (bits (now (rows .exit)) w v) 1 ≡ inSession (now (s .entry)) w v) ⌝ }
+{
+    let count = s.len() / 2;
+    let mut j = 0;
+    while j < count {
+        let first = base::wide(s[2 * j]);
+        let second = base::wide(s[2 * j + 1]);
+        base::bits::set_bit(rows, first, second);
+        base::bits::set_bit(rows, second, first);
+        j += 1;
+    }
+}
+
+// The network of a plan with one of its lists; the rows of neighbours are lent as zeros.
+pub fn decode(plan: &[u8], list: usize, rows: &mut [u64; 64]) -> Network
+    requires { ⌜ (planRefusal (now plan) ≡ 0) × (list < listCount (now plan)) × (now rows ≡ replicate 64 0) ⌝ }
+    ensures { λ r. ⌜ ReadFrom (now (plan .entry)) list r (now (rows .exit)) ⌝ }
+{
+    let n = base::wide(plan[ROUTER_COUNT]);
+    let roles = role_words(plan_read::parts::part(plan, ROUTERS), n);
+    neighbour_rows(plan_read::parts::part(plan, SESSIONS), rows);
+    let span = plan_read::lists::list_span(plan, list);
+    let start = span.start;
+    let stop = start + span.count;
+    let listed = listed_word(&plan[start..stop]);
+    Network {
+        n,
+        reflectors: roles.reflectors,
+        skips: roles.skips,
+        listed,
+    }
+}

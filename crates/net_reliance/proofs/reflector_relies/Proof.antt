@@ -1,0 +1,76 @@
+-- Each way is a case of rule 3.
+use native.Mathlib.Omega.{arith}
+use mathlib.Core.Path.{_≡_, refl, _∙_, sym, ap, ap₂}
+use borrow.Author.Needs.{needs}
+use lib.Dec.{eqb}
+use Rattle.base.proofs.Numbers.{yes, no}
+use Rattle.route_rules.specs.Instance.{Instance, isRouter}
+use Rattle.net_rules.specs.Decoded.{decoded}
+use Rattle.route_rules.specs.Reliance.{offer, betterOffer}
+use Rattle.route_rules.specs.RouterBytes.{asRouter}
+use Rattle.route_rules.proofs.RouterBytes.{router-is}
+use Rattle.route_rules.proofs.Reliance.{bestClient-below, offer-below, relies-own, offer-stranger, offer-neighbour}
+use Rattle.net_reliance.proofs.reflector_relies.Statement.{statement}
+use Rattle.net_reliance.proofs.reflector_relies.Tie as tie
+
+abbrev instance : tie.Start → Instance
+instance c = decoded (c .args .net) (c .args .rows .now) (c .args .distances .now)
+
+returns : tie.Need-returns
+returns c =
+    let e = c .before in
+    let d = e .before .before .before in
+    let a = d .args in
+    ap (λ x. eqb x (a .v)) (c .wide .ensures .0)
+    ∙ sym (relies-own (instance d) _ _ (d .pre .3 .unlisted) (d .pre .3 .reflector) (no _ (e .before .has-bit .ensures) (e .if1 .taken))
+    ∙ ap (isRouter (a .v)) (sym (d .pre .3 .client))
+    ∙ router-is _ _ (omega arith))
+
+returns-2 : tie.Need-returns-2
+returns-2 c =
+    let e = c .before .before .before in
+    let d = e .before .before .before in
+    sym (offer-stranger (instance d) _ _ (d .pre .3 .unlisted) (d .pre .3 .reflector) (yes _ (e .before .has-bit .ensures) (e .if1 .left)) (no _ (c .before .has-bit2 .ensures) (c .if2 .taken)))
+
+-- v's offer, from its best client
+offer-is : (c : tie.After-offered)
+    → let d = c .before .before .before .before .before .before .before in asRouter (c .offered .result) ≡ offer (instance d) (d .args .v)
+offer-is c =
+    let e = c .before .before .before .before in
+    let d = e .before .before .before in
+    c .offered .ensures (d .args .rows .now) (d .args .distances .now) (d .pre .4 (yes _ (e .before .has-bit .ensures) (e .if1 .left)))
+
+better-offer-requires : tie.Need-better-offer-requires
+better-offer-requires c κs =
+    let d = c .before .before .before .before .before .before .before in
+    let p = d .pre in (
+      p .1,
+      p .0 .count,
+      p .0 .pairs,
+      rw (offer-is c) (offer-below (instance d) _ (p .2)),
+      rw (p .3 .client) (bestClient-below (instance d) _),
+    )
+
+returns-3 : tie.Need-returns-3
+returns-3 c =
+    let g = c .before .before in
+    let e = g .before .before .before in
+    let d = e .before .before .before in
+    c .better-offer .ensures (instance d) (record { dist = refl; way = refl })
+    ∙ ap₂ (betterOffer (instance d) (d .args .w)) (offer-is (c .before)) (d .pre .3 .client)
+    ∙ sym (offer-neighbour (instance d) _ _ (d .pre .3 .unlisted) (d .pre .3 .reflector) (yes _ (e .before .has-bit .ensures) (e .if1 .left)) (yes _ (g .before .has-bit2 .ensures) (g .if2 .left)))
+
+pub reflector-relies-spec : {M : Type 1} → statement M
+reflector-relies-spec =
+    tie.close
+    (tie.spec
+    (λ c κs. search needs)
+    (λ c κs. search needs)
+    returns
+    (λ c. search needs)
+    (λ c. search needs)
+    (λ c κs. search needs)
+    returns-2
+    (λ c κs. search needs)
+    better-offer-requires
+    returns-3)

@@ -1,0 +1,28 @@
+-- The examples, worked out from the bytes.
+use mathlib.Core.Path.{refl}
+use Rattle.base.specs.Below.{anyBelow}
+use Rattle.plan_rules.specs.Sessions.{pairs, inSession}
+use Rattle.plan_rules.specs.Lists.{listPlace}
+use Rattle.net_rules.specs.FromPlan.{named}
+use Rattle.net_rules.specs.Examples.{threeRouters, NetworkExamples}
+
+pub network-examples : NetworkExamples
+unfolding threeRouters pairs inSession named listPlace anyBelow
+network-examples =
+    record {
+      count = refl;
+      reflector = refl;
+      client = refl;
+      role3 = refl;
+      role3Skips = refl;
+      role1DoesNot = refl;
+      neighbours = refl;
+      inEitherOrder = refl;
+      strangers = refl;
+      distance = refl;
+      distanceBack = refl;
+      listed = refl;
+      notByPosition = refl;
+      ofTheListAsked = refl;
+      ofThatListAlone = refl;
+    }

@@ -1,0 +1,139 @@
+-- The network of a plan that is not refused: what its bodies give the code that reads it, and what holds of it.
+use Prim.Native.Nat.{ℕ, _+_, _-_, _*_, _<_}
+use native.Mathlib.Omega.{arith}
+use mathlib.Core.Path.{_≡_, refl, _∙_, sym, ap, ap₂, fun-ext}
+use mathlib.Core.Bool.{Bool, true, false, not, _&&_, _||_, and-comm, or-comm}
+use mathlib.Core.List.{List}
+use mathlib.Core.Logic.{_⊎_, inl, inr, ⊎-elim}
+use borrow.Author.Tests.{eq-eqb, lt-ltb, eqb-true}
+use lib.Dec.{eqb, lit<}
+use lib.ListN.{length, getD, take, drop}
+use Rattle.base.specs.Below.{anyBelow}
+use Rattle.base.specs.Bits.{bitN, bits}
+use Rattle.base.proofs.Below.{Witness, any-at}
+use Rattle.base.proofs.Numbers.{facts, eq-or-ne}
+use Rattle.plan_contents.specs.Header.{routerCount}
+use Rattle.plan_contents.specs.Contents.{routersBody, sessionsBody, distancesBody}
+use Rattle.plan_rules.specs.Routers.{role, reflectorIn}
+use Rattle.plan_rules.specs.Sessions.{sessionCount, sessionFirst, sessionSecond, pairs, inSession}
+use Rattle.plan_rules.specs.Distances.{distanceIn, wayIn}
+use Rattle.plan_rules.proofs.Neighbours.{pairs-are, session-swap}
+use Rattle.plan_rules.specs.EgressLists.{listCount, listSize, listNumbers, SpanOf}
+use Rattle.plan_rules.specs.Refusal.{planRefusal}
+use Rattle.plan_rules.specs.Passed.{Passed}
+use Rattle.plan_rules.proofs.Passed.{passed, part-length}
+use Rattle.plan_rules.proofs.ListWithin.{numbers-of}
+use Rattle.net_rules.specs.declared.Network.{Network}
+use Rattle.net_rules.specs.Decoded.{decoded}
+use Rattle.net_rules.specs.FromPlan.{skipsIn, named, instanceOf, RoleOf, ReadFrom, Trusted}
+use Rattle.net_rules.specs.WellFormed.{WellFormed}
+
+module _ (plan : List ℕ) (p : Passed plan) where
+  pub routers-length : length (routersBody plan) ≡ 5 * routerCount plan
+  routers-length = part-length plan p 0 (lit< tt) ∙ p .contents .routersSize
+
+  pub session-below : (j : ℕ) → j < sessionCount (sessionsBody plan) → (sessionFirst (sessionsBody plan) j < 64) × (sessionSecond (sessionsBody plan) j < 64)
+  session-below j l = omega (arith, p .sessions .below j l, p .sessions .ordered j l, p .count .most)
+
+  pub number-below : (k : ℕ) → k < listCount plan → (j : ℕ) → j < length (listNumbers plan k) → getD (listNumbers plan k) j 0 < routerCount plan
+  number-below k l j h =
+      let numbers = numbers-of plan p k l in
+      numbers .below j (omega (arith, numbers .count))
+
+-- the stretch of the plan that is read for list k
+pub span-numbers : (plan : List ℕ) (k start count : ℕ) → SpanOf plan k start count
+    → take (start + count - start) (drop start plan) ≡ listNumbers plan k
+span-numbers plan k start count s =
+    let size : start + count - start ≡ listSize plan k = omega (arith, s .counts) in
+    ap₂ (λ m b. take m (drop b plan)) size (s .starts)
+
+-- two networks whose parts agree at every number are one
+pub read-same : (plan : List ℕ) (k : ℕ) (net : Network) (rows : List ℕ) → net .n ≡ routerCount plan
+    → ((v : ℕ) → eqb (bitN (net .reflectors) v) 1 ≡ reflectorIn (routersBody plan) (routerCount plan) v)
+    → ((v : ℕ) → eqb (bitN (net .skips) v) 1 ≡ skipsIn (routersBody plan) (routerCount plan) v)
+    → ((w v : ℕ) → eqb (bits rows w v) 1 ≡ inSession (sessionsBody plan) w v)
+    → ((v : ℕ) → eqb (bitN (net .listed) v) 1 ≡ named (listNumbers plan k) v)
+    → decoded net rows (distancesBody plan) ≡ instanceOf plan k
+read-same plan k net rows count reflectors skips sessions numbers =
+    λ i. record {
+      n = count i;
+      reflector = λ v. reflectors v i;
+      skips = λ v. skips v i;
+      neighbour = λ w v. sessions w v i;
+      dist = distanceIn (distancesBody plan) (count i);
+      way = wayIn (distancesBody plan) (count i);
+      listed = λ v. numbers v i;
+    }
+
+module _ (plan : List ℕ) (p : Passed plan) where
+  neighbour-bounds : (w v : ℕ) → inSession (sessionsBody plan) w v ≡ true → (w ≡ v → ⊥) × (v < routerCount plan)
+  unfolding inSession
+  neighbour-bounds w v h =
+      let s = sessionsBody plan in
+      let found : Witness (pairs s w v) (sessionCount s) = any-at (pairs s w v) (sessionCount s) h in
+      let below = p .sessions .below (found .at) (found .below) in
+      let ordered = p .sessions .ordered (found .at) (found .below) in
+      ⊎-elim
+      (λ (e : (sessionFirst s (found .at) ≡ w) × (sessionSecond s (found .at) ≡ v)). (λ same. omega arith, omega arith))
+      (λ (e : (sessionSecond s (found .at) ≡ w) × (sessionFirst s (found .at) ≡ v)). (λ same. omega arith, omega arith))
+      (pairs-are s w v (found .at) (found .holds))
+
+  neighbour-apart : (v : ℕ) → inSession (sessionsBody plan) v v ≡ false
+  neighbour-apart v = go (inSession (sessionsBody plan) v v) refl
+    where
+      go : (b : Bool) → inSession (sessionsBody plan) v v ≡ b → inSession (sessionsBody plan) v v ≡ false
+      go true e = absurd (neighbour-bounds v v e .0 refl)
+      go false e = e
+
+  listed-below : (k : ℕ) → k < listCount plan → (v : ℕ) → named (listNumbers plan k) v ≡ true → v < routerCount plan
+  unfolding named
+  listed-below k l v h =
+      let found : Witness (λ j. eqb (getD (listNumbers plan k) j 0) v) (length (listNumbers plan k)) = any-at _ _ h in
+      omega (arith, number-below plan p k l (found .at) (found .below), eqb-true (getD (listNumbers plan k) (found .at) 0) v (found .holds))
+
+  module _ (k v : ℕ) (l : v < routerCount plan) where
+    role-of : (number : ℕ) → role (routersBody plan) v ≡ number → RoleOf plan (instanceOf plan k) v number (not (eqb number 2)) (eqb number 3)
+    role-of number e =
+        (e, ap₂ (λ b r. b && not (eqb r 2)) (lt-ltb v _ l) e, ap₂ (λ b r. b && eqb r 3) (lt-ltb v _ l) e)
+
+    roles :
+        RoleOf plan (instanceOf plan k) v 1 true false
+        ⊎ RoleOf plan (instanceOf plan k) v 2 false false
+        ⊎ RoleOf plan (instanceOf plan k) v 3 true true
+    roles =
+        let r = role (routersBody plan) v in
+        ⊎-elim (λ (e : r ≡ 1). inl (role-of 1 e))
+        (λ (d : r ≡ 1 → ⊥).
+        inr
+        (⊎-elim (λ (e : r ≡ 2). inl (role-of 2 e))
+        (λ (f : r ≡ 2 → ⊥). inr (role-of 3 (omega (arith, p .routers .roleLeast v l, p .routers .roleMost v l))))
+        (eq-or-ne r 2)))
+        (eq-or-ne r 1)
+
+pub trusted : (plan : List ℕ) (k : ℕ) → planRefusal plan ≡ 0 → k < listCount plan → Trusted plan (instanceOf plan k)
+trusted plan k accepted l =
+    let p = passed plan accepted in
+    record {
+      symmetric = session-swap (sessionsBody plan);
+      apart = neighbour-apart plan p;
+      neighbourBelow = λ w v h. neighbour-bounds plan p w v h .1;
+      listedBelow = listed-below plan p k l;
+      distanceOwn = p .distances .diagonal;
+      wayOwn = λ u l. ap (λ d. not (eqb d 65535)) (p .distances .diagonal u l);
+      roles = roles plan p k;
+    }
+
+-- the body of kind 3 has a distance for every pair
+pub distances-length : (plan : List ℕ) → planRefusal plan ≡ 0 → length (distancesBody plan) ≡ 2 * (routerCount plan * routerCount plan)
+distances-length plan h = part-length plan (passed plan h) 2 (lit< tt) ∙ passed plan h .contents .distancesSize
+
+-- what is read from a plan is as the workers rely on
+pub well-formed : (plan : List ℕ) (k : ℕ) (net : Network) (rows : List ℕ) → planRefusal plan ≡ 0 → k < listCount plan
+    → ReadFrom plan k net rows → WellFormed net rows (distancesBody plan)
+well-formed plan k net rows h l r =
+    let t = trusted plan k h l in
+    record {
+      count = r .most;
+      neighbours = λ w v b. rw (r .count) (t .neighbourBelow w v (sym (ap (λ I. I .neighbour w v) (r .same)) ∙ eq-eqb _ 1 b));
+      pairs = rw (r .count, distances-length plan h) (omega arith);
+    }

@@ -1,4 +1,0 @@
-pub mod Refusal
-pub mod Refused
-pub mod Passed
-pub mod EgressLists

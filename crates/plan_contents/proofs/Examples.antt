@@ -1,0 +1,30 @@
+-- The examples, worked out from the rules.
+use mathlib.Core.Path.{refl}
+use Rattle.plan_contents.specs.Header.{headerOk, routerCountOk}
+use Rattle.plan_contents.specs.Contents.{kindsOk, placesOk, sizesOk, contentsOk}
+use Rattle.plan_contents.specs.Examples.{firstBytes, otherCount, otherLetter, oneByteShort, entriesOf, fourEntries, ContentsExamples}
+
+pub contents-examples : ContentsExamples
+unfolding firstBytes otherCount otherLetter oneByteShort entriesOf fourEntries headerOk routerCountOk kindsOk placesOk sizesOk contentsOk
+contents-examples =
+    record {
+      header = refl;
+      anotherCount = refl;
+      anotherLetter = refl;
+      tooShort = refl;
+      count = refl;
+      sixtyFour = refl;
+      sixtyFive = refl;
+      noRouter = refl;
+      highBytes = refl;
+      accepted = refl;
+      byLowBytes = refl;
+      gap = refl;
+      otherEnd = refl;
+      inOrder = refl;
+      kindsExchanged = refl;
+      oddSessions = refl;
+      routersShort = refl;
+      distancesLong = refl;
+      part = refl;
+    }

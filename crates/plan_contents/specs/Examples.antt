@@ -1,0 +1,77 @@
+-- Examples that tell each rule of the header and the contents from a misreading of it, in literal bytes. Beside each stands what a
+-- misreading gives.
+use Prim.Native.Nat.{ℕ, _+_}
+use mathlib.Core.Path.{_≡_}
+use mathlib.Core.Bool.{true, false}
+use mathlib.Core.List.{List, [], _∷_}
+use lib.ListN.{replicate}
+use Rattle.plan_contents.specs.declared.entries.Entry.{Entry}
+use Rattle.plan_contents.specs.Header.{headerOk, routerCount, routerCountOk}
+use Rattle.plan_contents.specs.Contents.{contentsOf, contentsOk, body}
+
+-- the first 26 bytes of a plan of twelve routers with no session: "kind (1 byte), offset (2), length (2)"
+unfoldable pub firstBytes : List ℕ
+firstBytes =
+    82 ∷ 82 ∷ 80 ∷ 49 ∷ 12 ∷ 4
+    ∷ 1 ∷ 26 ∷ 0 ∷ 60 ∷ 0
+    ∷ 2 ∷ 86 ∷ 0 ∷ 0 ∷ 0
+    ∷ 3 ∷ 86 ∷ 0 ∷ 32 ∷ 1
+    ∷ 4 ∷ 118 ∷ 1 ∷ 3 ∷ 0
+    ∷ []
+
+-- .. with another byte 5
+unfoldable pub otherCount : List ℕ
+otherCount = 82 ∷ 82 ∷ 80 ∷ 49 ∷ 12 ∷ 5 ∷ replicate 20 0
+
+-- .. with another letter
+unfoldable pub otherLetter : List ℕ
+otherLetter = 82 ∷ 82 ∷ 80 ∷ 50 ∷ 12 ∷ 4 ∷ replicate 20 0
+
+-- .. and its first 25 bytes
+unfoldable pub oneByteShort : List ℕ
+oneByteShort = 82 ∷ 82 ∷ 80 ∷ 49 ∷ 12 ∷ 4 ∷ replicate 19 0
+
+-- contents of kinds and sizes as given, each body after the one before; the lists have 3 bytes
+unfoldable pub entriesOf : (first second routersSize sessionsSize distancesSize : ℕ) → List Entry
+entriesOf first second routersSize sessionsSize distancesSize =
+    record { kind = first; offset = 26; size = routersSize }
+    ∷ record { kind = second; offset = 26 + routersSize; size = sessionsSize }
+    ∷ record { kind = 3; offset = 26 + routersSize + sessionsSize; size = distancesSize }
+    ∷ record { kind = 4; offset = 26 + routersSize + sessionsSize + distancesSize; size = 3 }
+    ∷ []
+
+-- its contents
+unfoldable pub fourEntries : (distancesSize listsOffset : ℕ) → List Entry
+fourEntries distancesSize listsOffset =
+    record { kind = 1; offset = 26; size = 60 }
+    ∷ record { kind = 2; offset = 86; size = 0 }
+    ∷ record { kind = 3; offset = 86; size = distancesSize }
+    ∷ record { kind = 4; offset = listsOffset; size = 3 }
+    ∷ []
+
+pub record ContentsExamples : Type 0 where
+  -- "bytes 0 to 3: the letters RRP1", "byte 5: 4", "fewer than 26"
+  pub header : headerOk firstBytes ≡ true
+  pub anotherCount : headerOk otherCount ≡ false  -- without byte 5: true
+  pub anotherLetter : headerOk otherLetter ≡ false  -- without byte 3: true
+  pub tooShort : headerOk oneByteShort ≡ false  -- from 25 bytes: true
+  -- "byte 4: n, the number of routers, 1 to 64"
+  pub count : routerCount firstBytes ≡ 12  -- byte 5: 4
+  pub sixtyFour : routerCountOk 64 ≡ true  -- below 64: false
+  pub sixtyFive : routerCountOk 65 ≡ false  -- at most 65: true
+  pub noRouter : routerCountOk 0 ≡ false  -- from 0: true
+  -- "bytes 6 to 25: four entries of kind (1 byte), offset (2), length (2)", "the low byte first": 118 + 256 and 32 + 256
+  pub highBytes : contentsOf firstBytes ≡ fourEntries 288 374  -- by the low bytes: 32, 118
+  -- "The first offset is 26, each next offset is the end of the body before, and the last body ends with the plan."
+  pub accepted : contentsOk (fourEntries 288 374) 12 377 ≡ true
+  pub byLowBytes : contentsOk (fourEntries 32 118) 12 377 ≡ false
+  pub gap : contentsOk (fourEntries 288 375) 12 378 ≡ false  -- with a gap: true
+  pub otherEnd : contentsOk (fourEntries 288 374) 12 378 ≡ false  -- with bytes after the lists: true
+  -- "The kinds are 1, 2, 3, 4 in that order.", "kind 1 or 3 has another length, or kind 2 an odd one": of two routers
+  pub inOrder : contentsOk (entriesOf 1 2 10 2 8) 2 49 ≡ true
+  pub kindsExchanged : contentsOk (entriesOf 2 1 10 2 8) 2 49 ≡ false  -- in any order: true
+  pub oddSessions : contentsOk (entriesOf 1 2 10 3 8) 2 50 ≡ false  -- of any length: true
+  pub routersShort : contentsOk (entriesOf 1 2 9 2 8) 2 48 ≡ false  -- of any length: true
+  pub distancesLong : contentsOk (entriesOf 1 2 10 2 9) 2 50 ≡ false  -- of any length: true
+  -- "Each body is read as a part of the plan that starts at its offset."
+  pub part : body (9 ∷ 8 ∷ 7 ∷ 6 ∷ 5 ∷ []) (record { kind = 4; offset = 2; size = 2 }) ≡ 7 ∷ 6 ∷ []  -- from 0: 9 8

@@ -1,0 +1,4 @@
+pub mod Header
+pub mod Contents
+pub mod HeaderFacts
+pub mod Examples

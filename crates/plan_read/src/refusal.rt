@@ -1,0 +1,55 @@
+// The rows of the refusal table that a plan has, in order: 1, 2, 3, 4, 5, 13, 6, 7.
+
+use plan_contents::entries;
+use plan_contents::header;
+ghost use mathlib.Core.Path.{_≡_};
+ghost use mathlib.Core.Bool.{true};
+ghost use Prim.Native.Nat.{_≤_};
+ghost use lib.ListN.{length};
+ghost use Rattle.plan_contents.specs.Contents.{contentsOk};
+ghost use Rattle.plan_rules.specs.Refusal.{bodyChecks, planRefusal};
+
+// Rows 4, 5, 13, 6 and 7: each body is passed to its reader as a part of the plan.
+fn bodies_refusal(plan: &[u8], table: [entries::Entry; 4], n: u8) -> u8
+    requires { ⌜ (n ≤ 64) × (contentsOk table n (length (now plan)) ≡ true) ⌝ }
+    ensures { λ r. ⌜ r ≡ bodyChecks (now (plan .entry)) table n 0 ⌝ }
+{
+    let routers = entries::body_of(plan, table[entries::ROUTERS]);
+    if !plan_routers::routers_ok(routers, n as usize) {
+        return 4;
+    }
+    let sessions = entries::body_of(plan, table[entries::SESSIONS]);
+    let answers = plan_sessions::answers(routers, sessions, n as usize);
+    if !answers.ordered {
+        return 5;
+    }
+    if !answers.few {
+        return 13;
+    }
+    let distances = entries::body_of(plan, table[entries::DISTANCES]);
+    if !plan_distances::distances_ok(distances, n as usize) {
+        return 6;
+    }
+    let lists = entries::body_of(plan, table[entries::LISTS]);
+    if !plan_lists::lists_ok(lists, n) {
+        return 7;
+    }
+    0
+}
+
+pub fn refusal(plan: &[u8]) -> u8
+    ensures { λ r. ⌜ r ≡ planRefusal (now (plan .entry)) ⌝ }
+{
+    if !plan_contents::header::header_ok(plan) {
+        return 1;
+    }
+    let n = plan[header::ROUTER_COUNT];
+    if !plan_contents::header::router_count_ok(n) {
+        return 2;
+    }
+    let table = entries::read_contents(plan);
+    if !entries::contents_ok(table, n as usize, plan.len()) {
+        return 3;
+    }
+    bodies_refusal(plan, table, n)
+}

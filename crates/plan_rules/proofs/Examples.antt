@@ -1,0 +1,59 @@
+-- The examples, worked out from the rules.
+use mathlib.Core.Path.{refl}
+use Rattle.base.specs.Below.{allBelow, anyBelow}
+use Rattle.base.specs.Seek.{count}
+use Rattle.plan_rules.specs.Routers.{routerOk, routersOk}
+use Rattle.plan_rules.specs.Sessions.{sessionOk, sessionsOk, pairs, inSession}
+use Rattle.plan_rules.specs.Parents.{parentCount, fewParents, parentsOk}
+use Rattle.plan_rules.specs.Distances.{distancesOk}
+use Rattle.plan_rules.specs.Lists.{listPlace, memberOk, listAtOk, listOk, eachListOk, listsOk}
+use Rattle.plan_rules.specs.Examples.{aroundClient2, allWith2, BodiesExamples}
+
+pub bodies-examples : BodiesExamples
+unfolding
+    aroundClient2 allWith2
+    routerOk routersOk sessionOk sessionsOk pairs inSession parentCount fewParents parentsOk distancesOk
+    listPlace memberOk listAtOk listOk eachListOk listsOk allBelow anyBelow count
+bodies-examples =
+    record {
+      fourBytes = refl;
+      lowBytesFall = refl;
+      lowBytesRise = refl;
+      lowThreeFall = refl;
+      equalIdentifiers = refl;
+      roleZero = refl;
+      roleThree = refl;
+      roleFour = refl;
+      client = refl;
+      thirdRole = refl;
+      byFirstThenSecond = refl;
+      secondFalls = refl;
+      higherFirst = refl;
+      numberAtN = refl;
+      noSession = refl;
+      inEitherOrder = refl;
+      strangers = refl;
+      four = refl;
+      five = refl;
+      fiveOfRole3 = refl;
+      fourAndAClient = refl;
+      fiveOfAReflector = refl;
+      threeEach = refl;
+      highByte = refl;
+      rowThenColumn = refl;
+      farthest = refl;
+      noWay = refl;
+      wayBack = refl;
+      cutOff = refl;
+      diagonal = refl;
+      cutOffFromItself = refl;
+      secondList = refl;
+      itsNumber = refl;
+      lastNumber = refl;
+      listedAtN = refl;
+      numbersFall = refl;
+      emptyList = refl;
+      noList = refl;
+      emptyBody = refl;
+      oneByteAfter = refl;
+    }

@@ -1,0 +1,11 @@
+pub mod Examples
+pub mod Rising
+pub mod Facts
+pub mod Neighbours
+pub mod Parents
+pub mod ListWalk
+pub mod Refused
+pub mod Cascade
+pub mod Table
+pub mod Passed
+pub mod ListWithin

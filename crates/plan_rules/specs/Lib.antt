@@ -1,0 +1,12 @@
+pub mod Rising
+pub mod Routers
+pub mod Sessions
+pub mod Parents
+pub mod Distances
+pub mod Lists
+pub mod BodyFacts
+pub mod Examples
+pub mod Refusal
+pub mod Refused
+pub mod Passed
+pub mod EgressLists

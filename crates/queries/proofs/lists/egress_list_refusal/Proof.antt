@@ -1,6 +1,0 @@
-use borrow.Author.Needs.{needs}
-use Rattle.queries.proofs.lists.egress_list_refusal.Statement.{statement}
-use Rattle.queries.proofs.lists.egress_list_refusal.Tie as tie
-
-pub egress-list-refusal-spec : {M : Type 1} → statement M
-egress-list-refusal-spec = tie.close (tie.spec (λ c κs. search needs) (λ c. search needs))

@@ -1,9 +1,0 @@
--- The examples, worked out from the definitions that the contracts cite.
-use mathlib.Core.Path.{refl}
-use Rattle.fields.specs.Fields.{digits, decimal, spaced}
-use Rattle.report.specs.Text.{headLine, refusedLine, stableLine, suspectLine, marginLine, noneLine}
-use Rattle.report.specs.Examples.{examples, LineExamplesHold}
-
-pub line-examples : LineExamplesHold
-unfolding examples headLine refusedLine stableLine suspectLine marginLine noneLine spaced digits decimal
-line-examples = refl

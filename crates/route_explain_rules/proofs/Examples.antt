@@ -1,0 +1,54 @@
+-- The examples, worked out from the definitions that the contract cites.
+use mathlib.Core.Path.{refl}
+use Rattle.base.specs.Below.{anyBelow}
+use Rattle.base.specs.Best.{keepBest, best}
+use Rattle.plan_rules.specs.Sessions.{pairs, inSession}
+use Rattle.plan_rules.specs.Lists.{listPlace}
+use Rattle.net_rules.specs.FromPlan.{named}
+use Rattle.route_rules.specs.Preference.{prefers, marginOf}
+use Rattle.route_rules.specs.Reliance.{listedClientOf, bestClient, offer, betterOffer, relies}
+use Rattle.route_explain_rules.specs.Explained.{againstOwn, byOffer, onReflector, onClient, explained}
+use Rattle.route_explain_rules.specs.Reasons.{reasons}
+use Rattle.route_explain_rules.specs.Examples.{plan, shared, ExplainingExamples}
+
+pub explaining-examples : ExplainingExamples
+unfolding
+    plan shared reasons betterOffer relies againstOwn byOffer onReflector onClient explained listedClientOf bestClient offer prefers marginOf pairs inSession named listPlace
+    anyBelow keepBest best
+explaining-examples =
+    record {
+      parent = refl;
+      listedParent = refl;
+      skippingParent = refl;
+      peerClient = refl;
+      ownBestClient = refl;
+      betterOffer = refl;
+      anyOffer = refl;
+      sameRouter = refl;
+      notNeighbours = refl;
+      strangers = refl;
+      firstListed = refl;
+      listedReflectorFirst = refl;
+      unlistedClient = refl;
+      bothClients = refl;
+      everyThatApplies = refl;
+      notTheBest = refl;
+      clientWithoutAWay = refl;
+      noOffer = refl;
+      noWay = refl;
+      noWayBesideOwn = refl;
+      notBetter = refl;
+      sharedBestClient = refl;
+      tie = refl;
+      listedReflector = refl;
+      relied = refl;
+      reliedPlainly = refl;
+      rules = refl;
+      places = refl;
+      withOwn = refl;
+      withoutOwn = refl;
+      parentAlone = refl;
+      peerAlone = refl;
+      ruleAlone = refl;
+      reasonAlone = refl;
+    }

@@ -1,0 +1,4 @@
+pub mod Explained
+pub mod Reasons
+pub mod Values
+pub mod Examples

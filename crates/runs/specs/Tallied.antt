@@ -1,7 +1,0 @@
--- The round tally of the code.
-use Rattle.routing.specs.Rounds.{Tally}
-use Rattle.runs.specs.declared.tally.RoundTally.{RoundTally}
-
--- what it stands for
-abbrev pub tallied : RoundTally → Tally
-tallied t = record { seen = t .seen; missing = t .missing; ended = t .ended }

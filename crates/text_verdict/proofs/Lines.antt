@@ -1,0 +1,109 @@
+-- The line of a list, by what was found; and the text of a plan, by its refusal.
+use Prim.Native.Nat.{ℕ, _≤_, _<_}
+use native.Mathlib.Omega.{arith}
+use mathlib.Core.Path.{_≡_, refl, _∙_, sym, ap, ap₂}
+use mathlib.Core.Bool.{Bool, true, false, cond}
+use mathlib.Core.List.{List, _++_}
+use lib.ListN.{length, take, drop, length-append}
+use lib.Seq.{take-append-seam}
+use Rattle.base.specs.Seek.{flag, highest}
+use Rattle.base.proofs.Seek.{highest-under}
+use Rattle.plan_contents.specs.Header.{routerCount}
+use Rattle.plan_rules.specs.Refusal.{planRefusal}
+use Rattle.plan_rules.specs.EgressLists.{listCount}
+use Rattle.plan_rules.proofs.Passed.{passed}
+use Rattle.graph_ranks.specs.Rank.{rank}
+use Rattle.graph_ranks.proofs.RankRule.{rank-below}
+use Rattle.graph_groups.proofs.Sharing.{stable-acyclic}
+use Rattle.route_rules.proofs.Reliance.{relies-other}
+use Rattle.net_rules.specs.FromPlan.{instanceOf}
+use Rattle.net_verdict.specs.declared.Assessment.{Assessment}
+use Rattle.net_verdict.specs.declared.Assessment.the-variants.{Stable, Suspect}
+use Rattle.call_rules.proofs.Granted.{few-routers}
+use Rattle.call_query.specs.declared.size.SizeAnswer.{SizeAnswer}
+use Rattle.call_query.specs.Size.{sizeRouters, sizeLists, Sizes}
+use Rattle.call_verdict.specs.Verdict.{reliance, isStable, highestOf, cycleOf}
+use Rattle.plan_rules.proofs.Refused.{when-refused, when-given}
+use Rattle.text_lines.specs.Text.{headLine, refusedLine, stableLine, suspectLine}
+use Rattle.text_verdict_rules.specs.Listing.{listLine, listLines, planText}
+use Rattle.text_verdict.specs.Found.{foundLine, Printable}
+
+-- a plan that is not refused has n routers and m lists
+pub record Sized (plan : List ℕ) (n m : ℕ) : Type 0 where
+  pub ok : planRefusal plan ≡ 0
+  pub routers : n ≡ routerCount plan
+  pub lists : m ≡ listCount plan
+  pub fewRouters : n ≤ 64
+  pub fewLists : m ≤ 64
+
+module _ (plan : List ℕ) where
+  pub text-refused : (number : ℕ) → number ≡ planRefusal plan → (number ≡ 0 → ⊥) → refusedLine number ≡ planText plan
+  unfolding planText
+  text-refused number e ne = ap refusedLine e ∙ sym (when-refused _ _ _ (λ z. ne (e ∙ z)))
+
+  -- where the plan passes
+  module _ (ok : planRefusal plan ≡ 0) where
+    few-lists : listCount plan ≤ 64
+    few-lists = passed plan ok .lists .most
+
+    module _ (k : ℕ) (asked : k < listCount plan) where
+      highest-few : isStable plan k ≡ true → highestOf plan k ≤ 64
+      unfolding isStable highestOf
+      highest-few s =
+          let R = reliance plan k in
+          let n = routerCount plan in
+          let none = stable-acyclic R n (λ i m. ap flag (relies-other (instanceOf plan k) i)) s in
+          let low : highest (rank R n) n ≤ n = highest-under (rank R n) n n (λ w l. omega (arith, rank-below R n none w l)) in
+          omega (arith, few-routers plan ok)
+
+      -- what was found says the list's line
+      pub found-says :
+          {r : Assessment} (shown shown′ : List ℕ) →
+          r ≡ cond (isStable plan k) (Stable (highestOf plan k)) (Suspect (length (cycleOf plan k))) →
+          shown′ ≡ cond (isStable plan k) shown (cycleOf plan k ++ drop (length (cycleOf plan k)) shown) →
+          length shown′ ≤ 64 →
+          Printable r k shown′ × (foundLine r k shown′ ≡ listLine plan k)
+      unfolding listLine
+      found-says {r} shown shown′ verdict cycled short = go (isStable plan k) refl
+        where
+          cycle : List ℕ
+          cycle = cycleOf plan k
+
+          -- what the verdict decides
+          by : {A : Type 0} {b : Bool} (x y : A) → isStable plan k ≡ b → cond (isStable plan k) x y ≡ cond b x y
+          by x y = ap (λ b. cond b x y)
+
+          line : {b : Bool} → isStable plan k ≡ b → cond b (stableLine k (highestOf plan k)) (suspectLine k cycle) ≡ listLine plan k
+          line s = sym (by (stableLine k (highestOf plan k)) (suspectLine k cycle) s)
+
+          go : (b : Bool) → isStable plan k ≡ b → Printable r k shown′ × (foundLine r k shown′ ≡ listLine plan k)
+          go true s =
+              let found : r ≡ Stable (highestOf plan k) = verdict ∙ by (Stable (highestOf plan k)) (Suspect (length cycle)) s in
+              rw found ((omega (arith, few-lists), omega (arith, highest-few s)), line s)
+          go false s =
+              let found : r ≡ Suspect (length cycle) = verdict ∙ by (Stable (highestOf plan k)) (Suspect (length cycle)) s in
+              let left : shown′ ≡ cycle ++ drop (length cycle) shown = cycled ∙ by shown (cycle ++ drop (length cycle) shown) s in
+              let long : length cycle ≤ length shown′ = omega (arith, ap length left ∙ length-append cycle (drop (length cycle) shown)) in
+              rw found (
+                (omega (arith, few-lists), long, omega arith),
+                ap (suspectLine k) (ap (take (length cycle)) left ∙ take-append-seam cycle _) ∙ line s,
+              )
+
+-- what the size call answers of a plan that passes
+pub sized : {plan : List ℕ} {r : SizeAnswer} → Sizes plan r → r .refused ≡ 0 → Sized plan (r .routers) (r .lists)
+unfolding sizeRouters sizeLists
+sized {plan} {r} s passes =
+    let ok : planRefusal plan ≡ 0 = sym (s .number) ∙ passes in
+    let n : r .routers ≡ routerCount plan = s .routers ∙ when-given _ _ _ ok in
+    let m : r .lists ≡ listCount plan = s .lists ∙ when-given _ _ _ ok in
+    record {
+      ok = ok;
+      routers = n;
+      lists = m;
+      fewRouters = omega (arith, few-routers plan ok);
+      fewLists = omega (arith, few-lists plan ok);
+    }
+
+pub text-given : {plan : List ℕ} {n m : ℕ} → Sized plan n m → headLine n m ++ listLines plan m ≡ planText plan
+unfolding planText
+text-given {plan} s = ap₂ (λ n m. headLine n m ++ listLines plan m) (s .routers) (s .lists) ∙ sym (when-given _ _ _ (s .ok))

@@ -1,0 +1,59 @@
+-- Examples that tell the text of a plan from a misreading of it: plans, and all that the verdict program prints, in literal bytes.
+use Prim.Native.Nat.{ℕ}
+use mathlib.Core.Path.{_≡_}
+use mathlib.Core.List.{List, [], _∷_, _++_, map}
+use Rattle.text_verdict_rules.specs.Listing.{planText}
+
+-- "M3's distances with lists 2,3 and 3"
+unfoldable pub examplePlan : List ℕ
+examplePlan =
+    82 ∷ 82 ∷ 80 ∷ 49 ∷ 4 ∷ 4  -- the letters RRP1, n, the number of contents entries
+    ∷ 1 ∷ 26 ∷ 0 ∷ 20 ∷ 0  -- contents: kind, offset, length of the routers
+    ∷ 2 ∷ 46 ∷ 0 ∷ 6 ∷ 0  -- .. of the sessions
+    ∷ 3 ∷ 52 ∷ 0 ∷ 32 ∷ 0  -- .. of the distances
+    ∷ 4 ∷ 84 ∷ 0 ∷ 6 ∷ 0  -- .. of the lists
+    ∷ 1 ∷ 10 ∷ 0 ∷ 0 ∷ 0  -- router 0: role, identifier
+    ∷ 1 ∷ 20 ∷ 0 ∷ 0 ∷ 0
+    ∷ 2 ∷ 30 ∷ 0 ∷ 0 ∷ 0
+    ∷ 2 ∷ 40 ∷ 0 ∷ 0 ∷ 0
+    ∷ 0 ∷ 1 ∷ 0 ∷ 2 ∷ 1 ∷ 3  -- sessions
+    ∷ 0 ∷ 0 ∷ 30 ∷ 0 ∷ 10 ∷ 0 ∷ 6 ∷ 0  -- distances from 0
+    ∷ 30 ∷ 0 ∷ 0 ∷ 0 ∷ 6 ∷ 0 ∷ 10 ∷ 0
+    ∷ 30 ∷ 0 ∷ 30 ∷ 0 ∷ 0 ∷ 0 ∷ 30 ∷ 0
+    ∷ 30 ∷ 0 ∷ 30 ∷ 0 ∷ 30 ∷ 0 ∷ 0 ∷ 0
+    ∷ 2  -- m
+    ∷ 2 ∷ 2 ∷ 3  -- list 0: count, numbers
+    ∷ 1 ∷ 3  -- list 1
+    ∷ []
+
+-- "it prints all of this, each line ended by byte 10"
+unfoldable pub exampleText : List ℕ
+exampleText =
+    114 ∷ 111 ∷ 117 ∷ 116 ∷ 101 ∷ 114 ∷ 115 ∷ 32 ∷ 52 ∷ 32 ∷ 108 ∷ 105 ∷ 115 ∷ 116 ∷ 115 ∷ 32 ∷ 50 ∷ 10  -- "routers 4 lists 2"
+    ∷ 48 ∷ 32 ∷ 115 ∷ 117 ∷ 115 ∷ 112 ∷ 101 ∷ 99 ∷ 116 ∷ 32 ∷ 50 ∷ 32 ∷ 48 ∷ 32 ∷ 49 ∷ 10  -- "0 suspect 2 0 1"
+    ∷ 49 ∷ 32 ∷ 115 ∷ 116 ∷ 97 ∷ 98 ∷ 108 ∷ 101 ∷ 32 ∷ 51 ∷ 10  -- "1 stable 3"
+    ∷ []
+
+-- "A refused plan gives the single line `refused`, a space and its number": here 1, and 3
+unfoldable pub refused1 : List ℕ
+refused1 = 114 ∷ 101 ∷ 102 ∷ 117 ∷ 115 ∷ 101 ∷ 100 ∷ 32 ∷ 49 ∷ 10 ∷ []
+
+unfoldable pub refused3 : List ℕ
+refused3 = 114 ∷ 101 ∷ 102 ∷ 117 ∷ 115 ∷ 101 ∷ 100 ∷ 32 ∷ 51 ∷ 10 ∷ []
+
+pub record Example : Type 0 where
+  pub plan : List ℕ
+  pub text : List ℕ
+
+-- the plan of document 01; no bytes at all; that plan with a byte after its last body (a text that went on after the refusal would
+-- have the lines of its two lists)
+unfoldable pub examples : List Example
+examples =
+    record { plan = examplePlan; text = exampleText }
+    ∷ record { plan = []; text = refused1 }
+    ∷ record { plan = examplePlan ++ (0 ∷ []); text = refused3 }
+    ∷ []
+
+-- The definition gives each example's text. The theorem is `text-examples`.
+abbrev pub TextExamplesHold : Type 0
+TextExamplesHold = map (λ e. planText (e .plan)) examples ≡ map (λ e. e .text) examples
