@@ -1,5 +1,5 @@
 #!/usr/bin/env python3
-"""Holds docs/TRACE.md to the repository, column by column, and prints what does not fit.
+"""Holds the pages of docs/trace to the repository, column by column, and prints what does not fit.
 
 An entry is `CRATE/FOLDER/FILE: NAME, NAME`, and of edits `CRATE/must-fail: NAME, NAME`. By column it must name
 - definition: what that file of specs/ declares with `pub`, or a field of a record there, RECORD.FIELD;
@@ -7,7 +7,7 @@ An entry is `CRATE/FOLDER/FILE: NAME, NAME`, and of edits `CRATE/must-fail: NAME
   that file of proofs/;
 - pinning example: what that file of specs/ or proofs/ declares, or a field of one of its records, FIELD, if of specs/
   what a theorem in the file of that name in proofs/ works out; or an output that the gate compares, CRATE/stdout or
-  tests/FOLDER/NAME.expected;
+  tests/FOLDER/NAME.expected; or a test that the gate runs, tests/NAME.py;
 - must-fail edit: an edit of that crate.
 A word in a comment declares nothing, nor does a name local to a proof. Each row has a contract, a theorem or an
 example, and where it has definitions a theorem or an example, but for inner definitions. No two edits have one name.
@@ -137,7 +137,11 @@ class Repository:
         return any(name in line[1:] or line[:2] == [name, '∷'] for line in lines)
 
     def has_output(self, name):
-        """Whether there is such an expected output: CRATE/stdout, or tests/FOLDER/NAME.expected."""
+        """Whether there is such an expected output, CRATE/stdout or tests/FOLDER/NAME.expected, or such a test."""
+        if re.fullmatch(r'tests/\w+\.py', name):
+            gate = [self.root / '.ci/run', *sorted((self.root / 'tests').glob('run-*.sh'))]
+            runs = any(f'python3 {name}' in path.read_text(encoding='utf8') for path in gate if path.is_file())
+            return runs and (self.root / name).is_file()
         if re.fullmatch(r'tests/\w+/[^/]+\.expected', name):
             return (self.root / name).is_file()
         return re.fullmatch(r'\w+/stdout', name) is not None and (self.crates / name).is_file()
@@ -224,7 +228,7 @@ def check_cell(repository, column, cell, named):
         if column == 'pinning example' and ':' not in entry:
             named.append((column, entry))
             if not repository.has_output(entry):
-                problems.append(f'{entry} is no output of a program')
+                problems.append(f'{entry} is no output of a program and no test')
             continue
         place, _, names = entry.partition(':')
         for name in re.split(r',\s*', names.strip()):
@@ -242,21 +246,22 @@ def unpinned(row):
 
 
 def check(root):
-    """(column, name) of each name in docs/TRACE.md, and what is wrong, one line each."""
+    """(column, name) of each name in the pages of docs/trace, and what is wrong, one line each."""
     repository = Repository(root)
     problems = []
     named = []
-    for number, titles, cells in rows((Path(root) / 'docs/TRACE.md').read_text(encoding='utf8')):
-        row = []
-        wrongs = [] if len(cells) == len(titles) else [f'the row has {len(cells)} cells, not {len(titles)}']
-        for column, cell in zip(titles[1:], cells[1:]):
-            wrongs += check_cell(repository, column, cell, row)
-        if not any(column in ('contract or theorem', 'pinning example') for column, name in row):
-            wrongs.append('the row has no contract, theorem or example')
-        elif titles[0] != INNER and unpinned(row):
-            wrongs.append('the row has definitions, and no theorem or example')
-        problems += [f'docs/TRACE.md:{number}: {problem}' for problem in wrongs]
-        named += row
+    for page in sorted(Path(root).glob('docs/trace/*.md')):
+        for number, titles, cells in rows(page.read_text(encoding='utf8')):
+            row = []
+            wrongs = [] if len(cells) == len(titles) else [f'the row has {len(cells)} cells, not {len(titles)}']
+            for column, cell in zip(titles[1:], cells[1:]):
+                wrongs += check_cell(repository, column, cell, row)
+            if not any(column in ('contract or theorem', 'pinning example') for column, name in row):
+                wrongs.append('the row has no contract, theorem or example')
+            elif titles[0] != INNER and unpinned(row):
+                wrongs.append('the row has definitions, and no theorem or example')
+            problems += [f'docs/trace/{page.name}:{number}: {problem}' for problem in wrongs]
+            named += row
     crates = {}
     for edit in repository.edits():
         crate = edit.parent.parent.name

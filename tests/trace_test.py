@@ -91,8 +91,12 @@ impl Counter {
     'crates/code/must-fail/step_of_two.edit': '',
     'crates/shown/stdout': '4\n',
     'tests/shown/three.expected': '4\n',
+    '.ci/run': 'python3 tests/busy.py\npython3 tests/gone.py\n',
+    'tests/busy.py': '',
+    'tests/idle.py': '',
 }
 
+OUTPUTS = '`shown/stdout`<br>`tests/shown/three.expected`<br>`tests/busy.py`'
 TRACE = [
     ['sentence', 'definition', 'contract or theorem', 'pinning example', 'must-fail edit'],
     ['---', '---', '---', '---', '---'],
@@ -100,7 +104,7 @@ TRACE = [
      '`rules/proofs/Examples: next-of-3`<br>`rules/specs/Examples: nextOf5, nextOf7, nextOf8, seven`',
      '`code/must-fail: step_of_two`'],
     ['follows', '`rules/specs/Rule: Follows, Follows.same`', '`rules/proofs/Rule: next-more`',
-     '`shown/stdout`<br>`tests/shown/three.expected`',
+     OUTPUTS,
      '`rules/must-fail: next_adds_two`'],
 ]
 PINS = TRACE[2][3]
@@ -148,8 +152,12 @@ CASES = [
      'code/stdout is no output of a program'),
     ('an expected output that is not there', 'three.expected', 'four.expected',
      'tests/shown/four.expected is no output of a program'),
-    ('a file that is no output', 'tests/shown/three.expected', 'docs/TRACE.md',
-     'docs/TRACE.md is no output of a program'),
+    ('a file that is no output', 'tests/shown/three.expected', 'docs/trace/page.md',
+     'docs/trace/page.md is no output of a program and no test'),
+    ('a test that the gate does not run', 'tests/shown/three.expected', 'tests/idle.py',
+     'tests/idle.py is no output of a program and no test'),
+    ('a test that is not there', 'tests/shown/three.expected', 'tests/gone.py',
+     'tests/gone.py is no output of a program and no test'),
     ('an edit of another crate', 'code/must-fail: step_of_two', 'rules/must-fail: step_of_two',
      'rules/must-fail: step_of_two is no edit of that crate'),
     ('an edit named nowhere', '`code/must-fail: step_of_two`', '',
@@ -162,7 +170,7 @@ CASES = [
      'rules/specs/Examples: nextOf7 is named in no row'),
     ('an example of a list named nowhere', ', nextOf8', '',
      'rules/specs/Examples: nextOf8 is named in no row'),
-    ('a row that shows nothing', '`rules/proofs/Rule: next-more` | `shown/stdout`<br>`tests/shown/three.expected`', '|',
+    ('a row that shows nothing', f'`rules/proofs/Rule: next-more` | {OUTPUTS}', '|',
      'the row has no contract, theorem or example'),
     ('a definition that nothing pins', PINS, '',
      'the row has definitions, and no theorem or example'),
@@ -178,7 +186,7 @@ CASES = [
 def problems(table, more={}):
     """What tests/trace.py says of the small repository with this table and these files besides."""
     with tempfile.TemporaryDirectory() as root:
-        for name, text in {**FILES, **more, 'docs/TRACE.md': table}.items():
+        for name, text in {**FILES, **more, 'docs/trace/page.md': table}.items():
             path = Path(root) / name
             path.parent.mkdir(parents=True, exist_ok=True)
             path.write_text(text, encoding='utf8')
