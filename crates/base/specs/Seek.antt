@@ -9,13 +9,13 @@ flag true = 1
 flag false = 0
 
 -- s if it is below e; else e if x is a yes; else e + 1
-abbrev pub onward : ℕ → ℕ → ℕ → ℕ
-onward s e x = elim (ltb s e) [ true ↦ s | false ↦ elim x [ zero ↦ suc e | suc y ↦ e ] ]
+abbrev pub seekStep : ℕ → ℕ → ℕ → ℕ
+seekStep s e x = elim (ltb s e) [ true ↦ s | false ↦ elim x [ zero ↦ suc e | suc y ↦ e ] ]
 
 -- the first j below n with f j a yes; n if there is none
 unfoldable pub seek : (ℕ → ℕ) → ℕ → ℕ
 seek f zero = zero
-seek f (suc n) = onward (seek f n) n (f n)
+seek f (suc n) = seekStep (seek f n) n (f n)
 
 -- the highest of f 0, .. , f (n - 1); 0 if n is 0
 unfoldable pub highest : (ℕ → ℕ) → ℕ → ℕ

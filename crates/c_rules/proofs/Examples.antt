@@ -13,7 +13,7 @@ use Rattle.plan_rules.specs.Lists.{listPlace, memberOk, listAtOk, listOk, eachL
 use Rattle.plan_rules.specs.Refusal.{refuse, bodyChecks, planChecks, planRefusal}
 use Rattle.links_rules.specs.Sheet.{linkOk, sheetOk}
 use Rattle.links_rules.specs.Sums.{direct, summing}
-use Rattle.links_rules.specs.Distances.{sumsOk, distancesRefusal, rowOf, bodyOf, distancesBody, distancesAfter}
+use Rattle.links_rules.specs.Distances.{sumsOk, distancesRefusal, rowOf, bodyOf, sheetBody, distancesAfter}
 use Rattle.net_rules.specs.FromPlan.{named}
 use Rattle.route_rules.specs.Preference.{prefers, better, marginOf}
 use Rattle.route_rules.specs.Reliance.{listedClientOf, bestClient, offer, betterOffer, relies}
@@ -21,8 +21,8 @@ use Rattle.route_rules.specs.Activation.{reflects, advertises, hears, senderOf,
 use Rattle.route_rules.specs.Rounds.{acted, roundsFrom, rounds}
 use Rattle.graph_groups.specs.Closure.{closing}
 use Rattle.graph_groups.specs.Groups.{together, label, stable, grouped}
-use Rattle.graph_ranks.specs.Rank.{rankOver, rankRounds, rank}
-use Rattle.graph_cycle.specs.Cycle.{start, next, walk, second, first, lap, cycleIn, cycle}
+use Rattle.graph_ranks.specs.Rank.{rankOver, ranksByChains, rank}
+use Rattle.graph_cycle.specs.Cycle.{start, next, walk, metAgainAt, metFirstAt, repeatedPart, cycleIn, cycle}
 use Rattle.route_theorems.specs.Settled.{chooseAll, chosenAfter, settledTable}
 use Rattle.net_tables.specs.TableBytes.{readRoute, tableOf, tableBytes, activateBytes, runBytes}
 use Rattle.call_rules.specs.Refusals.{egressListRefusal, compareRefusal, reliesRefusal, buffersOk, verdictRefusal}
@@ -41,13 +41,13 @@ unfolding
     againstOwn byOffer onReflector onClient explained
     isStable labelsOf ranksOf highestOf settledBytes cycleOf sizeOf buffersOk verdictRefusal labelsAfter ranksAfter tableAfter cycleAfter
     tableChecks sequenceOk activateRefusal activateTable runRefusal runApplied runRounds runExhausted runTable
-    readRoute tableOf tableBytes activateBytes runBytes chooseAll chosenAfter settledTable start next walk second first lap cycleIn cycle
-    rankOver rankRounds rank together label stable grouped closing acted roundsFrom rounds
+    readRoute tableOf tableBytes activateBytes runBytes chooseAll chosenAfter settledTable start next walk metAgainAt metFirstAt repeatedPart cycleIn cycle
+    rankOver ranksByChains rank together label stable grouped closing acted roundsFrom rounds
     reflects advertises hears senderOf routeTo choice choose entryOk tableOk listedClientOf bestClient offer betterOffer relies prefers better marginOf
     pairs inSession named refuse bodyChecks planChecks planRefusal
     headerOk routerCountOk kindsOk placesOk sizesOk contentsOk routerOk routersOk sessionOk sessionsOk
     parentCount fewParents parentsOk count distancesOk
-    linkOk sheetOk direct summing sumsOk distancesRefusal rowOf bodyOf distancesBody distancesAfter joined
+    linkOk sheetOk direct summing sumsOk distancesRefusal rowOf bodyOf sheetBody distancesAfter joined
     listPlace memberOk listAtOk listOk eachListOk listsOk allBelow anyBelow keepBest best seek highest tab
 export-examples =
     record {

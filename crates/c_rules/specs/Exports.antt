@@ -21,33 +21,33 @@ use Rattle.call_verdict.specs.Verdict.{isStable, sizeOf, labelsAfter, ranksAfte
 use Rattle.call_run.specs.Run.{runApplied, runRounds, runExhausted, runTable}
 
 -- a result variable of a call whose refusal is `number`: "unchanged" if refused, else the value
-abbrev pub Holds : {A : Type 0} (number : ℕ) (variable : Lent A) (value : A) → Type 0
-Holds number variable value = variable .after ≡ unlessRefused number (variable .before) value
+abbrev pub VariableHolds : {A : Type 0} (number : ℕ) (variable : Lent A) (value : A) → Type 0
+VariableHolds number variable value = variable .after ≡ unlessRefused number (variable .before) value
 
 -- rrp_size: n, the number of routers, and m, the number of lists
 pub record SizeExport (plan : List ℕ) (r : ℕ) (routers lists : Lent ℕ) : Type 0 where
   pub number : r ≡ planRefusal plan
-  pub routers-are : Holds (planRefusal plan) routers (routerCount plan)
-  pub lists-are : Holds (planRefusal plan) lists (listCount plan)
+  pub routers-are : VariableHolds (planRefusal plan) routers (routerCount plan)
+  pub lists-are : VariableHolds (planRefusal plan) lists (listCount plan)
 
 -- rrp_list: where in the plan the numbers of list k start, and how many they are
 pub record ListExport (plan : List ℕ) (k r : ℕ) (start count : Lent ℕ) : Type 0 where
   pub number : r ≡ egressListRefusal plan k
-  pub started : Holds (egressListRefusal plan k) start (listStart plan k)
-  pub counted : Holds (egressListRefusal plan k) count (listSize plan k)
+  pub started : VariableHolds (egressListRefusal plan k) start (listStart plan k)
+  pub counted : VariableHolds (egressListRefusal plan k) count (listSize plan k)
 
 -- rrp_compare: 1 if at w the first, e, is better, 2 if the second, f, is, 0 if neither is; 1 if there is a margin, else 0; and the
 -- margin, an integer, 0 where there is none
 pub record CompareExport (plan : List ℕ) (w e f r : ℕ) (preferred present : Lent ℕ) (margin : Lent ℤ) : Type 0 where
   pub number : r ≡ compareRefusal plan w e f
-  pub compared : Holds (compareRefusal plan w e f) preferred (whichBetter plan w e f)
-  pub flagged : Holds (compareRefusal plan w e f) present (flag (hasMargin plan w e f))
-  pub measured : Holds (compareRefusal plan w e f) margin (marginNumber plan w e f)
+  pub compared : VariableHolds (compareRefusal plan w e f) preferred (whichBetter plan w e f)
+  pub flagged : VariableHolds (compareRefusal plan w e f) present (flag (hasMargin plan w e f))
+  pub measured : VariableHolds (compareRefusal plan w e f) margin (marginNumber plan w e f)
 
 -- rrp_relies: 1 if w relies on v for list k, else 0
 pub record ReliesExport (plan : List ℕ) (k w v r : ℕ) (relied : Lent ℕ) : Type 0 where
   pub number : r ≡ reliesRefusal plan k w v
-  pub answered : Holds (reliesRefusal plan k w v) relied (flag (relies (instanceOf plan k) w v))
+  pub answered : VariableHolds (reliesRefusal plan k w v) relied (flag (relies (instanceOf plan k) w v))
 
 -- rrp_explain: 1 if w relies on v for list k, else 0; the number of the rule or the place of the reason; and of a better offer its route,
 -- 1 if it was compared with an own best client, else 0, that one's route and the margin, an integer. What the answer does not have is 0.
@@ -56,12 +56,12 @@ whyOf plan k w v = valuesOf (explained (instanceOf plan k) w v)
 
 pub record ExplainExport (plan : List ℕ) (k w v r : ℕ) (relied code offered hasOwn own : Lent ℕ) (margin : Lent ℤ) : Type 0 where
   pub number : r ≡ reliesRefusal plan k w v
-  pub answered : Holds (reliesRefusal plan k w v) relied (flag (whyOf plan k w v .relies))
-  pub coded : Holds (reliesRefusal plan k w v) code (whyOf plan k w v .code)
-  pub offer : Holds (reliesRefusal plan k w v) offered (whyOf plan k w v .offer)
-  pub compared : Holds (reliesRefusal plan k w v) hasOwn (flag (whyOf plan k w v .compared))
-  pub owned : Holds (reliesRefusal plan k w v) own (whyOf plan k w v .own)
-  pub measured : Holds (reliesRefusal plan k w v) margin (whyOf plan k w v .margin)
+  pub answered : VariableHolds (reliesRefusal plan k w v) relied (flag (whyOf plan k w v .relies))
+  pub coded : VariableHolds (reliesRefusal plan k w v) code (whyOf plan k w v .code)
+  pub offer : VariableHolds (reliesRefusal plan k w v) offered (whyOf plan k w v .offer)
+  pub compared : VariableHolds (reliesRefusal plan k w v) hasOwn (flag (whyOf plan k w v .compared))
+  pub owned : VariableHolds (reliesRefusal plan k w v) own (whyOf plan k w v .own)
+  pub measured : VariableHolds (reliesRefusal plan k w v) margin (whyOf plan k w v .margin)
 
 -- "Yes must agree with the plain reliance answer for every pair": rrp_relies and rrp_explain return one number, and leave one answer if it
 -- is 0
@@ -79,8 +79,8 @@ pub record VerdictWritten (number : ℕ) (plan : List ℕ) (k r : ℕ)
   pub ranked : ranks .after ≡ ranksAfter number plan k (ranks .before)
   pub settled : table .after ≡ tableAfter number plan k (table .before)
   pub cycled : shown .after ≡ cycleAfter number plan k (shown .before)
-  pub judged : Holds number stable (flag (isStable plan k))
-  pub sized : Holds number size (sizeOf plan k)
+  pub judged : VariableHolds number stable (flag (isStable plan k))
+  pub sized : VariableHolds number size (sizeOf plan k)
 
 abbrev pub VerdictExport : (plan : List ℕ) (k r : ℕ) (labels ranks table shown : Lent (List ℕ)) (stable size : Lent ℕ) → Type 0
 VerdictExport plan k r labels ranks table shown =
@@ -93,9 +93,9 @@ pub record RunWritten (number : ℕ) (plan : List ℕ) (k : ℕ) (acts : List �
     (table : Lent (List ℕ)) (applied rounds exhausted : Lent ℕ) : Type 0 where
   pub numbered : r ≡ number
   pub bytes : table .after ≡ runTable plan k acts limit (table .before)
-  pub acted : Holds number applied (runApplied number acts limit)
-  pub whole : Holds number rounds (runRounds number plan acts limit)
-  pub cut : Holds number exhausted (flag (runExhausted number acts limit))
+  pub acted : VariableHolds number applied (runApplied number acts limit)
+  pub whole : VariableHolds number rounds (runRounds number plan acts limit)
+  pub cut : VariableHolds number exhausted (flag (runExhausted number acts limit))
 
 abbrev pub RunExport : (plan : List ℕ) (k : ℕ) (acts : List ℕ) (limit r : ℕ) (table : Lent (List ℕ))
     (applied rounds exhausted : Lent ℕ) → Type 0

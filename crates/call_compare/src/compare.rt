@@ -4,7 +4,6 @@ use plan_contents::entries::DISTANCES;
 use plan_contents::header::ROUTER_COUNT;
 ghost use mathlib.Core.Path.{_≡_};
 ghost use Prim.Native.Nat.{ℕ, _≤_, _<_};
-ghost use lib.IntN.{pos, _-ℤ_};
 ghost use Rattle.route_rules.specs.Instance.{Instance};
 ghost use Rattle.route_rules.specs.Preference.{marginOf};
 ghost use Rattle.net_prefer.specs.Measured.{ReadAs};
@@ -29,14 +28,6 @@ pub enum CompareAnswer {
     Compared(Preferred, Margin),
 }
 
-// The first number minus the second, of any two that are distances in four bytes.
-pub fn difference(first: usize, second: usize) -> i64
-    requires { ⌜ (first ≤ 4294967294) × (second ≤ 4294967294) ⌝ }
-    ensures { λ r. ⌜ r ≡ pos first -ℤ pos second ⌝ }
-{
-    first as i64 - second as i64
-}
-
 // The margin of two routes at any router with these distances to them.
 fn margin_of(first: usize, second: usize) -> Margin
     requires { ⌜ (first < 65536) × (second < 65536) ⌝ }
@@ -48,7 +39,7 @@ fn margin_of(first: usize, second: usize) -> Margin
     if !plan_distances::is_way(second) {
         return Margin::Absent;
     }
-    Margin::Of(difference(first, second))
+    Margin::Of(net_prefer::difference(first, second))
 }
 
 // Which of e and f is better at any router with these distances to them.

@@ -8,12 +8,12 @@ ghost use Prim.Native.Nat.{_≤_};
 ghost use Rattle.plan_contents.specs.Header.{routerCountOk};
 ghost use Rattle.links_rules.specs.Sheet.{sheetOk};
 ghost use Rattle.links_rules.specs.Sums.{nowhere};
-ghost use Rattle.links_sums.specs.Words.{Holds};
+ghost use Rattle.links_sums.specs.Words.{HoldsSums};
 ghost use Rattle.links_rules.specs.Distances.{DistancesCall};
 
 // The call for a number of routers and links that pass. The least sums are worked out in `words`.
 fn least_body(n: usize, links: &[u8], words: &mut [u16], out: &mut [u8]) -> u8
-    requires { ⌜ (n ≤ 64) × (routerCountOk n ≡ true) × (sheetOk (now links) n ≡ true) × Holds nowhere n (now words) ⌝ }
+    requires { ⌜ (n ≤ 64) × (routerCountOk n ≡ true) × (sheetOk (now links) n ≡ true) × HoldsSums nowhere n (now words) ⌝ }
     ensures { λ r. ⌜ DistancesCall n (now (links .entry)) r (now (out .entry)) (now (out .exit)) ⌝ }
 {
     links_sums::least_sums(links, n, words);

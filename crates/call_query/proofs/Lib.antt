@@ -1,4 +1,4 @@
 pub mod Examples
-pub mod ListStretch
+pub mod ListPart
 pub mod Relying
 pub mod Sizing

@@ -17,8 +17,8 @@ unfoldable pub egressListSize : List ℕ → ℕ → ℕ
 egressListSize plan k = field (egressListRefusal plan k) (listSize plan k)
 
 -- `part` is that stretch of the caller's slice: its bytes, and its address within the slice.
-abbrev pub StretchOf : RefT (List ℕ) → ℕ → RefT (List ℕ) → Type 0
-StretchOf plan k part = PartOf plan (egressListStart (now plan) k) (egressListSize (now plan) k) part
+abbrev pub ListPartOf : RefT (List ℕ) → ℕ → RefT (List ℕ) → Type 0
+ListPartOf plan k part = PartOf plan (egressListStart (now plan) k) (egressListSize (now plan) k) part
 
 -- "the numbers of list k handed back as that stretch of the plan itself": the numbers, and the place in the caller's memory. The theorem
 -- `handed-back` says so of a list that is not refused.

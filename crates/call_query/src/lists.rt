@@ -2,7 +2,7 @@
 
 ghost use mathlib.Core.Path.{_≡_};
 ghost use Rattle.call_rules.specs.Refusals.{egressListRefusal};
-ghost use Rattle.call_query.specs.EgressList.{StretchOf};
+ghost use Rattle.call_query.specs.EgressList.{ListPartOf};
 
 // The number that `egress_list` is refused with; 0 for none.
 pub fn egress_list_refusal(plan: &[u8], list: usize) -> u8
@@ -13,7 +13,7 @@ pub fn egress_list_refusal(plan: &[u8], list: usize) -> u8
 
 // The numbers of a list as that part of the plan itself; empty if refused.
 pub fn egress_list(plan: &[u8], list: usize) -> &[u8]
-    ensures { λ r. ⌜ StretchOf (plan .entry) list r ⌝ }
+    ensures { λ r. ⌜ ListPartOf (plan .entry) list r ⌝ }
 {
     if egress_list_refusal(plan, list) != 0 {
         return &plan[0..0];

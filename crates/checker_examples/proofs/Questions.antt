@@ -20,8 +20,8 @@ use Rattle.route_rules.specs.Activation.{reflects, advertises, hears, senderOf,
 use Rattle.route_rules.specs.Rounds.{acted, roundsFrom, rounds}
 use Rattle.graph_groups.specs.Closure.{closing}
 use Rattle.graph_groups.specs.Groups.{together, label, stable, grouped}
-use Rattle.graph_ranks.specs.Rank.{rankOver, rankRounds, rank}
-use Rattle.graph_cycle.specs.Cycle.{start, next, walk, second, first, lap, cycleIn, cycle}
+use Rattle.graph_ranks.specs.Rank.{rankOver, ranksByChains, rank}
+use Rattle.graph_cycle.specs.Cycle.{start, next, walk, metAgainAt, metFirstAt, repeatedPart, cycleIn, cycle}
 use Rattle.route_theorems.specs.Settled.{chooseAll, chosenAfter, settledTable}
 use Rattle.net_tables.specs.TableBytes.{readRoute, tableOf, tableBytes, activateBytes, runBytes}
 use Rattle.call_rules.specs.Refusals.{sequenceOk, egressListRefusal, compareRefusal, reliesRefusal, buffersOk, verdictRefusal, tableChecks, activateRefusal, runRefusal}
@@ -43,7 +43,7 @@ unfolding
     isStable labelsOf ranksOf highestOf settledBytes cycleOf verdictOf verdictAnswer labelsAfter ranksAfter tableAfter cycleAfter
     activateTable runApplied runRounds runExhausted runTable
     buffersOk tableChecks sequenceOk readRoute tableOf tableBytes activateBytes runBytes chooseAll chosenAfter settledTable
-    start next walk second first lap cycleIn cycle rankOver rankRounds rank together label stable grouped closing acted roundsFrom rounds
+    start next walk metAgainAt metFirstAt repeatedPart cycleIn cycle rankOver ranksByChains rank together label stable grouped closing acted roundsFrom rounds
     reflects advertises hears senderOf routeTo choice choose entryOk tableOk listedClientOf bestClient offer betterOffer relies prefers better marginOf
     pairs inSession named refuse bodyChecks planChecks
     headerOk routerCountOk kindsOk placesOk sizesOk contentsOk routerOk routersOk sessionOk sessionsOk

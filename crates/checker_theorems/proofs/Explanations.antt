@@ -10,7 +10,7 @@ use borrow.Author.Tests.{lt-ltb}
 use Rattle.base.proofs.Numbers.{eq-or-ne}
 use Rattle.plan_contents.specs.Header.{routerCount}
 use Rattle.plan_rules.proofs.Refused.{when-refused, when-given}
-use Rattle.route_rules.specs.RouterBytes.{RouterBelow}
+use Rattle.route_rules.specs.Instance.{RouterBelow}
 use Rattle.route_rules.specs.Preference.{prefers, better, marginOf}
 use Rattle.route_rules.proofs.Reliance.{bestClient-below, offer-below}
 use Rattle.net_rules.specs.FromPlan.{instanceOf}

@@ -12,7 +12,8 @@ use Rattle.graph_groups.specs.Closure.{closure, Irreflexive, Acyclic}
 use Rattle.graph_groups.specs.Groups.{together}
 use Rattle.graph_groups.proofs.Reaching.{closure-is}
 use Rattle.graph_groups.proofs.Sharing.{together-cases, together-self, together-both, label-upto, label-shares, label-lowest, stable-groups, stable-chains, stable-acyclic}
-use Rattle.graph_ranks.proofs.RankRule.{Below, rank-none, rank-falls, rank-top}
+use Rattle.graph_ranks.specs.Rank.{OneMore}
+use Rattle.graph_ranks.proofs.RankRule.{rank-falls, rank-means}
 use Rattle.graph_cycle.proofs.Walking.{cycle-is}
 use Rattle.route_rules.specs.Reliance.{relies}
 use Rattle.route_rules.proofs.Reliance.{relies-other}
@@ -68,14 +69,14 @@ module _ (plan : List ℕ) (k : ℕ) where
 
     highest-below : (w v : ℕ) → w < routerCount plan → v < routerCount plan → relies (instanceOf plan k) w v ≡ true → HighestBelow plan k w
     highest-below w v l m h =
-        let b : Below (reliance plan k) (routerCount plan) w
-        = rank-top (reliance plan k) (routerCount plan) acyclic w l (omega (arith, falls w v l m h)) in
+        let b : OneMore (reliance plan k) (routerCount plan) (rankIn plan k) w
+        = rank-means (reliance plan k) (routerCount plan) acyclic .onSome w v l m (flag-yes (relies (instanceOf plan k) w v) h) in
         record {
           at = b .at;
           below = b .below;
           relied = yes-flag (relies (instanceOf plan k) w (b .at)) (b .related);
           is = b .is;
-          top = λ u o q. omega (arith, falls w u l o q, b .is);
+          top = λ u o q. b .highest u o (flag-yes (relies (instanceOf plan k) w u) q);
         }
 
   pub verdict-means : VerdictMeans plan k
@@ -94,7 +95,7 @@ module _ (plan : List ℕ) (k : ℕ) where
             );
         stableChains = stable-chains (reliance plan k) (routerCount plan) relies-irreflexive;
         showsCycle = cycle-is (reliance plan k) (routerCount plan);
-        rankNone = λ s w l h. rank-none (reliance plan k) (routerCount plan) (acyclic s) w l (λ v m. ap flag (h v m));
+        rankNone = λ s w l h. rank-means (reliance plan k) (routerCount plan) (acyclic s) .onNone w l (λ v m. ap flag (h v m));
         rankSome = highest-below;
         settled = settled-alone;
       }

@@ -13,7 +13,7 @@ use Rattle.call_compare.specs.declared.compare.CompareAnswer.{CompareAnswer}
 use Rattle.call_compare.specs.declared.compare.CompareAnswer.the-variants.{Refused}
 use Rattle.call_query.specs.declared.size.SizeAnswer.{SizeAnswer}
 use Rattle.call_run.specs.declared.run.RunAnswer.{RunAnswer}
-use Rattle.call_query.specs.EgressList.{StretchOf}
+use Rattle.call_query.specs.EgressList.{ListPartOf}
 use Rattle.call_query.specs.Size.{Sizes}
 use Rattle.call_compare.specs.Compare.{compareBetter, compareHasMargin, compareMargin, Compares}
 use Rattle.route_explain_rules.specs.declared.explanation.Explanation.{Explanation}
@@ -25,7 +25,7 @@ use Rattle.call_run.specs.Run.{Runs}
 
 pub record RefusedCalls : Type 0 where
   -- "If refused, the stretch is empty": at the plan's own start
-  pub list : (plan : RefT (List ℕ)) (k : ℕ) (part : RefT (List ℕ)) → StretchOf plan k part → (egressListRefusal (now plan) k ≡ 0 → ⊥)
+  pub list : (plan : RefT (List ℕ)) (k : ℕ) (part : RefT (List ℕ)) → ListPartOf plan k part → (egressListRefusal (now plan) k ≡ 0 → ⊥)
       → (now part ≡ []) × (ptr part ≡ bytesOn (ptr plan) 0)
   pub size : (plan : List ℕ) (r : SizeAnswer) → Sizes plan r → (planRefusal plan ≡ 0 → ⊥)
       → (r .refused ≡ planRefusal plan) × (r .routers ≡ 0) × (r .lists ≡ 0)

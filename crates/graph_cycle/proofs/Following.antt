@@ -14,9 +14,9 @@ use Rattle.base.specs.Tab.{tab}
 use Rattle.base.proofs.Tab.{length-tab, tab-cong}
 use Rattle.graph_groups.specs.Closure.{Relation, closure, Agree}
 use Rattle.graph_groups.proofs.Sharing.{closure-returns}
-use Rattle.graph_cycle.specs.Cycle.{next, walk, trail, same, second, first, lap, cycleIn, cycle, CycleAsked}
+use Rattle.graph_cycle.specs.Cycle.{next, walk, trail, sameRouter, metAgainAt, metFirstAt, repeatedPart, cycleIn, cycle, CycleAsked}
 use Rattle.graph_cycle.specs.Follow.{Stays, FollowAsked, Followed}
-use Rattle.graph_cycle.proofs.Walking.{Fresh, fresh-few, tour, Lap, lap-found, trail-cong, cycle-in-cong}
+use Rattle.graph_cycle.proofs.Walking.{Fresh, fresh-few, tour, Repeated, repeated-found, trail-cong, cycle-in-cong}
 
 pub trail-next : (R C : Relation) (n k : ℕ) → trail R C n (k + 1) ≡ next R C n (trail R C n k)
 unfolding walk
@@ -30,7 +30,7 @@ pub record Follows (f : ℕ → ℕ) (n : ℕ) (path : List ℕ) (w k met : ℕ)
   pub here : w ≡ f k
   pub kept : (i : ℕ) → i < k → getD path i 0 ≡ f i
   pub fresh : Fresh f k
-  pub metIs : met ≡ seek (same f k) k
+  pub metIs : met ≡ seek (sameRouter f k) k
 
 module _ (f : ℕ → ℕ) (n : ℕ) where
   pub follows-start : (path : List ℕ) (w : ℕ) → n ≤ 64 → ((i : ℕ) → f i < n) → length path ≡ 64 → w ≡ f 0 → Follows f n path w 0 0
@@ -41,15 +41,15 @@ module _ (f : ℕ → ℕ) (n : ℕ) where
     here = e;
     kept = λ i h. absurd (omega arith);
     fresh = λ i h. absurd (omega arith);
-    metIs = omega (arith, seek-found (same f 0) 0 .upto);
+    metIs = omega (arith, seek-found (sameRouter f 0) 0 .upto);
   }
 
   -- at a router met for the first time there is room for one more
   fresh-more : (path : List ℕ) (w k met : ℕ) → Follows f n path w k met → met ≡ k → Fresh f (k + 1)
   fresh-more path w k met g e =
       below-more _ k (g .fresh)
-      (let z : highest (same f k) k ≤ 0
-      = highest-under (same f k) k 0 (λ i h. omega (arith, seek-found (same f k) k .before i (omega (arith, g .metIs)))) in
+      (let z : highest (sameRouter f k) k ≤ 0
+      = highest-under (sameRouter f k) k 0 (λ i h. omega (arith, seek-found (sameRouter f k) k .before i (omega (arith, g .metIs)))) in
       omega arith)
 
   pub follows-room : (path : List ℕ) (w k met : ℕ) → Follows f n path w k met → met ≡ k → k < n
@@ -80,17 +80,17 @@ module _ (f : ℕ → ℕ) (n : ℕ) where
           (getD-set-same path k w 0 room ∙ g .here)
 
   pub follows-done : (path : List ℕ) (w k met : ℕ) → Follows f n path w k met → (met ≡ k → ⊥) → Followed f n path met k
-  unfolding first second
+  unfolding metFirstAt metAgainAt
   follows-done path w k met g e =
-      let s : Found (same f k) k (seek (same f k) k) = seek-found (same f k) k in
-      let l : seek (same f k) k < k = omega (arith, g .metIs, s .upto) in
-      let m : k ≡ second f n
-      = sym (found-is (λ i. highest (same f i) i) (suc n) k (record {
+      let s : Found (sameRouter f k) k (seek (sameRouter f k) k) = seek-found (sameRouter f k) k in
+      let l : seek (sameRouter f k) k < k = omega (arith, g .metIs, s .upto) in
+      let m : k ≡ metAgainAt f n
+      = sym (found-is (λ i. highest (sameRouter f i) i) (suc n) k (record {
         upto = omega (arith, fresh-few f n k (g .below) (g .fresh));
         before = g .fresh;
-        hit = λ o. omega (arith, s .hit l, highest-over (same f k) k (seek (same f k) k) l);
+        hit = λ o. omega (arith, s .hit l, highest-over (sameRouter f k) k (seek (sameRouter f k) k) l);
       })) in
-      record { starts = g .metIs ∙ ap (λ i. seek (same f i) i) m; ends = m; kept = g .kept }
+      record { starts = g .metIs ∙ ap (λ i. seek (sameRouter f i) i) m; ends = m; kept = g .kept }
 
 -- what the caller of the loop needs
 module _ (R D : Relation) (n : ℕ) (out : List ℕ) (a : CycleAsked R D n out) where
@@ -107,16 +107,16 @@ module _ (R D : Relation) (n : ℕ) (out : List ℕ) (a : CycleAsked R D n out) 
   follow-asked path e =
       record { small = a .small; long = e; stays = stays; within = a .within; returns = closure-returns R n D (a .closed) }
 
-  pub followed-lap : (path : List ℕ) (from upto : ℕ) → Followed (trail R D n) n path from upto → (from < upto) × (upto ≤ n)
-  followed-lap path from upto w =
-      let l : Lap (trail R D n) n (first (trail R D n) n) (second (trail R D n) n) = lap-found (trail R D n) n stays in
+  pub followed-part : (path : List ℕ) (from upto : ℕ) → Followed (trail R D n) n path from upto → (from < upto) × (upto ≤ n)
+  followed-part path from upto w =
+      let l : Repeated (trail R D n) n (metFirstAt (trail R D n) n) (metAgainAt (trail R D n) n) = repeated-found (trail R D n) n stays in
       omega (arith, w .starts, w .ends, l .earlier, l .upto)
 
   followed-cycle : (path : List ℕ) (from upto : ℕ) → Followed (trail R D n) n path from upto
       → tab (λ d. getD path (from + d) 0) (upto - from) ≡ cycle R n
-  unfolding cycle cycleIn lap
+  unfolding cycle cycleIn repeatedPart
   followed-cycle path from upto w =
-      tab-cong _ (λ d. trail R D n (from + d)) (upto - from) (λ d o. w .kept (from + d) (omega (arith, followed-lap path from upto w)))
+      tab-cong _ (λ d. trail R D n (from + d)) (upto - from) (λ d o. w .kept (from + d) (omega (arith, followed-part path from upto w)))
       ∙ ap₂ (λ p m. tab (λ d. trail R D n (p + d)) (m - p)) (w .starts) (w .ends)
       ∙ sym (cycle-in-cong R R (closure R n) D n (λ i j l m. refl) agreed bounded)
 

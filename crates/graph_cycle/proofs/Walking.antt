@@ -1,4 +1,4 @@
--- The cycle: the walk stays in its group, comes back within n steps, and its lap is a cycle of the relation.
+-- The cycle: the walk stays in its group, comes back within n steps, and the part that it repeats is a cycle of the relation.
 use Prim.Native.Nat.{ℕ, zero, suc, _+_, _-_, _≤_, _<_, min}
 use native.Mathlib.Omega.{arith}
 use mathlib.Core.Path.{_≡_, refl, _∙_, sym, ap, ap₂, fun-ext}
@@ -12,7 +12,7 @@ use Rattle.base.proofs.Seek.{flag-one, flag-same, Found, seek-found, seek-below
 use Rattle.base.proofs.Numbers.{eq-or-ne, lt-or-le, not-both}
 use Rattle.graph_groups.specs.Closure.{Relation, closure, Chain, step, more, Agree}
 use Rattle.graph_groups.specs.Groups.{together, stable, grouped}
-use Rattle.graph_cycle.specs.Cycle.{start, next, walk, trail, same, second, first, lap, cycleIn, cycle, IsCycle}
+use Rattle.graph_cycle.specs.Cycle.{start, next, walk, trail, sameRouter, metAgainAt, metFirstAt, repeatedPart, cycleIn, cycle, IsCycle}
 use Rattle.graph_groups.proofs.Reaching.{closure-is, closure-related, closure-trans, closure-cong}
 use Rattle.graph_groups.proofs.Sharing.{together-cases, together-self, together-both, together-sym, together-trans, stable-groups, Other, grouped-other, grouped-by, together-cong, grouped-cong}
 
@@ -122,7 +122,7 @@ module _ (R : Relation) (n : ℕ) where
 
 -- f is at no place below m where it was before
 abbrev pub Fresh : (ℕ → ℕ) → ℕ → Type 0
-Fresh f m = (k : ℕ) → k < m → highest (same f k) k ≡ 0
+Fresh f m = (k : ℕ) → k < m → highest (sameRouter f k) k ≡ 0
 
 -- which routers f meets in its first m places
 abbrev met : (ℕ → ℕ) → ℕ → ℕ → ℕ
@@ -144,72 +144,72 @@ pub fresh-few : (f : ℕ → ℕ) (n m : ℕ) → ((k : ℕ) → f k < n) → Fr
 fresh-few f n m b h = omega (arith, met-many f n m b h, count-le (met f m) n)
 
 -- where f is for the second time, and where it was there first
-pub record Lap (f : ℕ → ℕ) (n p m : ℕ) : Type 0 where
+pub record Repeated (f : ℕ → ℕ) (n p m : ℕ) : Type 0 where
   pub upto : m ≤ n
   pub fresh : Fresh f m
   pub earlier : p < m
   pub back : f p ≡ f m
 
-pub lap-found : (f : ℕ → ℕ) (n : ℕ) → ((k : ℕ) → f k < n) → Lap f n (first f n) (second f n)
-unfolding second first
-lap-found f n b =
-    let again : ℕ → ℕ = λ k. highest (same f k) k in
+pub repeated-found : (f : ℕ → ℕ) (n : ℕ) → ((k : ℕ) → f k < n) → Repeated f n (metFirstAt f n) (metAgainAt f n)
+unfolding metAgainAt metFirstAt
+repeated-found f n b =
+    let again : ℕ → ℕ = λ k. highest (sameRouter f k) k in
     let w : Found again (suc n) (seek again (suc n)) = seek-found again (suc n) in
     let m : ℕ = seek again (suc n) in
     let l : m ≤ n = fresh-few f n m b (w .before) in
-    let o : Top (same f m) m = highest-top (same f m) m (w .hit (omega arith)) in
-    let q : seek (same f m) m < m = seek-below (same f m) m (o .at) (o .below) (omega (arith, o .is, w .hit (omega arith))) in
+    let o : Top (sameRouter f m) m = highest-top (sameRouter f m) m (w .hit (omega arith)) in
+    let q : seek (sameRouter f m) m < m = seek-below (sameRouter f m) m (o .at) (o .below) (omega (arith, o .is, w .hit (omega arith))) in
     record {
       upto = l;
       fresh = w .before;
       earlier = q;
-      back = flag-same _ _ (seek-found (same f m) m .hit q);
+      back = flag-same _ _ (seek-found (sameRouter f m) m .hit q);
     }
 
-lap-at : (f : ℕ → ℕ) (n k : ℕ) → k < second f n - first f n → getD (lap f n) k 0 ≡ f (first f n + k)
-unfolding lap
-lap-at f n k l = getD-tab (λ d. f (first f n + d)) (second f n - first f n) 0 k l
+repeated-at : (f : ℕ → ℕ) (n k : ℕ) → k < metAgainAt f n - metFirstAt f n → getD (repeatedPart f n) k 0 ≡ f (metFirstAt f n + k)
+unfolding repeatedPart
+repeated-at f n k l = getD-tab (λ d. f (metFirstAt f n + d)) (metAgainAt f n - metFirstAt f n) 0 k l
 
-lap-length : (f : ℕ → ℕ) (n : ℕ) → length (lap f n) ≡ second f n - first f n
-unfolding lap
-lap-length f n = length-tab (λ d. f (first f n + d)) (second f n - first f n)
+repeated-length : (f : ℕ → ℕ) (n : ℕ) → length (repeatedPart f n) ≡ metAgainAt f n - metFirstAt f n
+unfolding repeatedPart
+repeated-length f n = length-tab (λ d. f (metFirstAt f n + d)) (metAgainAt f n - metFirstAt f n)
 
--- the lap of a tour is a cycle
-pub lap-is : (R C : Relation) (n : ℕ) (f : ℕ → ℕ) → Tour R C n f → IsCycle R C n (lap f n)
-lap-is R C n f t = record {
+-- what a tour repeats is a cycle
+pub repeated-is : (R C : Relation) (n : ℕ) (f : ℕ → ℕ) → Tour R C n f → IsCycle R C n (repeatedPart f n)
+repeated-is R C n f t = record {
   some = omega (arith, w, len);
   short = omega (arith, w, len);
-  below = λ k l. rw (lap-at f n k (omega (arith, len))) (t .below _);
+  below = λ k l. rw (repeated-at f n k (omega (arith, len))) (t .below _);
   distinct = λ i k l m e.
-      let q : f (p + i) ≡ f (p + k) = sym (lap-at f n i (omega (arith, len))) ∙ e ∙ lap-at f n k (omega (arith, len)) in
+      let q : f (p + i) ≡ f (p + k) = sym (repeated-at f n i (omega (arith, len))) ∙ e ∙ repeated-at f n k (omega (arith, len)) in
       omega (
         arith,
         flag-one _ _ q,
         w .fresh (p + k) (omega (arith, len)),
-        highest-over (same f (p + k)) (p + k) (p + i) (omega arith),
+        highest-over (sameRouter f (p + k)) (p + k) (p + i) (omega arith),
       );
   onwards = λ k l.
       let e : p + (k + 1) ≡ suc (p + k) = omega arith in
-      rw (lap-at f n k (omega (arith, len)), lap-at f n (k + 1) (omega (arith, len)), e) (t .related (p + k));
+      rw (repeated-at f n k (omega (arith, len)), repeated-at f n (k + 1) (omega (arith, len)), e) (t .related (p + k));
   closes =
-      let e : f (suc (p + (length (lap f n) - 1))) ≡ f (p + 0) = ap f (omega (arith, len, w)) ∙ sym (w .back) ∙ ap f (omega arith) in
-      rw (lap-at f n (length (lap f n) - 1) (omega (arith, len, w)), lap-at f n 0 (omega (arith, w)), ← e) (t .related _);
-  group = λ i k l m. rw (lap-at f n i (omega (arith, len)), lap-at f n k (omega (arith, len))) (t .shares _ _);
+      let e : f (suc (p + (length (repeatedPart f n) - 1))) ≡ f (p + 0) = ap f (omega (arith, len, w)) ∙ sym (w .back) ∙ ap f (omega arith) in
+      rw (repeated-at f n (length (repeatedPart f n) - 1) (omega (arith, len, w)), repeated-at f n 0 (omega (arith, w)), ← e) (t .related _);
+  group = λ i k l m. rw (repeated-at f n i (omega (arith, len)), repeated-at f n k (omega (arith, len))) (t .shares _ _);
 }
   where
     p : ℕ
-    p = first f n
+    p = metFirstAt f n
 
-    w : Lap f n (first f n) (second f n)
-    w = lap-found f n (t .below)
+    w : Repeated f n (metFirstAt f n) (metAgainAt f n)
+    w = repeated-found f n (t .below)
 
-    len : length (lap f n) ≡ second f n - first f n
-    len = lap-length f n
+    len : length (repeatedPart f n) ≡ metAgainAt f n - metFirstAt f n
+    len = repeated-length f n
 
 -- "Suspect: the ring .."
 pub cycle-is : (R : Relation) (n : ℕ) → stable (closure R n) n ≡ false → IsCycle R (closure R n) n (cycle R n)
 unfolding cycle cycleIn
-cycle-is R n u = lap-is R (closure R n) n _ (tour R n u)
+cycle-is R n u = repeated-is R (closure R n) n _ (tour R n u)
 
 -- the cycle depends on the relations' values below n alone
 start-cong : (C D : Relation) (n : ℕ) → Agree C D n → start C n ≡ start D n
@@ -228,7 +228,7 @@ trail-cong R S C D n g h b (suc k) =
 
 pub cycle-in-cong : (R S C D : Relation) (n : ℕ) → Agree R S n → Agree C D n → ((k : ℕ) → trail R C n k < n) → cycleIn R C n ≡ cycleIn S D n
 unfolding cycleIn
-cycle-in-cong R S C D n g h b = ap (λ f. lap f n) (fun-ext (trail-cong R S C D n g h b))
+cycle-in-cong R S C D n g h b = ap (λ f. repeatedPart f n) (fun-ext (trail-cong R S C D n g h b))
 
 pub cycle-cong : (R S : Relation) (n : ℕ) → Agree R S n → stable (closure R n) n ≡ false → cycle R n ≡ cycle S n
 unfolding cycle

@@ -28,24 +28,24 @@ abbrev pub trail : Relation → Relation → ℕ → ℕ → ℕ
 trail R C n = walk (next R C n) (start C n)
 
 -- whether the walk f is at place i where it is at place k
-abbrev pub same : (ℕ → ℕ) → ℕ → ℕ → ℕ
-same f k i = flag (eqb (f i) (f k))
+abbrev pub sameRouter : (ℕ → ℕ) → ℕ → ℕ → ℕ
+sameRouter f k i = flag (eqb (f i) (f k))
 
 -- "the first router met twice": the first place at which f is where it was before
-unfoldable pub second : (ℕ → ℕ) → ℕ → ℕ
-second f n = seek (λ k. highest (same f k) k) (suc n)
+unfoldable pub metAgainAt : (ℕ → ℕ) → ℕ → ℕ
+metAgainAt f n = seek (λ k. highest (sameRouter f k) k) (suc n)
 
 -- its place where f was there first
-unfoldable pub first : (ℕ → ℕ) → ℕ → ℕ
-first f n = seek (same f (second f n)) (second f n)
+unfoldable pub metFirstAt : (ℕ → ℕ) → ℕ → ℕ
+metFirstAt f n = seek (sameRouter f (metAgainAt f n)) (metAgainAt f n)
 
 -- "it is the walk from the first router met twice up to before its second meeting"
-unfoldable pub lap : (ℕ → ℕ) → ℕ → List ℕ
-lap f n = tab (λ d. f (first f n + d)) (second f n - first f n)
+unfoldable pub repeatedPart : (ℕ → ℕ) → ℕ → List ℕ
+repeatedPart f n = tab (λ d. f (metFirstAt f n + d)) (metAgainAt f n - metFirstAt f n)
 
 -- the cycle, by a closed relation C; and by the closure of R
 unfoldable pub cycleIn : Relation → Relation → ℕ → List ℕ
-cycleIn R C n = lap (trail R C n) n
+cycleIn R C n = repeatedPart (trail R C n) n
 
 unfoldable pub cycle : Relation → ℕ → List ℕ
 cycle R n = let t : List (List ℕ) = closing R n n in cycleIn R (cell t) n

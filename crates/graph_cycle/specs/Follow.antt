@@ -4,7 +4,7 @@ use mathlib.Core.Path.{_≡_}
 use mathlib.Core.List.{List}
 use lib.ListN.{length, getD}
 use Rattle.graph_groups.specs.Closure.{Relation, Within, AllReturn}
-use Rattle.graph_cycle.specs.Cycle.{trail, first, second}
+use Rattle.graph_cycle.specs.Cycle.{trail, metFirstAt, metAgainAt}
 
 -- the walk stays among the routers below n
 abbrev pub Stays : Relation → Relation → ℕ → Type 0
@@ -18,8 +18,8 @@ pub record FollowAsked (R C : Relation) (n : ℕ) (path : List ℕ) : Type 0 whe
   pub within : Within R n
   pub returns : AllReturn C n
 
--- what following the walk f finds: where the lap starts and ends, and the routers up to there, in order
+-- what following the walk f finds: where what is repeated starts and ends, and the routers up to there, in order
 pub record Followed (f : ℕ → ℕ) (n : ℕ) (path : List ℕ) (from upto : ℕ) : Type 0 where
-  pub starts : from ≡ first f n
-  pub ends : upto ≡ second f n
+  pub starts : from ≡ metFirstAt f n
+  pub ends : upto ≡ metAgainAt f n
   pub kept : (i : ℕ) → i < upto → getD path i 0 ≡ f i

@@ -136,9 +136,9 @@ pub fn cycle(rows: &[u64; 64], closed: &[u64; 64], n: usize, out: &mut [u8]) -> 
     ensures written { λ r. ⌜ now (out .exit) ≡ cycle (bits (now (rows .entry))) n ++ drop r (now (out .entry)) ⌝ }
 {
     let mut path = [0u8; 64];
-    let lap = follow(rows, closed, n, &mut path);
-    let from = lap.from;
-    let count = lap.upto - from;
+    let found = follow(rows, closed, n, &mut path);
+    let from = found.from;
+    let count = found.upto - from;
     copy_part(&path, from, count, out);
     count
 }

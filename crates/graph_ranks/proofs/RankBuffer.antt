@@ -16,9 +16,9 @@ use Rattle.base.proofs.Tab.{tab-front, drop-written, getD-written}
 use Rattle.base.proofs.Seek.{highest-none, highest-suc, highest-more}
 use Rattle.base.proofs.Numbers.{eq-or-ne}
 use Rattle.graph_groups.specs.Closure.{Relation, Within, Acyclic}
-use Rattle.graph_ranks.specs.Rank.{onTop, rankOver, entry, rank, highestRank}
+use Rattle.graph_ranks.specs.Rank.{rankAbove, rankOver, entry, rank, highestRank}
 use Rattle.graph_ranks.specs.Search.{Known, RankAsked, Filled, RankFound}
-use Rattle.graph_ranks.proofs.RankRule.{on-top, reached-falls, reached-few, rank-rule, rank-below}
+use Rattle.graph_ranks.proofs.RankRule.{rank-above, reached-falls, reached-few, rank-rule, rank-below}
 
 module _ (R : Relation) (n : ℕ) where
   filled-same : (l : List ℕ) → Filled R n l l
@@ -69,7 +69,7 @@ module _ (R : Relation) (n : ℕ) where
 
 -- What the routers below k give w.
 abbrev given : List ℕ → ℕ → ℕ → ℕ → ℕ
-given rows n w = highest (λ u. onTop (bits rows w u) (rank (bits rows) n u))
+given rows n w = highest (λ u. rankAbove (bits rows w u) (rank (bits rows) n u))
 
 -- One pass over the routers that w is related to, lowest first: `high` is the rank that those visited give w, and m holds the others.
 pub record Gathered (rows : List ℕ) (n w left : ℕ) (l₀ l : List ℕ) (high m : ℕ) : Type 0 where
@@ -89,8 +89,8 @@ module _ (rows : List ℕ) (n w left : ℕ) where
 
     pass : (u : ℕ) → u < n → bits rows w u ≡ 0 → Given u → Given (suc u)
     pass u b unset e =
-        let z : onTop (bits rows w u) (rank (bits rows) n u) ≡ 0 = rw unset in
-        omega (arith, highest-suc (λ u. onTop (bits rows w u) (rank (bits rows) n u)) u)
+        let z : rankAbove (bits rows w u) (rank (bits rows) n u) ≡ 0 = rw unset in
+        omega (arith, highest-suc (λ u. rankAbove (bits rows w u) (rank (bits rows) n u)) u)
 
     within : (u : ℕ) → bits rows w u ≡ 1 → u < n
     within u set = g .asked .within w u (g .asked .below) (omega arith)
@@ -125,8 +125,8 @@ module _ (rows : List ℕ) (n w left : ℕ) where
             walk-more Given _ _ m v within (g .walk) low _ m′ step
             (omega (
               arith,
-              highest-suc (λ u. onTop (bits rows w u) (rank (bits rows) n u)) v,
-              on-top (bits rows w v) (rank (bits rows) n v) (omega (arith, near)),
+              highest-suc (λ u. rankAbove (bits rows w u) (rank (bits rows) n u)) v,
+              rank-above (bits rows w v) (rank (bits rows) n v) (omega (arith, near)),
               walk-visit Given _ _ pass m v within (g .walk) low,
               f .is,
             ));

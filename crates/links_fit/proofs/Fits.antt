@@ -10,14 +10,14 @@ use lib.Dec.{leb}
 use Rattle.base.proofs.Below.{all-at, all-intro}
 use Rattle.links_rules.specs.Sums.{Sums}
 use Rattle.links_rules.specs.Distances.{fits, sumsOk}
-use Rattle.links_sums.specs.Words.{word, Holds}
+use Rattle.links_sums.specs.Words.{word, HoldsSums}
 use Rattle.links_fit.specs.Near.{near, rowFits, wordsFit}
 
 word-fits : (x : Option ℕ) → leb (word x) 65534 ≡ true → fits x ≡ true
 word-fits none h = refl
 word-fits (some d) h = le-leb d 65534 (omega (arith, leb-true (min d 65535) 65534 h))
 
-module _ (D : Sums) (n : ℕ) (t : List ℕ) (h : Holds D n t) where
+module _ (D : Sums) (n : ℕ) (t : List ℕ) (h : HoldsSums D n t) where
   pub near-fits : (u e : ℕ) → u < n → e < n → near t u e ≡ true → fits (D u e) ≡ true
   near-fits u e l o b = word-fits (D u e) (ap (λ x. leb x 65534) (sym (h .are u e l o)) ∙ b)
 

@@ -19,7 +19,7 @@ use Rattle.links_rules.specs.Walks.{Walk, stay, along, sum, LeastIs}
 use Rattle.links_rules.specs.Sums.{cell, leastSums}
 use Rattle.links_rules.specs.Distances.{fits, sumsOk}
 use Rattle.links_words.specs.Lowered.{wordAt}
-use Rattle.links_sums.specs.Words.{word, Holds}
+use Rattle.links_sums.specs.Words.{word, HoldsSums}
 use Rattle.links_fit.specs.Near.{near, nearTo, within, linksWithin}
 use Rattle.links_rules.specs.SheetFacts.{Sheet}
 use Rattle.links_rules.proofs.Facts.{computed-least}
@@ -41,7 +41,7 @@ same-test true b g h = sym (g refl)
 same-test false true g h = h refl
 same-test false false g h = refl
 
-module _ (s : List ℕ) (n : ℕ) (small : n ≤ 64) (sheet : Sheet s n) (t : List ℕ) (h : Holds (cell (leastSums s n)) n t)
+module _ (s : List ℕ) (n : ℕ) (small : n ≤ 64) (sheet : Sheet s n) (t : List ℕ) (h : HoldsSums (cell (leastSums s n)) n t)
     (words z : List ℕ) (is : words ≡ tab (nearTo t n) n ++ drop n z) where
   abbrev computed : ℕ → ℕ → Option ℕ
   computed = cell (leastSums s n)

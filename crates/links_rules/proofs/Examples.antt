@@ -6,12 +6,12 @@ use Rattle.plan_contents.specs.Header.{routerCountOk}
 use Rattle.plan_rules.specs.Refusal.{refuse}
 use Rattle.links_rules.specs.Sheet.{linkOk, sheetOk}
 use Rattle.links_rules.specs.Sums.{direct, summing}
-use Rattle.links_rules.specs.Distances.{sumsOk, distancesRefusal, rowOf, bodyOf, distancesBody, distancesAfter}
+use Rattle.links_rules.specs.Distances.{sumsOk, distancesRefusal, rowOf, bodyOf, sheetBody, distancesAfter}
 use Rattle.links_rules.specs.Examples.{bothWays, eight, seven, eighteen, LinksExamples}
 
 pub links-examples : LinksExamples
 unfolding
-    bothWays eight seven eighteen distancesRefusal rowOf bodyOf distancesBody distancesAfter sumsOk direct summing linkOk sheetOk
+    bothWays eight seven eighteen distancesRefusal rowOf bodyOf sheetBody distancesAfter sumsOk direct summing linkOk sheetOk
     refuse routerCountOk allBelow tab joined
 links-examples =
     record {

@@ -15,7 +15,7 @@ use Rattle.plan_rules.specs.Distances.{distanceIn}
 use Rattle.plan_rules.proofs.Facts.{distances-holds}
 use Rattle.links_rules.specs.Walks.{Walk, stay, sum, Least, LeastIs}
 use Rattle.links_rules.specs.Sums.{cell, leastSums}
-use Rattle.links_rules.specs.Distances.{distanceOf, distancesBody, distancesRefusal, distancesAfter, DistancesCall}
+use Rattle.links_rules.specs.Distances.{distanceOf, sheetBody, distancesRefusal, distancesAfter, DistancesCall}
 use Rattle.links_rules.specs.SheetFacts.{Sheet, Near, AllNear, LeastBody, CallMeans}
 use Rattle.links_rules.proofs.Facts.{near-most, computed-least}
 use Rattle.links_rules.proofs.KindThree.{length-body, distance-read}
@@ -49,8 +49,8 @@ module _ (s : List ℕ) (u e d : ℕ) where
   entry-way (inr h) = (λ q. not-both false (rw (eq-eqb d 65535 (h .1)) at q) refl, λ w. absurd (h .0 w))
 
 module _ (s : List ℕ) (n : ℕ) where
-  body-length : length (distancesBody s n) ≡ 2 * (n * n)
-  unfolding distancesBody
+  body-length : length (sheetBody s n) ≡ 2 * (n * n)
+  unfolding sheetBody
   body-length = length-body _ n
 
   module _ (sheet : Sheet s n) (all : AllNear s n) where
@@ -60,15 +60,15 @@ module _ (s : List ℕ) (n : ℕ) where
     entry-least u e none l h = inr (l, refl)
     entry-least u e (some d) l h = inl (l, near-most s u e d l h)
 
-    entry-is : (u e : ℕ) → u < n → e < n → Entry s u e (distanceIn (distancesBody s n) n u e)
-    unfolding distancesBody
+    entry-is : (u e : ℕ) → u < n → e < n → Entry s u e (distanceIn (sheetBody s n) n u e)
+    unfolding sheetBody
     entry-is u e l m =
         let entry = entry-least u e (cell (leastSums s n) u e) (computed-least s n sheet u e l m) (all u e l m) in
         rw (distance-read (λ u e. distanceOf (cell (leastSums s n) u e)) n u e l m (entry-small s u e _ entry)) entry
 
-    pub least-body : LeastBody s n (distancesBody s n)
+    pub least-body : LeastBody s n (sheetBody s n)
     least-body =
-        let zeros : (u : ℕ) → u < n → distanceIn (distancesBody s n) n u u ≡ 0 =
+        let zeros : (u : ℕ) → u < n → distanceIn (sheetBody s n) n u u ≡ 0 =
         λ u l. least-itself s u _ (entry-walked s u u _ (entry-is u u l l) (stay refl))
         in
         record {
@@ -77,7 +77,7 @@ module _ (s : List ℕ) (n : ℕ) where
           noWalk = λ u e l m. entry-none s u e _ (entry-is u e l m);
           ways = λ u e l m. entry-way s u e _ (entry-is u e l m);
           diagonal = zeros;
-          passes = distances-holds (distancesBody s n) n (record { diagonal = zeros });
+          passes = distances-holds (sheetBody s n) n (record { diagonal = zeros });
         }
 
 pub call-means : (n : ℕ) (s : List ℕ) (r : ℕ) (out after : List ℕ) → DistancesCall n s r out after → CallMeans n s r out after
@@ -87,13 +87,13 @@ call-means n s r out after c = record {
   body =
       λ z.
       let f = first-decides n s (length out) .none .0 (sym (c .number) ∙ z) in
-      rw (made z, take-at (distancesBody s n) (drop (2 * (n * n)) out) (2 * (n * n)) (body-length s n)) (least-body s n (f .1) (f .2));
-  rest = λ z. ap (drop (2 * (n * n))) (made z) ∙ drop-at (distancesBody s n) (drop (2 * (n * n)) out) (2 * (n * n)) (body-length s n);
+      rw (made z, take-at (sheetBody s n) (drop (2 * (n * n)) out) (2 * (n * n)) (body-length s n)) (least-body s n (f .1) (f .2));
+  rest = λ z. ap (drop (2 * (n * n))) (made z) ∙ drop-at (sheetBody s n) (drop (2 * (n * n)) out) (2 * (n * n)) (body-length s n);
 }
   where
     kept : (number : ℕ) → number ≡ distancesRefusal n s (length out) → (number ≡ 0 → ⊥) → distancesAfter n s out ≡ out
     kept zero e h = absurd (h refl)
     kept (suc number) e h = after-refused n s out number (sym e)
 
-    made : r ≡ 0 → after ≡ distancesBody s n ++ drop (2 * (n * n)) out
+    made : r ≡ 0 → after ≡ sheetBody s n ++ drop (2 * (n * n)) out
     made z = c .bytes ∙ after-made n s out (sym (c .number) ∙ z)

@@ -9,14 +9,14 @@ use Rattle.plan_contents.specs.Header.{routerCountOk}
 use Rattle.plan_rules.specs.Refusal.{refuse}
 use Rattle.links_rules.specs.Sheet.{sheetOk}
 use Rattle.links_rules.specs.Sums.{cell, leastSums}
-use Rattle.links_rules.specs.Distances.{sumsOk, bodyOf, distanceOf, distancesRefusal, distancesBody, distancesAfter, DistancesCall}
+use Rattle.links_rules.specs.Distances.{sumsOk, bodyOf, distanceOf, distancesRefusal, sheetBody, distancesAfter, DistancesCall}
 
 module _ (n : ℕ) (s out : List ℕ) where
   pub after-refused : (number : ℕ) → distancesRefusal n s (length out) ≡ suc number → distancesAfter n s out ≡ out
   unfolding distancesAfter
   after-refused number e = rw e
 
-  pub after-made : distancesRefusal n s (length out) ≡ 0 → distancesAfter n s out ≡ distancesBody s n ++ drop (2 * (n * n)) out
+  pub after-made : distancesRefusal n s (length out) ≡ 0 → distancesAfter n s out ≡ sheetBody s n ++ drop (2 * (n * n)) out
   unfolding distancesAfter
   after-made e = rw e
 
@@ -46,7 +46,7 @@ module _ (n : ℕ) (s out : List ℕ) where
             (body after : List ℕ) → leb (2 * (n * n)) (length out) ≡ true → after ≡ body ++ drop (2 * (n * n)) out →
             body ≡ bodyOf (λ u e. distanceOf (cell (leastSums s n) u e)) n →
             DistancesCall n s 0 out after
-        unfolding distancesRefusal refuse distancesBody
+        unfolding distancesRefusal refuse sheetBody
         call-made body after r e b =
             let z : distancesRefusal n s (length out) ≡ 0 = rw (c, f, w, r) in
             record { number = sym z; bytes = e ∙ ap (λ x. x ++ drop (2 * (n * n)) out) b ∙ sym (after-made z) }

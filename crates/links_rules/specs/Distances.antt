@@ -47,13 +47,13 @@ abbrev pub distanceOf : Option ℕ → ℕ
 distanceOf none = 65535
 distanceOf (some d) = d
 
-unfoldable pub distancesBody : List ℕ → ℕ → List ℕ
-distancesBody s n = bodyOf (λ u e. distanceOf (cell (leastSums s n) u e)) n
+unfoldable pub sheetBody : List ℕ → ℕ → List ℕ
+sheetBody s n = bodyOf (λ u e. distanceOf (cell (leastSums s n) u e)) n
 
 -- what the call leaves of the buffer: "later ones are untouched"
 unfoldable pub distancesAfter : ℕ → List ℕ → List ℕ → List ℕ
 distancesAfter n s out =
-    unlessRefused (distancesRefusal n s (length out)) out (distancesBody s n ++ drop (2 * (n * n)) out)
+    unlessRefused (distancesRefusal n s (length out)) out (sheetBody s n ++ drop (2 * (n * n)) out)
 
 -- the call, which returns r, and `after`, which it leaves of the buffer
 pub record DistancesCall (n : ℕ) (s : List ℕ) (r : ℕ) (out after : List ℕ) : Type 0 where

@@ -17,10 +17,10 @@ use Rattle.links_rules.specs.Sums.{Sums, lesser, plus, nowhere, staying, linked
 use Rattle.links_rules.specs.SheetFacts.{Sheet}
 use Rattle.links_rules.proofs.LeastSums.{stage-none, stage-more}
 use Rattle.links_words.specs.Lowered.{capped, wordAt, RowsLowered}
-use Rattle.links_sums.specs.Words.{word, Holds}
+use Rattle.links_sums.specs.Words.{word, HoldsSums}
 
 -- no walk at all
-pub no-walks : (n m : ℕ) → n ≤ 64 → 64 * n ≤ m → Holds nowhere n (replicate m 65535)
+pub no-walks : (n m : ℕ) → n ≤ 64 → 64 * n ≤ m → HoldsSums nowhere n (replicate m 65535)
 no-walks n m small room = record {
   room = rw (length-replicate {A = ℕ} m 65535) room;
   are = λ i j l o. getD-replicate m (64 * i + j) 65535 0 (omega arith);
@@ -31,7 +31,7 @@ word-most none = omega arith
 word-most (some d) = omega arith
 
 -- sums that are the same below n
-holds-same : (D E : Sums) (n : ℕ) (t : List ℕ) → ((i j : ℕ) → i < n → j < n → D i j ≡ E i j) → Holds D n t → Holds E n t
+holds-same : (D E : Sums) (n : ℕ) (t : List ℕ) → ((i j : ℕ) → i < n → j < n → D i j ≡ E i j) → HoldsSums D n t → HoldsSums E n t
 holds-same D E n t e h = record { room = h .room; are = λ i j l o. h .are i j l o ∙ ap word (e i j l o) }
 
 -- one word lowered
@@ -52,8 +52,8 @@ other-pair f g i j p = go (eqb f i && eqb g j) refl
 
 module _ (n : ℕ) (small : n ≤ 64) where
   pub holds-linked :
-      (D : Sums) (t : List ℕ) (f g w : ℕ) → f < n → g < n → w ≤ 65535 → Holds D n t →
-      Holds (linked D f g w) n (set t (64 * f + g) (min (wordAt t f g) w))
+      (D : Sums) (t : List ℕ) (f g w : ℕ) → f < n → g < n → w ≤ 65535 → HoldsSums D n t →
+      HoldsSums (linked D f g w) n (set t (64 * f + g) (min (wordAt t f g) w))
   holds-linked D t f g w a b u h = record {
     room = simp length-set (h .room);
     are = λ i j l o. ⊎-elim (here i j l o) (there i j l o) (eq-or-ne (64 * i + j) (64 * f + g));
@@ -107,12 +107,12 @@ stays-all n i j l m =
 
 module _ (n : ℕ) (small : n ≤ 64) where
   pub stay-more :
-      (t after : List ℕ) (i : ℕ) → i < n → Holds (stays i) n t → after ≡ set t (64 * i + i) (min (wordAt t i i) 0) →
-      Holds (stays (i + 1)) n after
+      (t after : List ℕ) (i : ℕ) → i < n → HoldsSums (stays i) n t → after ≡ set t (64 * i + i) (min (wordAt t i i) 0) →
+      HoldsSums (stays (i + 1)) n after
   unfolding stays
   stay-more t after i l h e = rw (add-one, e) (holds-linked n small (stays i) t i i 0 l l (omega arith) h)
 
-  pub stay-done : (t : List ℕ) (i : ℕ) → i ≤ n → n ≤ i → Holds (stays i) n t → Holds staying n t
+  pub stay-done : (t : List ℕ) (i : ℕ) → i ≤ n → n ≤ i → HoldsSums (stays i) n t → HoldsSums staying n t
   stay-done t i u l h = let e : i ≡ n = omega arith in holds-same (stays n) staying n t (stays-all n) (rw e at h)
 
   module _ (s : List ℕ) where
@@ -120,9 +120,9 @@ module _ (n : ℕ) (small : n ≤ 64) where
         Sheet s n → (t after : List ℕ) (k f g w : ℕ) → k < linkCount s → f ≡ linkFrom s k → g ≡ linkTo s k →
         w ≡ linkWeight s k →
         w < 65536 →
-        Holds (direct s k) n t →
+        HoldsSums (direct s k) n t →
         after ≡ set t (64 * f + g) (min (wordAt t f g) w) →
-        Holds (direct s (k + 1)) n after
+        HoldsSums (direct s (k + 1)) n after
     unfolding direct
     direct-more sheet t after k f g w l a b c u h e =
         rw (add-one, e, ← a, ← b, ← c)
@@ -139,7 +139,7 @@ word-lesser none y = omega (arith, word-most y)
 word-lesser (some a) none = omega arith
 word-lesser (some a) (some b) = omega arith
 
-holds-through : (D : Sums) (n k : ℕ) (t after : List ℕ) → k < n → Holds D n t → RowsLowered n k t n after → Holds (through D k) n after
+holds-through : (D : Sums) (n k : ℕ) (t after : List ℕ) → k < n → HoldsSums D n t → RowsLowered n k t n after → HoldsSums (through D k) n after
 holds-through D n k t after u h r = record {
   room = rw (r .long) (h .room);
   are =
@@ -151,12 +151,12 @@ holds-through D n k t after u h r = record {
 
 -- the stages, one router more a turn
 module _ (s : List ℕ) (n : ℕ) where
-  pub sums-start : (t : List ℕ) → Holds (direct s (linkCount s)) n t → Holds (cell (summing s n 0)) n t
+  pub sums-start : (t : List ℕ) → HoldsSums (direct s (linkCount s)) n t → HoldsSums (cell (summing s n 0)) n t
   sums-start t = holds-same (direct s (linkCount s)) (cell (summing s n 0)) n t (λ i j l o. sym (stage-none s n i j l o))
 
   pub sums-more :
-      (t after : List ℕ) (k : ℕ) → k < n → Holds (cell (summing s n k)) n t → RowsLowered n k t n after →
-      Holds (cell (summing s n (k + 1))) n after
+      (t after : List ℕ) (k : ℕ) → k < n → HoldsSums (cell (summing s n k)) n t → RowsLowered n k t n after →
+      HoldsSums (cell (summing s n (k + 1))) n after
   sums-more t after k u h r =
       rw add-one
       (holds-same (through (cell (summing s n k)) k) (cell (summing s n (suc k))) n after (λ i j l o. sym (stage-more s n k i j l o))

@@ -13,6 +13,6 @@ word none = 65535
 word (some d) = min d 65535
 
 -- t holds the words of the sums D below n
-pub record Holds (D : Sums) (n : ℕ) (t : List ℕ) : Type 0 where
+pub record HoldsSums (D : Sums) (n : ℕ) (t : List ℕ) : Type 0 where
   pub room : 64 * n ≤ length t
   pub are : (i j : ℕ) → i < n → j < n → wordAt t i j ≡ word (D i j)

@@ -8,12 +8,12 @@ ghost use mathlib.Core.Bool.{true};
 ghost use Prim.Native.Nat.{_≤_};
 ghost use Rattle.links_rules.specs.Sheet.{linkCount, sheetOk};
 ghost use Rattle.links_rules.specs.Sums.{nowhere, staying, direct, cell, leastSums};
-ghost use Rattle.links_sums.specs.Words.{Holds};
+ghost use Rattle.links_sums.specs.Words.{HoldsSums};
 
 // The sum of the walk of no link, at each router.
 fn stay(words: &mut [u16], n: usize)
-    requires { ⌜ (n ≤ 64) × Holds nowhere n (now words) ⌝ }
-    ensures { λ _. ⌜ Holds staying n (now (words .exit)) ⌝ }
+    requires { ⌜ (n ≤ 64) × HoldsSums nowhere n (now words) ⌝ }
+    ensures { λ _. ⌜ HoldsSums staying n (now (words .exit)) ⌝ }
 {
     let mut u = 0;
     while u < n {
@@ -24,8 +24,8 @@ fn stay(words: &mut [u16], n: usize)
 
 // The sums of the walks of one link.
 fn add_links(links: &[u8], n: usize, words: &mut [u16])
-    requires { ⌜ (n ≤ 64) × (sheetOk (now links) n ≡ true) × Holds staying n (now words) ⌝ }
-    ensures { λ _. ⌜ Holds (direct (now (links .entry)) (linkCount (now (links .entry)))) n (now (words .exit)) ⌝ }
+    requires { ⌜ (n ≤ 64) × (sheetOk (now links) n ≡ true) × HoldsSums staying n (now words) ⌝ }
+    ensures { λ _. ⌜ HoldsSums (direct (now (links .entry)) (linkCount (now (links .entry)))) n (now (words .exit)) ⌝ }
 {
     let count = links.len() / 4;
     let mut k = 0;
@@ -40,8 +40,8 @@ fn add_links(links: &[u8], n: usize, words: &mut [u16])
 
 // The least sums over all walks.
 pub fn least_sums(links: &[u8], n: usize, words: &mut [u16])
-    requires { ⌜ (n ≤ 64) × (sheetOk (now links) n ≡ true) × Holds nowhere n (now words) ⌝ }
-    ensures { λ _. ⌜ Holds (cell (leastSums (now (links .entry)) n)) n (now (words .exit)) ⌝ }
+    requires { ⌜ (n ≤ 64) × (sheetOk (now links) n ≡ true) × HoldsSums nowhere n (now words) ⌝ }
+    ensures { λ _. ⌜ HoldsSums (cell (leastSums (now (links .entry)) n)) n (now (words .exit)) ⌝ }
 {
     stay(words, n);
     add_links(links, n, words);

@@ -11,10 +11,9 @@ use lib.ListN.{getD}
 use borrow.Author.Tests.{eqb-false, eq-eqb, ne-eqb, le-leb, lt-leb, le-ltb, not-true}
 use Rattle.base.proofs.Numbers.{not-both, eq-or-ne, lt-or-le}
 use Rattle.plan_rules.specs.Distances.{distanceIn}
-use Rattle.route_rules.specs.Instance.{Instance, Route, nothing, via}
+use Rattle.route_rules.specs.Instance.{Instance, Route, nothing, via, RouterBelow}
 use Rattle.route_rules.specs.Preference.{prefers}
 use Rattle.route_rules.specs.Activation.{reflects, advertises, hears, choose}
-use Rattle.route_rules.specs.RouterBytes.{RouterBelow}
 use Rattle.net_tables.specs.TableBytes.{RouteBelow, readRoute}
 use Rattle.net_activate.specs.OnePass.{senderMark, routeKey, noKey, toldKey, advertisedKey, leastKey, egressIn, senderIn, keyRoute}
 use Rattle.net_tables.proofs.TableBytes.{read-via}

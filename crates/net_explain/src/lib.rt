@@ -9,8 +9,8 @@ ghost use mathlib.Core.Path.{_≡_};
 ghost use mathlib.Core.Bool.{true};
 ghost use Prim.Native.Nat.{_*_, _≤_, _<_};
 ghost use lib.ListN.{length};
-ghost use Rattle.route_rules.specs.Instance.{Instance};
-ghost use Rattle.route_rules.specs.RouterBytes.{asRouter, RouterBelow};
+ghost use Rattle.route_rules.specs.Instance.{Instance, RouterBelow};
+ghost use Rattle.net_rules.specs.RouterBytes.{asRouter};
 ghost use Rattle.net_rules.specs.Decoded.{instance};
 ghost use Rattle.net_prefer.specs.Measured.{Measured};
 ghost use Rattle.net_rules.specs.WellFormed.{WellFormed};
@@ -32,7 +32,7 @@ fn against_own(distances: &[u8], n: usize, w: usize, offer: usize, own: u8) -> E
         return Explanation::Yes(Rule::BetterOffer(
             offer,
             client,
-            call_compare::compare::difference(to_offer, to_client),
+            net_prefer::difference(to_offer, to_client),
         ));
     }
     Explanation::No(Reason::OfferNotBetter)

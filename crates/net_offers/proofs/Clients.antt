@@ -11,10 +11,9 @@ use Rattle.base.specs.Bits.{bitN}
 use Rattle.base.specs.BitWalk.{fromBit, LowestBit, BitWalk}
 use Rattle.base.proofs.Best.{best-start, best-more, keep-none}
 use Rattle.base.proofs.BitWalk.{walk-start, walk-set, walk-within, walk-visit, walk-more, walk-done}
-use Rattle.route_rules.specs.Instance.{Instance}
+use Rattle.route_rules.specs.Instance.{Instance, RouterBelow}
 use Rattle.route_rules.specs.Preference.{prefers}
 use Rattle.route_rules.specs.Reliance.{listedClientOf, bestClient}
-use Rattle.route_rules.specs.RouterBytes.{RouterBelow}
 use Rattle.route_rules.proofs.Reliance.{clients-below}
 
 -- b is the best of those visited, and m holds the others

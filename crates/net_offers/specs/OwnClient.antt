@@ -8,7 +8,7 @@ use lib.ListN.{getD}
 use Rattle.base.specs.Bits.{bitN}
 use Rattle.route_rules.specs.Instance.{Instance}
 use Rattle.route_rules.specs.Reliance.{listedClientOf, bestClient}
-use Rattle.route_rules.specs.RouterBytes.{asRouter}
+use Rattle.net_rules.specs.RouterBytes.{asRouter}
 
 -- a word with bit e for each listed client e that v neighbours; there may be no way to it
 pub record ListedClients (I : Instance) (v r : ℕ) : Type 0 where

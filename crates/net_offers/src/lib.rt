@@ -7,12 +7,12 @@ ghost use mathlib.Core.List.{List};
 ghost use Prim.Native.Nat.{ℕ, _*_, _≤_, _<_};
 ghost use lib.ListN.{length};
 ghost use Rattle.base.specs.Best.{keepBest};
-ghost use Rattle.route_rules.specs.Instance.{Instance};
+ghost use Rattle.route_rules.specs.Instance.{Instance, RouterBelow};
 ghost use Rattle.route_rules.specs.Preference.{prefers};
 ghost use Rattle.route_rules.specs.Reliance.{bestClient, offer, betterOffer};
 ghost use Rattle.net_offers.specs.OwnClient.{ListedClients, OwnClient, OwnClients};
 ghost use Rattle.net_rules.specs.Decoded.{decoded, instance};
-ghost use Rattle.route_rules.specs.RouterBytes.{asRouter, RouterBelow};
+ghost use Rattle.net_rules.specs.RouterBytes.{asRouter};
 ghost use Rattle.net_prefer.specs.Measured.{Measured};
 ghost use Rattle.net_rules.specs.WellFormed.{WellFormed};
 

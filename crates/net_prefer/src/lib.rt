@@ -1,7 +1,8 @@
-// The one comparison of two routes, over distances alone.
+// The one comparison of two routes, over distances alone, and their difference.
 
 ghost use mathlib.Core.Path.{_≡_};
 ghost use Prim.Native.Nat.{ℕ, _*_, _≤_, _<_};
+ghost use lib.IntN.{pos, _-ℤ_};
 ghost use lib.ListN.{length};
 ghost use Rattle.route_rules.specs.Instance.{Instance};
 ghost use Rattle.route_rules.specs.Preference.{prefers, better};
@@ -41,4 +42,12 @@ pub fn prefers(distances: &[u8], n: usize, w: usize, e: usize, f: usize) -> bool
     let first = plan_distances::distance(distances, n, w, e);
     let second = plan_distances::distance(distances, n, w, f);
     nearer(first, second, e, f)
+}
+
+// The first number minus the second, of any two that are distances in four bytes.
+pub fn difference(first: usize, second: usize) -> i64
+    requires { ⌜ (first ≤ 4294967294) × (second ≤ 4294967294) ⌝ }
+    ensures { λ r. ⌜ r ≡ pos first -ℤ pos second ⌝ }
+{
+    first as i64 - second as i64
 }

@@ -4,6 +4,7 @@ use plan_contents::entries::ROUTERS;
 use plan_contents::entries::SESSIONS;
 use plan_contents::header::ROUTER_COUNT;
 use net_rules::Network;
+use plan_routers::CLIENT;
 ghost use mathlib.Core.Path.{_≡_};
 ghost use mathlib.Core.Bool.{_&&_, _||_};
 ghost use Prim.Native.Nat.{ℕ, _*_, _≤_, _<_};
@@ -15,9 +16,6 @@ ghost use Rattle.plan_rules.specs.Routers.{reflectorIn};
 ghost use Rattle.plan_rules.specs.Sessions.{sessionCount, sessionFirst, sessionSecond, inSession};
 ghost use Rattle.plan_rules.specs.EgressLists.{listCount};
 ghost use Rattle.net_rules.specs.FromPlan.{skipsIn, named, ReadFrom};
-
-// The role of a client; each other role is a reflector's.
-const CLIENT: u8 = 2;
 
 // The role of a reflector that skips its clients.
 const SKIPPING: u8 = 3;

@@ -10,7 +10,7 @@ use Rattle.base.specs.Bits.{bitN}
 use Rattle.base.specs.Seek.{flag}
 use Rattle.route_rules.specs.Instance.{Instance, isRouter}
 use Rattle.route_rules.specs.Reliance.{bestClient, relies}
-use Rattle.route_rules.specs.RouterBytes.{asRouter}
+use Rattle.net_rules.specs.RouterBytes.{asRouter}
 
 -- w is an unlisted reflector, whose reliances rule 3 decides, and the byte `own` its best client
 pub record UnlistedReflector (I : Instance) (w own : ℕ) : Type 0 where

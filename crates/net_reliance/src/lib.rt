@@ -11,7 +11,8 @@ ghost use Rattle.route_rules.specs.Reliance.{relies};
 ghost use Rattle.net_offers.specs.OwnClient.{OwnClient, OwnClients};
 ghost use Rattle.net_reliance.specs.RelianceRows.{UnlistedReflector, Candidates, RelianceRow, RelianceRows};
 ghost use Rattle.net_rules.specs.Decoded.{instance};
-ghost use Rattle.route_rules.specs.RouterBytes.{asRouter, RouterBelow};
+ghost use Rattle.route_rules.specs.Instance.{RouterBelow};
+ghost use Rattle.net_rules.specs.RouterBytes.{asRouter};
 ghost use Rattle.net_rules.specs.WellFormed.{WellFormed};
 
 // Rule 3, where `own` and `other` are the best clients of w and, if it is a reflector, of v.

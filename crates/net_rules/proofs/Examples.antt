@@ -4,10 +4,11 @@ use Rattle.base.specs.Below.{anyBelow}
 use Rattle.plan_rules.specs.Sessions.{pairs, inSession}
 use Rattle.plan_rules.specs.Lists.{listPlace}
 use Rattle.net_rules.specs.FromPlan.{named}
+use Rattle.net_rules.specs.RouterBytes.{asRouter}
 use Rattle.net_rules.specs.Examples.{threeRouters, NetworkExamples}
 
 pub network-examples : NetworkExamples
-unfolding threeRouters pairs inSession named listPlace anyBelow
+unfolding threeRouters pairs inSession named listPlace anyBelow asRouter
 network-examples =
     record {
       count = refl;
@@ -25,4 +26,6 @@ network-examples =
       notByPosition = refl;
       ofTheListAsked = refl;
       ofThatListAlone = refl;
+      noRouter = refl;
+      lastRouterByte = refl;
     }

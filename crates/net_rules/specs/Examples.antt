@@ -3,10 +3,12 @@
 use Prim.Native.Nat.{ℕ}
 use mathlib.Core.Path.{_≡_}
 use mathlib.Core.Bool.{true, false}
+use mathlib.Core.Option.{none, some}
 use mathlib.Core.List.{List, [], _∷_}
 use lib.ListN.{set}
 use Rattle.route_rules.specs.Instance.{Instance}
 use Rattle.net_rules.specs.FromPlan.{instanceOf}
+use Rattle.net_rules.specs.RouterBytes.{asRouter}
 
 -- reflector 0, clients 1 and 2
 unfoldable pub threeRouters : List ℕ
@@ -61,3 +63,6 @@ pub record NetworkExamples : Type 0 where
   pub notByPosition : withList0 .listed 0 ≡ false  -- by its place in the list: true
   pub ofTheListAsked : withList1 .listed 2 ≡ true  -- of the first list: false
   pub ofThatListAlone : withList0 .listed 2 ≡ false  -- of the list after it: true
+  -- a router in a byte, 255 for none
+  pub noRouter : asRouter 255 ≡ none
+  pub lastRouterByte : asRouter 254 ≡ some 254

@@ -1,4 +1,5 @@
 pub mod Decoded
 pub mod FromPlan
 pub mod WellFormed
+pub mod RouterBytes
 pub mod Examples

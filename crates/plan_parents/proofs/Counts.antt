@@ -20,7 +20,7 @@ use Rattle.plan_rules.specs.Sessions.{sessionCount, sessionFirst, sessionSecond
 use Rattle.plan_rules.specs.Parents.{parentCount, fewParents, parentsOk}
 use Rattle.plan_rules.proofs.Neighbours.{pairs-are}
 use Rattle.plan_rules.proofs.Parents.{client-is}
-use Rattle.plan_parents.specs.Counts.{Reached, countsFor, counted, Counted, forgotten, noted, fewCounted}
+use Rattle.plan_parents.specs.Counts.{countsFor, counted, Counted, forgotten, noted, fewCounted}
 use Rattle.plan_parents.proofs.OneMore.{counted-le, order, counted-more}
 
 of-role : (routers : List ℕ) (n u : ℕ) → u < n → reflectorIn routers n u ≡ not (eqb (role routers u) 2)
@@ -136,11 +136,11 @@ module _ (routers s : List ℕ) (n : ℕ) where
     few-none h = sym few-all ∙ all-intro _ n (λ v l. few-leb v (omega (arith, highest-over (λ u. getD counts u 0) 64 v (omega arith))))
 
     -- .. or those before `past`: of a router from there on, no more are counted than there are before it
-    module _ (r : Reached s n past (sessionCount s)) where
+    module _ (firsts : (j : ℕ) → j < sessionCount s → sessionFirst s j < past) where
       before-it : (u p : ℕ) → past ≤ u → (countsFor routers n past u p && anyBelow (pairs s u p) (sessionCount s)) ≡ true → p < past
       before-it u p l h =
           let seen : Witness (pairs s u p) (sessionCount s) = any-at _ _ (both-right (countsFor routers n past u p) _ h) in
-          let first = r .before (seen .at) (seen .below) in
+          let first = firsts (seen .at) (seen .below) in
           ⊎-elim (λ (e : (sessionFirst s (seen .at) ≡ u) × (sessionSecond s (seen .at) ≡ p)). absurd (omega arith))
           (λ (e : (sessionSecond s (seen .at) ≡ u) × (sessionFirst s (seen .at) ≡ p)). omega arith)
           (pairs-are s u p (seen .at) (seen .holds))

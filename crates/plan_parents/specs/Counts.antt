@@ -1,22 +1,15 @@
 -- How parents are counted while the sessions are read, router by router: of each router those whose first number it is.
 -- `routers` is the body of kind 1, `s` that of kind 2.
-use Prim.Native.Nat.{ℕ, _+_, _≤_, _<_}
+use Prim.Native.Nat.{ℕ, _+_, _<_}
 use mathlib.Core.Path.{_≡_}
 use mathlib.Core.Bool.{Bool, true, false, not, _&&_, _||_}
 use mathlib.Core.List.{List}
 use lib.Dec.{leb, eqb}
 use lib.ListN.{length, getD, set}
-use Rattle.base.specs.Below.{allBelow, anyBelow}
+use Rattle.base.specs.Below.{anyBelow}
 use Rattle.base.specs.Seek.{flag, count}
 use Rattle.plan_rules.specs.Routers.{role, reflectorIn}
-use Rattle.plan_rules.specs.Sessions.{sessionCount, sessionFirst, sessionOk, pairs}
-
--- every session before j is in order and of a router before v, and session j is not, if it is in order
-pub record Reached (s : List ℕ) (n v j : ℕ) : Type 0 where
-  pub upto : j ≤ sessionCount s
-  pub held : allBelow (sessionOk s n) j ≡ true
-  pub before : (i : ℕ) → i < j → sessionFirst s i < v
-  pub next : j < sessionCount s → sessionOk s n j ≡ true → v ≤ sessionFirst s j
+use Rattle.plan_rules.specs.Sessions.{pairs}
 
 -- With the sessions of the routers before v read, a neighbour p counts for u if p is a reflector. If u is one too, its count is kept only
 -- until its own sessions are read, since row 13 asks for no count of a reflector.

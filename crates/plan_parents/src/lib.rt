@@ -9,9 +9,9 @@ ghost use lib.ListN.{length, getD};
 ghost use Rattle.base.specs.Below.{allBelow};
 ghost use Rattle.base.specs.Seek.{highest};
 ghost use Rattle.plan_rules.specs.Routers.{role};
-ghost use Rattle.plan_rules.specs.Sessions.{sessionCount};
+ghost use Rattle.plan_rules.specs.Sessions.{sessionCount, sessionFirst};
 ghost use Rattle.plan_rules.specs.Parents.{parentsOk};
-ghost use Rattle.plan_parents.specs.Counts.{Reached, Counted, forgotten, noted, fewCounted};
+ghost use Rattle.plan_parents.specs.Counts.{Counted, forgotten, noted, fewCounted};
 
 // The most parents that a client may have.
 const MOST: u8 = 4;
@@ -93,7 +93,7 @@ fn few_before(routers: &[u8], end: usize, counts: &[u8; 64]) -> bool
 // mostly tells at once that none has.
 pub fn few(routers: &[u8], n: usize, past: usize, counts: &[u8; 64]) -> bool
     requires { ⌜ (past ≤ n) × (n ≤ 64) × (5 * n ≤ length (now routers)) ⌝ }
-    ensures { λ r. ⌜ ((s : List ℕ) → Reached s n past (sessionCount s)
+    ensures { λ r. ⌜ ((s : List ℕ) → ((j : ℕ) → j < sessionCount s → sessionFirst s j < past)
         → Counted (now (routers .entry)) s n past (sessionCount s) (now (counts .entry)) → r ≡ parentsOk (now (routers .entry)) s n) ⌝ }
 {
     if n <= MOST as usize {

@@ -8,7 +8,7 @@ ghost use lib.ListN.{length};
 ghost use Rattle.plan_rules.specs.Routers.{role, routerOk, routersOk};
 
 // The role of a client; each other role is a reflector's.
-const CLIENT: u8 = 2;
+pub const CLIENT: u8 = 2;
 
 pub fn is_reflector(s: &[u8], v: usize) -> bool
     requires { ⌜ 5 * v < length (now s) ⌝ }

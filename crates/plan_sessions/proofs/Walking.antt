@@ -14,8 +14,7 @@ use Rattle.plan_rules.specs.Rising.{PairBefore}
 use Rattle.plan_rules.specs.Sessions.{sessionCount, sessionFirst, sessionSecond, sessionOk, sessionsOk}
 use Rattle.plan_rules.proofs.Facts.{SessionAt, session-iff}
 use Rattle.plan_rules.proofs.Rising.{rises-after, after-before}
-use Rattle.plan_parents.specs.Counts.{Reached}
-use Rattle.plan_sessions.specs.Walk.{goesOn}
+use Rattle.plan_sessions.specs.Walk.{Reached, goesOn}
 
 -- the session before j is v's with router `last`
 pub record Gone (s : List ℕ) (v last j : ℕ) : Type 0 where

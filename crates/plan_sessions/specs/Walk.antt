@@ -1,13 +1,21 @@
--- What the code tells of the sessions, which it reads router by router: `Reached` of crate plan_parents says how far it is.
+-- What the code tells of the sessions, which it reads router by router.
 -- `routers` is the body of kind 1, `s` that of kind 2.
-use Prim.Native.Nat.{ℕ, _≤_}
+use Prim.Native.Nat.{ℕ, _≤_, _<_}
 use mathlib.Core.Path.{_≡_}
 use mathlib.Core.Bool.{Bool, true, _&&_}
 use mathlib.Core.List.{List}
 use lib.Dec.{ltb, eqb}
-use Rattle.plan_rules.specs.Sessions.{sessionCount, sessionFirst, sessionSecond, sessionsOk}
+use Rattle.base.specs.Below.{allBelow}
+use Rattle.plan_rules.specs.Sessions.{sessionCount, sessionFirst, sessionSecond, sessionOk, sessionsOk}
 use Rattle.plan_rules.specs.Parents.{parentsOk}
-use Rattle.plan_parents.specs.Counts.{Reached, Counted}
+use Rattle.plan_parents.specs.Counts.{Counted}
+
+-- every session before j is in order and of a router before v, and session j is not, if it is in order
+pub record Reached (s : List ℕ) (n v j : ℕ) : Type 0 where
+  pub upto : j ≤ sessionCount s
+  pub held : allBelow (sessionOk s n) j ≡ true
+  pub before : (i : ℕ) → i < j → sessionFirst s i < v
+  pub next : j < sessionCount s → sessionOk s n j ≡ true → v ≤ sessionFirst s j
 
 -- session j is one more of v's, after that with router `last`
 abbrev pub goesOn : List ℕ → ℕ → ℕ → ℕ → ℕ → Bool

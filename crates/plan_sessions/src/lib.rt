@@ -4,8 +4,8 @@
 ghost use mathlib.Core.Path.{_≡_};
 ghost use Prim.Native.Nat.{_+_, _*_, _≤_, _<_};
 ghost use lib.ListN.{length, replicate};
-ghost use Rattle.plan_parents.specs.Counts.{Reached, Counted};
-ghost use Rattle.plan_sessions.specs.Walk.{Walked, Answers, goesOn};
+ghost use Rattle.plan_parents.specs.Counts.{Counted};
+ghost use Rattle.plan_sessions.specs.Walk.{Reached, Walked, Answers, goesOn};
 
 // Whether session j is one more of router v, which is its first, after that with router `last`.
 fn goes_on(s: &[u8], n: usize, v: usize, last: usize, j: usize) -> bool

@@ -6,14 +6,13 @@ use Rattle.route_rules.specs.Preference.{prefers, better, marginOf}
 use Rattle.route_rules.specs.Activation.{reflects, advertises, hears, senderOf, routeTo, choice, choose, entryOk, tableOk, activate, runActs}
 use Rattle.route_rules.specs.Rounds.{acted, roundsFrom, rounds, tallyAct, tallyActs}
 use Rattle.route_rules.specs.Reliance.{listedClientOf, bestClient, offer, betterOffer, relies}
-use Rattle.route_rules.specs.RouterBytes.{asRouter}
 use Rattle.route_rules.specs.Examples.{among, neighbours, distances, sixWith, start, RoutingExamples}
 
 pub routing-examples : RoutingExamples
 unfolding
     among neighbours distances sixWith start
     prefers better marginOf reflects advertises hears senderOf routeTo choice choose entryOk tableOk activate runActs
-    acted roundsFrom rounds tallyAct tallyActs listedClientOf bestClient offer betterOffer relies asRouter
+    acted roundsFrom rounds tallyAct tallyActs listedClientOf bestClient offer betterOffer relies
     allBelow anyBelow keepBest best
 routing-examples =
     record {
@@ -46,7 +45,7 @@ routing-examples =
       role3AsTheSender = refl;
       role3AsTheHearer = refl;
       listedRole3AnnouncesItself = refl;
-      listedAnnouncesItself = refl;
+      listedAdvertisesItself = refl;
       clientAnnouncesNothing = refl;
       notFromAStranger = refl;
       noWayNotHeard = refl;
@@ -110,6 +109,4 @@ routing-examples =
       rule3OnRole3 = refl;
       rule3OfRole3 = refl;
       rule3OfRole3OnItsClient = refl;
-      noRouter = refl;
-      lastRouterByte = refl;
     }

@@ -5,4 +5,3 @@ pub mod Routes
 pub mod Rounds
 pub mod Reliance
 pub mod OneComparison
-pub mod RouterBytes

@@ -8,10 +8,9 @@ use borrow.Author.Tests.{ne-eqb, not-true}
 use Rattle.base.proofs.Numbers.{both-left, both-right, not-both}
 use Rattle.base.specs.Best.{best}
 use Rattle.base.proofs.Best.{BestIs, best-is}
-use Rattle.route_rules.specs.Instance.{Instance, isRouter}
+use Rattle.route_rules.specs.Instance.{Instance, isRouter, RouterBelow}
 use Rattle.route_rules.specs.Preference.{prefers}
 use Rattle.route_rules.specs.Reliance.{listedClientOf, bestClient, offer, betterOffer, relies, withSkips}
-use Rattle.route_rules.specs.RouterBytes.{RouterBelow}
 use Rattle.route_rules.proofs.Preference.{prefers-order}
 
 module _ (I : Instance) where

@@ -13,7 +13,6 @@ use Rattle.route_rules.specs.Preference.{prefers, better, marginOf}
 use Rattle.route_rules.specs.Activation.{reflects, advertises, hears, senderOf, choose, held, entryOk, tableOk, activate, runActs}
 use Rattle.route_rules.specs.Rounds.{rounds, freshTally, tallyActs}
 use Rattle.route_rules.specs.Reliance.{bestClient, offer, betterOffer, relies}
-use Rattle.route_rules.specs.RouterBytes.{asRouter}
 
 -- v is one of the numbers
 unfoldable pub among : List ℕ → ℕ → Bool
@@ -128,7 +127,7 @@ pub record RoutingExamples : Type 0 where
   pub role3AsTheHearer : reflects (skipSix (4 ∷ [])) 0 (via 4 2) 1 ≡ none  -- role 3 taken for a client: some 4
   pub listedRole3AnnouncesItself : advertises (skipSix (1 ∷ [])) 1 (via 1 1) 5 ≡ some 1  -- to reflectors only: none
   -- "A listed router holds its own route always and announces it to every neighbour. An unlisted client announces nothing."
-  pub listedAnnouncesItself : advertises reflector1And34 1 (via 1 1) 0 ≡ some 1  -- as one heard from a reflector: none
+  pub listedAdvertisesItself : advertises reflector1And34 1 (via 1 1) 0 ≡ some 1  -- as one heard from a reflector: none
   pub clientAnnouncesNothing : advertises client4 5 (via 4 3) 1 ≡ none  -- as a reflector does: some 4
   -- "announced to it": a neighbour's alone
   pub notFromAStranger : hears client4 (held start) 0 4 4 ≡ false  -- from any router: true
@@ -214,6 +213,3 @@ pub record RoutingExamples : Type 0 where
   pub rule3OnRole3 : relies (skipSix (5 ∷ [])) 0 1 ≡ true  -- role 3 taken for a client: false
   pub rule3OfRole3 : relies (skipSix (3 ∷ 4 ∷ [])) 1 2 ≡ false  -- by rule 2, as a client: true
   pub rule3OfRole3OnItsClient : relies (skipSix (3 ∷ 4 ∷ [])) 1 4 ≡ true  -- on reflectors alone: false
-  -- a router in a byte, 255 for none
-  pub noRouter : asRouter 255 ≡ none
-  pub lastRouterByte : asRouter 254 ≡ some 254

@@ -1,5 +1,5 @@
 -- The network and its egress list, as functions: the rules and theorems never see bytes.
-use Prim.Native.Nat.{ℕ}
+use Prim.Native.Nat.{ℕ, _<_}
 use mathlib.Core.Bool.{Bool, false}
 use mathlib.Core.Option.{Option, none, some}
 use lib.Dec.{eqb}
@@ -32,3 +32,8 @@ pub data Route : Type 0 where
 abbrev pub isRouter : ℕ → Option ℕ → Bool
 isRouter v none = false
 isRouter v (some e) = eqb e v
+
+-- there is none, or it is below n
+abbrev pub RouterBelow : ℕ → Option ℕ → Type 0
+RouterBelow n none = Unit
+RouterBelow n (some e) = e < n

@@ -4,5 +4,4 @@ pub mod Activation
 pub mod Rounds
 pub mod Reliance
 pub mod OneComparison
-pub mod RouterBytes
 pub mod Examples

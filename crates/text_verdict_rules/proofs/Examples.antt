@@ -17,8 +17,8 @@ use Rattle.route_rules.specs.Preference.{prefers}
 use Rattle.route_rules.specs.Reliance.{listedClientOf, bestClient, offer, betterOffer, relies}
 use Rattle.graph_groups.specs.Closure.{closing}
 use Rattle.graph_groups.specs.Groups.{together, label, stable, grouped}
-use Rattle.graph_ranks.specs.Rank.{rankOver, rankRounds, rank}
-use Rattle.graph_cycle.specs.Cycle.{start, next, walk, second, first, lap, cycleIn, cycle}
+use Rattle.graph_ranks.specs.Rank.{rankOver, ranksByChains, rank}
+use Rattle.graph_cycle.specs.Cycle.{start, next, walk, metAgainAt, metFirstAt, repeatedPart, cycleIn, cycle}
 use Rattle.call_verdict.specs.Verdict.{isStable, highestOf, cycleOf}
 use Rattle.text_fields.specs.Fields.{digits, decimal, spaced}
 use Rattle.text_lines.specs.Text.{headLine, refusedLine, stableLine, suspectLine}
@@ -29,7 +29,7 @@ pub text-examples : TextExamplesHold
 unfolding
     examplePlan exampleText refused1 refused3 examples
     planText listLines listLine headLine refusedLine stableLine suspectLine spaced digits decimal
-    isStable highestOf cycleOf start next walk second first lap cycleIn cycle rankOver rankRounds rank together label stable grouped closing
+    isStable highestOf cycleOf start next walk metAgainAt metFirstAt repeatedPart cycleIn cycle rankOver ranksByChains rank together label stable grouped closing
     listedClientOf bestClient offer betterOffer relies prefers pairs inSession named refuse bodyChecks planChecks planRefusal
     headerOk routerCountOk kindsOk placesOk sizesOk contentsOk routerOk routersOk sessionOk sessionsOk
     parentCount fewParents parentsOk count distancesOk

@@ -1,8 +1,8 @@
--- `graph_cycle::cycle`: what is copied is the lap of the walk that `follow` found.
+-- `graph_cycle::cycle`: what is copied is the part of the walk that `follow` found.
 use native.Mathlib.Omega.{arith}
 use mathlib.Core.Path.{refl}
 use borrow.Author.Needs.{needs}
-use Rattle.graph_cycle.proofs.Following.{follow-asked, followed-lap, followed-written}
+use Rattle.graph_cycle.proofs.Following.{follow-asked, followed-part, followed-written}
 use Rattle.graph_cycle.proofs.cycle.Statement.{statement}
 use Rattle.graph_cycle.proofs.cycle.Tie as tie
 
@@ -12,13 +12,13 @@ follow-requires c κs = follow-asked _ _ _ _ (c .before .before .pre) _ refl
 sub-count : tie.Need-sub-count
 sub-count c =
     let f = c .before in
-    omega (arith, followed-lap _ _ _ _ (f .before .before .before .pre) _ _ _ (f .follow .ensures))
+    omega (arith, followed-part _ _ _ _ (f .before .before .before .pre) _ _ _ (f .follow .ensures))
 
 copy-part-requires : tie.Need-copy-part-requires
 copy-part-requires c κs =
     let f = c .before .before .before in
     let a = f .before .before .before .pre in
-    omega (arith, followed-lap _ _ _ _ a _ _ _ (f .follow .ensures), a .small, a .long)
+    omega (arith, followed-part _ _ _ _ a _ _ _ (f .follow .ensures), a .small, a .long)
 
 same-length : tie.Need-same-length
 same-length c = search needs

@@ -6,14 +6,14 @@ use borrow.Author.Needs.{needs}
 use lib.ListN.{length}
 use Rattle.links_rules.specs.Sheet.{linkCount}
 use Rattle.links_rules.specs.Sums.{direct}
-use Rattle.links_sums.specs.Words.{Holds}
+use Rattle.links_sums.specs.Words.{HoldsSums}
 use Rattle.links_rules.proofs.Facts.{sheet-facts}
 use Rattle.links_sums.proofs.Words.{direct-more}
 use Rattle.links_sums.proofs.add_links.Statement.{statement}
 use Rattle.links_sums.proofs.add_links.Tie as tie
 
 abbrev Inv-loop : tie.InvT-loop
-Inv-loop links n words₀ count k₀ words k = Holds (direct links k) n words × (k ≤ count) × (length words ≡ length words₀)
+Inv-loop links n words₀ count k₀ words k = HoldsSums (direct links k) n words × (k ≤ count) × (length words ≡ length words₀)
 
 abbrev μ-loop : tie.MeasureT-loop
 μ-loop links n words₀ count k₀ words k = count - k

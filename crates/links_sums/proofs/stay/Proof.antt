@@ -4,13 +4,13 @@ use native.Mathlib.Omega.{arith}
 use mathlib.Core.Path.{_≡_, refl}
 use borrow.Author.Needs.{needs}
 use lib.ListN.{length}
-use Rattle.links_sums.specs.Words.{Holds}
+use Rattle.links_sums.specs.Words.{HoldsSums}
 use Rattle.links_sums.proofs.Words.{stays, stay-more, stay-done}
 use Rattle.links_sums.proofs.stay.Statement.{statement}
 use Rattle.links_sums.proofs.stay.Tie as tie
 
 abbrev Inv-loop : tie.InvT-loop
-Inv-loop words₀ n u₀ words u = Holds (stays u) n words × (u ≤ n) × (length words ≡ length words₀)
+Inv-loop words₀ n u₀ words u = HoldsSums (stays u) n words × (u ≤ n) × (length words ≡ length words₀)
 
 abbrev μ-loop : tie.MeasureT-loop
 μ-loop words₀ n u₀ words u = n - u

@@ -8,8 +8,8 @@ use mir.Syntax.{w64}
 use mir.ValLaws.{toZ-ofZ}
 use Rattle.route_rules.specs.Instance.{Instance}
 use Rattle.route_rules.specs.Preference.{prefers}
-use Rattle.route_rules.specs.RouterBytes.{asRouter}
-use Rattle.route_rules.proofs.RouterBytes.{router-none, router-some, router-below}
+use Rattle.net_rules.specs.RouterBytes.{asRouter}
+use Rattle.net_rules.proofs.RouterBytes.{router-none, router-some, router-below}
 use Rattle.net_prefer.specs.Measured.{Measured, ReadAs}
 use Rattle.net_prefer.proofs.Measured.{read-as}
 use Rattle.route_explain_rules.specs.Explained.{WayTo, againstOwn}

@@ -5,8 +5,8 @@ use mathlib.Core.Bool.{true}
 use mathlib.Core.Option.{some}
 use borrow.Author.Needs.{needs}
 use Rattle.route_rules.specs.Instance.{Instance}
-use Rattle.route_rules.specs.RouterBytes.{asRouter}
-use Rattle.route_rules.proofs.RouterBytes.{router-none, router-some, router-below}
+use Rattle.net_rules.specs.RouterBytes.{asRouter}
+use Rattle.net_rules.proofs.RouterBytes.{router-none, router-some, router-below}
 use Rattle.net_prefer.specs.Measured.{Measured}
 use Rattle.net_prefer.proofs.Measured.{some-way, no-way}
 use Rattle.route_explain_rules.specs.Explained.{byOffer}

@@ -8,7 +8,7 @@ use lib.Dec.{eqb}
 use Rattle.base.proofs.Numbers.{yes, no}
 use Rattle.route_rules.specs.Instance.{Instance, isRouter}
 use Rattle.route_rules.specs.Reliance.{bestClient}
-use Rattle.route_rules.proofs.RouterBytes.{router-is}
+use Rattle.net_rules.proofs.RouterBytes.{router-is}
 use Rattle.net_rules.specs.Decoded.{decoded}
 use Rattle.net_explain.proofs.Cases.{on-client-unlisted, on-client-peer, on-client-own, on-client-other}
 use Rattle.net_explain.proofs.on_client.Statement.{statement}

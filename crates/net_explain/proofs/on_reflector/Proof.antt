@@ -4,7 +4,7 @@ use borrow.Author.Needs.{needs}
 use Rattle.base.proofs.Numbers.{yes, no}
 use Rattle.route_rules.specs.Instance.{Instance}
 use Rattle.route_rules.specs.Reliance.{offer}
-use Rattle.route_rules.specs.RouterBytes.{asRouter}
+use Rattle.net_rules.specs.RouterBytes.{asRouter}
 use Rattle.route_rules.proofs.Reliance.{bestClient-below, offer-below}
 use Rattle.net_rules.specs.Decoded.{decoded}
 use Rattle.route_explain_rules.specs.Explained.{byOffer}

@@ -3,8 +3,8 @@ use borrow.Author.Needs.{needs}
 use borrow.Author.Tests.{eqb-true}
 use Rattle.route_rules.specs.Instance.{Instance}
 use Rattle.net_rules.specs.Decoded.{decoded}
-use Rattle.route_rules.specs.RouterBytes.{asRouter}
-use Rattle.route_rules.proofs.RouterBytes.{router-none}
+use Rattle.net_rules.specs.RouterBytes.{asRouter}
+use Rattle.net_rules.proofs.RouterBytes.{router-none}
 use Rattle.net_offers.proofs.Clients.{Seeking, seeking-start, seeking-below, seeking-router, seeking-more, seeking-done}
 use Rattle.net_offers.proofs.best_client.Statement.{statement}
 use Rattle.net_offers.proofs.best_client.Tie as tie

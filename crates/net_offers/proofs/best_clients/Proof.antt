@@ -6,7 +6,7 @@ use borrow.Author.Count.{below-none, below-more}
 use lib.ListN.{length, getD, length-set}
 use lib.Seq.{getD-set-same, getD-set-other}
 use Rattle.net_rules.specs.Decoded.{decoded}
-use Rattle.route_rules.specs.RouterBytes.{asRouter}
+use Rattle.net_rules.specs.RouterBytes.{asRouter}
 use Rattle.net_offers.proofs.best_clients.Statement.{statement}
 use Rattle.net_offers.specs.OwnClient.{OwnClient}
 use Rattle.net_offers.proofs.best_clients.Tie as tie

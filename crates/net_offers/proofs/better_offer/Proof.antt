@@ -7,8 +7,8 @@ use borrow.Author.Needs.{needs}
 use Rattle.route_rules.specs.Instance.{Instance}
 use Rattle.route_rules.specs.Preference.{prefers}
 use Rattle.route_rules.specs.Reliance.{betterOffer}
-use Rattle.route_rules.specs.RouterBytes.{asRouter}
-use Rattle.route_rules.proofs.RouterBytes.{router-none, router-some, router-below}
+use Rattle.net_rules.specs.RouterBytes.{asRouter}
+use Rattle.net_rules.proofs.RouterBytes.{router-none, router-some, router-below}
 use Rattle.route_rules.proofs.Reliance.{better-none, better-no-way, better-any, better-both}
 use Rattle.net_prefer.specs.Measured.{Measured}
 use Rattle.net_prefer.proofs.Measured.{some-way, no-way}

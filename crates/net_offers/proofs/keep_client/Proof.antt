@@ -9,8 +9,8 @@ use Rattle.base.specs.Best.{keepBest}
 use Rattle.base.proofs.Best.{keep-none, keep-only, keep-new, keep-old}
 use Rattle.route_rules.specs.Instance.{Instance}
 use Rattle.route_rules.specs.Preference.{prefers}
-use Rattle.route_rules.specs.RouterBytes.{asRouter}
-use Rattle.route_rules.proofs.RouterBytes.{router-none, router-some, router-below}
+use Rattle.net_rules.specs.RouterBytes.{asRouter}
+use Rattle.net_rules.proofs.RouterBytes.{router-none, router-some, router-below}
 use Rattle.net_prefer.specs.Measured.{Measured}
 use Rattle.net_prefer.proofs.Measured.{some-way, no-way}
 use Rattle.net_offers.proofs.keep_client.Statement.{statement}

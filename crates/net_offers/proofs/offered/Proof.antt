@@ -2,7 +2,7 @@ use native.Mathlib.Omega.{arith}
 use mathlib.Core.Path.{_∙_, sym}
 use borrow.Author.Needs.{needs}
 use Rattle.net_rules.specs.Decoded.{decoded}
-use Rattle.route_rules.proofs.RouterBytes.{router-some}
+use Rattle.net_rules.proofs.RouterBytes.{router-some}
 use Rattle.route_rules.proofs.Reliance.{offer-listed, offer-unlisted}
 use Rattle.net_offers.proofs.offered.Statement.{statement}
 use Rattle.net_offers.proofs.offered.Tie as tie

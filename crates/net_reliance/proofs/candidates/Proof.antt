@@ -8,7 +8,7 @@ use lib.ListN.{getD}
 use Rattle.base.specs.Bits.{bitN}
 use Rattle.base.proofs.SetBits.{set-and, bit-with}
 use Rattle.route_rules.specs.Instance.{isRouter}
-use Rattle.route_rules.proofs.RouterBytes.{router-none, router-some, router-below}
+use Rattle.net_rules.proofs.RouterBytes.{router-none, router-some, router-below}
 use Rattle.net_reliance.proofs.candidates.Statement.{statement}
 use Rattle.net_reliance.proofs.candidates.Tie as tie
 

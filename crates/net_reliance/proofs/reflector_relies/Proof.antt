@@ -7,8 +7,8 @@ use Rattle.base.proofs.Numbers.{yes, no}
 use Rattle.route_rules.specs.Instance.{Instance, isRouter}
 use Rattle.net_rules.specs.Decoded.{decoded}
 use Rattle.route_rules.specs.Reliance.{offer, betterOffer}
-use Rattle.route_rules.specs.RouterBytes.{asRouter}
-use Rattle.route_rules.proofs.RouterBytes.{router-is}
+use Rattle.net_rules.specs.RouterBytes.{asRouter}
+use Rattle.net_rules.proofs.RouterBytes.{router-is}
 use Rattle.route_rules.proofs.Reliance.{bestClient-below, offer-below, relies-own, offer-stranger, offer-neighbour}
 use Rattle.net_reliance.proofs.reflector_relies.Statement.{statement}
 use Rattle.net_reliance.proofs.reflector_relies.Tie as tie

@@ -6,20 +6,20 @@ use Rattle.plan_parents.proofs.few.Statement.{statement}
 use Rattle.plan_parents.proofs.few.Tie as tie
 
 returns : tie.Need-returns
-returns c s reached counted = sym (few-small _ s _ _ _ (c .before .before .pre .1) counted (c .if1 .taken))
+returns c s firsts counted = sym (few-small _ s _ _ _ (c .before .before .pre .1) counted (c .if1 .taken))
 
 returns-2 : tie.Need-returns-2
-returns-2 c s reached counted =
+returns-2 c s firsts counted =
     c .few-before .ensures
-    ∙ few-past _ s _ _ _ (c .before .before .before .before .pre .1) counted reached (c .before .before .before .before .pre .0) (c .before .if2 .taken)
+    ∙ few-past _ s _ _ _ (c .before .before .before .before .pre .1) counted firsts (c .before .before .before .before .pre .0) (c .before .if2 .taken)
 
 returns-3 : tie.Need-returns-3
-returns-3 c s reached counted =
+returns-3 c s firsts counted =
     let most = c .before .greatest .ensures in
     sym (few-none _ s _ _ _ (c .before .before .before .before .before .pre .1) counted (omega (arith, c .if3 .taken)))
 
 returns-4 : tie.Need-returns-4
-returns-4 c s reached counted =
+returns-4 c s firsts counted =
     c .few-before2 .ensures ∙ few-all _ s _ _ _ (c .before .before .before .before .before .before .pre .1) counted
 
 pub few-spec : {M : Type 1} → statement M

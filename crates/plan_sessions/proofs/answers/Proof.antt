@@ -16,7 +16,7 @@ returns-2 c =
     let ordered = not-false _ (d .if1 .left) in
     record {
       row5 = sym (yes _ (w .row5) (d .if1 .left));
-      row13 = λ e. c .few .ensures _ (w .reached ordered) (w .counted ordered);
+      row13 = λ e. c .few .ensures _ (w .reached ordered .before) (w .counted ordered);
     }
 
 pub answers-spec : {M : Type 1} → statement M

@@ -5,7 +5,8 @@ use mathlib.Core.Bool.{false}
 use borrow.Author.Needs.{needs}
 use Rattle.base.proofs.Numbers.{not-both}
 use Rattle.plan_rules.specs.Sessions.{sessionCount}
-use Rattle.plan_parents.specs.Counts.{Reached, Counted}
+use Rattle.plan_parents.specs.Counts.{Counted}
+use Rattle.plan_sessions.specs.Walk.{Reached}
 use Rattle.plan_sessions.proofs.Walking.{reached-start, reached-fail, reached-done}
 use Rattle.plan_parents.proofs.Counts.{counted-start}
 use Rattle.plan_sessions.proofs.walk_all.Statement.{statement}

@@ -3,7 +3,7 @@ use native.Mathlib.Omega.{arith}
 use mathlib.Core.Path.{_∙_, sym}
 use borrow.Author.Needs.{needs}
 use Rattle.call_rules.proofs.Granted.{list-asked}
-use Rattle.call_query.proofs.ListStretch.{stretch-refused, stretch-given}
+use Rattle.call_query.proofs.ListPart.{stretch-refused, stretch-given}
 use Rattle.call_query.proofs.lists.egress_list.Statement.{statement}
 use Rattle.call_query.proofs.lists.egress_list.Tie as tie
 

@@ -9,7 +9,7 @@ use Rattle.plan_rules.proofs.ListWithin.{numbers-of}
 use Rattle.plan_rules.proofs.Refused.{when-refused, when-given}
 use Rattle.call_rules.specs.Refusals.{egressListRefusal}
 use Rattle.call_rules.proofs.Granted.{list-asked}
-use Rattle.call_query.specs.EgressList.{egressListStart, egressListSize, StretchOf, HandedBack}
+use Rattle.call_query.specs.EgressList.{egressListStart, egressListSize, ListPartOf, HandedBack}
 
 module _ (plan : List ℕ) (k : ℕ) where
   pub record Stretch (start size : ℕ) : Type 0 where
@@ -25,7 +25,7 @@ module _ (plan : List ℕ) (k : ℕ) where
   stretch-given h = record { starts = when-given _ _ _ h; sizes = when-given _ _ _ h }
 
 -- of a list that is not refused the stretch is its numbers
-pub handed-back : (plan : RefT (List ℕ)) (k : ℕ) (part : RefT (List ℕ)) → StretchOf plan k part → egressListRefusal (now plan) k ≡ 0 → HandedBack plan k part
+pub handed-back : (plan : RefT (List ℕ)) (k : ℕ) (part : RefT (List ℕ)) → ListPartOf plan k part → egressListRefusal (now plan) k ≡ 0 → HandedBack plan k part
 handed-back plan k part s h =
     let g = stretch-given (now plan) k h in
     let a = list-asked (now plan) k h in

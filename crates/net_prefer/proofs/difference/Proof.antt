@@ -9,8 +9,8 @@ use mir.Syntax.{w64}
 use mir.Val.{SFits, toZ, hbits}
 use mir.ValLaws.{toZ-pos, toZ-ofZ}
 use Rattle.base.proofs.Differences.{difference-within}
-use Rattle.call_compare.proofs.compare.difference.Statement.{statement}
-use Rattle.call_compare.proofs.compare.difference.Tie as tie
+use Rattle.net_prefer.proofs.difference.Statement.{statement}
+use Rattle.net_prefer.proofs.difference.Tie as tie
 
 far-below : 4294967295 < 2 ^ hbits w64
 far-below = lit< tt

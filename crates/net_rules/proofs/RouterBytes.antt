@@ -6,8 +6,8 @@ use mathlib.Core.Bool.{Bool, true, false}
 use mathlib.Core.Option.{none, some}
 use lib.Dec.{eqb}
 use borrow.Author.Tests.{eqb-true, ne-eqb}
-use Rattle.route_rules.specs.Instance.{isRouter}
-use Rattle.route_rules.specs.RouterBytes.{asRouter, RouterBelow}
+use Rattle.route_rules.specs.Instance.{isRouter, RouterBelow}
+use Rattle.net_rules.specs.RouterBytes.{asRouter}
 
 pub router-none : (x : ℕ) → x ≡ 255 → asRouter x ≡ none
 unfolding asRouter
