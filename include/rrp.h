@@ -35,32 +35,29 @@ typedef char rrp_size_t_has_64_bits[sizeof(size_t) == 8 ? 1 : -1];
 enum rrp_refusal {
     /* not refused */
     RRP_OK = 0,
-    /* fewer than 26 or more than 16,731 bytes, or bytes 0 to 3 are not the letters RRP1, or byte 5 is not 4 */
+    /* the length is not 26 to 16,731 bytes, bytes 0 to 3 are not RRP1, or byte 5 is not 4 */
     RRP_NOT_A_PLAN = 1,
-    /* the number of routers, byte 4 of a plan, is 0 or above 64 */
+    /* the number of routers is 0 or above 64 */
     RRP_BAD_ROUTER_COUNT = 2,
     /* a kind, an offset or a length in the table of contents is wrong */
     RRP_BAD_CONTENTS = 3,
     /* a role is not 1, 2 or 3, or the identifiers do not rise strictly */
     RRP_BAD_ROUTERS = 4,
-    /* a session has a number that is no router's or not its lower number first, or the sessions do not rise strictly */
+    /* a session is not two routers, the lower number first, or the sessions do not rise strictly */
     RRP_BAD_SESSIONS = 5,
-    /* a router's distance to itself is not 0 */
+    /* the distance from a router to itself is not 0 */
     RRP_BAD_DISTANCES = 6,
-    /* there are no lists or more than 64; a list is empty, has a number that is no router's or does not rise strictly; or the
-     * lists do not end where the plan ends */
+    /* there are not 1 to 64 lists, each of one router or more, rising strictly, up to the plan's end */
     RRP_BAD_LISTS = 7,
-    /* a list or a router asked for is not in the plan; a run asks for its whole sequence, also past the limit */
+    /* a list or a router asked for is not in the plan; a run asks for its whole sequence */
     RRP_NOT_IN_PLAN = 8,
     /* a buffer is shorter than the call needs */
     RRP_SHORT_BUFFER = 9,
-    /* in a table handed over, a router of the list does not hold its own route, or another holds neither RRP_NONE twice nor an
-     * egress below n with a neighbour as sender */
+    /* the table breaks its rule: own route if listed, else nothing or an egress from a neighbour */
     RRP_BAD_TABLE = 10,
-    /* the links' bytes are no multiple of four, there are more than 512 links, a link has a number that is no router's or a weight
-     * of 0, or the links do not rise strictly */
+    /* the sheet is not 0 to 512 whole links of two routers and a weight above 0, rising strictly */
     RRP_BAD_LINKS = 11,
-    /* from some router there are walks to another, and the least sum of their weights is above 65,534 */
+    /* from some router there are walks to another, and their least sum of weights is above 65,534 */
     RRP_TOO_FAR = 12,
     /* a client has sessions with five or more reflectors */
     RRP_TOO_MANY_PARENTS = 13
@@ -162,8 +159,8 @@ uint8_t rrp_activate(const uint8_t *plan, size_t plan_len, size_t list, size_t r
 
 /* Activates the routers of a sequence, one byte each, in order, at most limit of them, in the table's 2n bytes. *applied is the
  * number of activations made, *rounds the number of rounds that ended among them, counted from the first of them (with two
- * routers, 0 0 1 1 makes one round), and *exhausted 1 if the sequence is longer than the limit, else 0. Refusals 1 to 10
- * and 13. */
+ * routers, 0 0 1 1 makes one round), and *exhausted 1 if the sequence is longer than the limit, else 0. The whole sequence is asked
+ * for, also past the limit. Refusals 1 to 10 and 13. */
 uint8_t rrp_run(const uint8_t *plan, size_t plan_len, size_t list, const uint8_t *sequence, size_t sequence_len, uint64_t limit,
                 uint8_t *table, size_t table_len, uint64_t *applied, uint64_t *rounds, uint8_t *exhausted);
 

@@ -29,20 +29,23 @@ TOO_MANY_PARENTS = 13
 
 #: Why a call is refused, by number.
 REFUSALS = {
-    1: "the bytes are too few, too many, or do not start as a plan does",
-    2: "there are no routers, or more than 64",
-    3: "the table of contents is broken",
-    4: "a role or an identifier is broken",
-    5: "a session is broken",
+    1: "the length is not 26 to 16,731 bytes, bytes 0 to 3 are not RRP1, or byte 5 is not 4",
+    2: "the number of routers is 0 or above 64",
+    3: "a kind, an offset or a length in the table of contents is wrong",
+    4: "a role is not 1, 2 or 3, or the identifiers do not rise strictly",
+    5: "a session is not two routers, the lower number first, or the sessions do not rise strictly",
     6: "the distance from a router to itself is not 0",
-    7: "the egress lists are broken",
-    8: "the list or a router asked for, or one of a run's sequence, also past the limit, is "
-    "missing",
-    9: "a buffer is too short",
-    10: "the routing table holds an entry that cannot be there",
-    11: "a link is broken, or the sheet is: no whole links, or more than 512",
-    12: "some router has walks along links to another, but none with a sum of at most 65,534",
-    13: "a client has five or more neighbouring reflectors",
+    7: "there are not 1 to 64 lists, each of one router or more, rising strictly, up to the plan's "
+    "end",
+    8: "a list or a router asked for is not in the plan; a run asks for its whole sequence",
+    9: "a buffer is shorter than the call needs",
+    10: "the table breaks its rule: own route if listed, else nothing or an egress from a "
+    "neighbour",
+    11: "the sheet is not 0 to 512 whole links of two routers and a weight above 0, rising "
+    "strictly",
+    12: "from some router there are walks to another, and their least sum of weights is above "
+    "65,534",
+    13: "a client has sessions with five or more reflectors",
 }
 
 

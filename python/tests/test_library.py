@@ -1,4 +1,4 @@
-"""The calls are declared as the header has them, and refusals are told in the README's words."""
+"""The calls are declared as the header has them."""
 
 from __future__ import annotations
 
@@ -31,7 +31,7 @@ def declared() -> dict[str, list[str]]:
 
 
 class Declarations(unittest.TestCase):
-    """Against include/rrp.h and README.md."""
+    """Against include/rrp.h."""
 
     def test_every_function_is_declared(self) -> None:
         self.assertEqual(set(library.PROTOTYPES), set(declared()))
@@ -54,12 +54,6 @@ class Declarations(unittest.TestCase):
             self.assertEqual(getattr(library, name), int(numbers[name]), name)
         for name in ("BAD_LISTS", "TOO_FAR"):
             self.assertEqual(getattr(library, name), int(numbers[name]), name)
-
-    def test_sentences(self) -> None:
-        rows = re.findall(r"^\| (\d+) \| `RRP_\w+` \| (.*) \|$", read(f"{ROOT}/README.md"), re.M)
-        self.assertGreaterEqual(len(rows), 12)
-        for number, sentence in rows:
-            self.assertEqual(library.REFUSALS[int(number)], sentence)
 
 
 class Calls(unittest.TestCase):

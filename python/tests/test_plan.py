@@ -118,7 +118,7 @@ class Construction(unittest.TestCase):
                 Plan(data, routers=names)
 
     def test_refused(self) -> None:
-        with self.assertRaisesRegex(Refused, "x.plan: refused 1: the bytes are too few") as caught:
+        with self.assertRaisesRegex(Refused, "x.plan: refused 1: the length is not 26") as caught:
             Plan.from_bytes(b"RRP1", "x.plan")
         self.assertEqual(caught.exception.number, 1)
 
