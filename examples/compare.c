@@ -11,7 +11,7 @@ int main(int count, char **words)
     static const char *const names[] = { "neither", "first", "second" };
     static uint8_t plan[RRP_MAX_PLAN + 1];
     size_t asked[3];
-    if (count != 5 || !read_numbers(words + 2, asked)) {
+    if (count != 5 || !read_numbers(words + 2, asked, 3)) {
         fprintf(stderr, "usage: compare FILE ROUTER FIRST SECOND\n");
         return 2;
     }

@@ -21,10 +21,10 @@ static inline size_t read_plan(const char *path, uint8_t plan[RRP_MAX_PLAN + 1])
     return length;
 }
 
-/* Reads three numbers; says whether they are numbers. */
-static inline int read_numbers(char **words, size_t numbers[3])
+/* Reads so many numbers, a word each; says whether they are numbers. */
+static inline int read_numbers(char **words, size_t *numbers, size_t count)
 {
-    for (int i = 0; i < 3; i++) {
+    for (size_t i = 0; i < count; i++) {
         char *end;
         numbers[i] = strtoull(words[i], &end, 10);
         if (end == words[i] || *end != '\0')

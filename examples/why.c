@@ -27,7 +27,7 @@ int main(int count, char **words)
 {
     static uint8_t plan[RRP_MAX_PLAN + 1];
     size_t asked[3];
-    if (count != 5 || !read_numbers(words + 2, asked)) {
+    if (count != 5 || !read_numbers(words + 2, asked, 3)) {
         fprintf(stderr, "usage: why FILE LIST ROUTER OTHER\n");
         return 2;
     }

@@ -54,6 +54,37 @@ explains() {
 END
 }
 
+# What the C example of a run prints, its lines joined: the activations, the rounds, the table; or the refusal.
+runs() {
+    local asked expected
+    while IFS='|' read -r asked expected; do
+        # shellcheck disable=SC2086
+        [ "$("$out/run" examples/m3.plan $asked | paste -sd,)" = "$expected" ] || { echo "embedding: run $asked is not: $expected"; return 1; }
+    done <<'END'
+0 9 0 1 2 3|applied 4 rounds 1,0 holds 2 from 2,1 holds 2 from 0,2 holds 2 from 2,3 holds 3 from 3
+0 3 1 0 2 3|applied 3 rounds 0 exhausted,0 holds 3 from 1,1 holds 3 from 3,2 holds 2 from 2,3 holds 3 from 3
+1 9|applied 0 rounds 0,0 nothing,1 nothing,2 nothing,3 holds 3 from 3
+0 0 4|refused 8
+2 9 0|refused 8
+END
+}
+
+# What the C example of distances prints of links, from a file or from its input, its lines joined; or the refusal.
+works_out_distances() {
+    local n links expected
+    while IFS='|' read -r n links expected; do
+        tr , '\n' <<<"$links" >"$out/links"
+        [ "$("$out/distances" "$n" "$out/links" | paste -sd,)" = "$expected" ] && [ "$("$out/distances" "$n" <"$out/links" | paste -sd,)" = "$expected" ] ||
+            { echo "embedding: distances $n of $links are not: $expected"; return 1; }
+    done <<'END'
+3|0 1 1,0 2 9,1 2 2,2 0 260|0 1 3,262 0 2,260 261 0
+3|0 1 5,1 0 5|0 5 none,5 0 none,none none 0
+65|0 1 5|refused 2
+2|0 1 0|refused 11
+2|0 1 65535|refused 12
+END
+}
+
 # A program reads on where its input comes in parts.
 reads_in_parts() {
     local m3=examples/m3.plan
@@ -109,7 +140,7 @@ second() {
 }
 
 mkdir -p "$out"
-rm -f "$out/verdicts" "$out/compare" "$out/why" "$out/stack"
+rm -f "$out/verdicts" "$out/compare" "$out/why" "$out/run" "$out/distances" "$out/stack"
 try "the library" rt staticlib rrp
 try "the header as C99" gcc -std=c99 -pedantic -Wall -Wextra -Werror -Iinclude -fsyntax-only -x c include/rrp.h
 try "the header as C++" g++ -std=c++11 -pedantic -Wall -Wextra -Werror -Iinclude -fsyntax-only -x c++ include/rrp.h
@@ -120,6 +151,10 @@ try "the C example of a comparison" gcc -std=c11 -Wall -Wextra -Werror -O2 -Iinc
 try "the C example's margins" compares
 try "the C example of an explanation" gcc -std=c11 -Wall -Wextra -Werror -O2 -Iinclude examples/why.c -L"$archive" -lrrp -o "$out/why"
 try "the C example's explanations" explains
+try "the C example of a run" gcc -std=c11 -Wall -Wextra -Werror -O2 -Iinclude examples/run.c -L"$archive" -lrrp -o "$out/run"
+try "the C example's run" runs
+try "the C example of distances" gcc -std=c11 -Wall -Wextra -Werror -O2 -Iinclude examples/distances.c -L"$archive" -lrrp -o "$out/distances"
+try "the C example's distances" works_out_distances
 try "the library's size in a program" measures_size
 try "the second checker alone" second self
 try "the library against the second checker" second --seed "$seed" --plans "$plans"
