@@ -74,7 +74,7 @@ works_out_distances() {
     local n links expected
     while IFS='|' read -r n links expected; do
         tr , '\n' <<<"$links" >"$out/links"
-        [ "$("$out/distances" "$n" "$out/links" | paste -sd,)" = "$expected" ] && [ "$("$out/distances" "$n" <"$out/links" | paste -sd,)" = "$expected" ] ||
+        [ "$("$out/distances" "$n" "$out/links" | paste -sd,) $("$out/distances" "$n" <"$out/links" | paste -sd,)" = "$expected $expected" ] ||
             { echo "embedding: distances $n of $links are not: $expected"; return 1; }
     done <<'END'
 3|0 1 1,0 2 9,1 2 2,2 0 260|0 1 3,262 0 2,260 261 0
@@ -83,6 +83,14 @@ works_out_distances() {
 2|0 1 0|refused 11
 2|0 1 65535|refused 12
 END
+}
+
+# The C examples print what docs/EMBEDDING.md shows after each command.
+prints_as_documented() {
+    local shown made line
+    shown=$(sed -n '/^```console$/,/^```$/{/^```/d;p}' docs/EMBEDDING.md)
+    made=$(grep '^\$ ' <<<"$shown" | while IFS= read -r line; do echo "$line"; eval "$(sed "s|^. ||; s|target/|$out/|" <<<"$line")"; done)
+    [ -n "$shown" ] && diff <(echo "$shown") <(echo "$made")
 }
 
 # A program reads on where its input comes in parts.
@@ -155,6 +163,7 @@ try "the C example of a run" gcc -std=c11 -Wall -Wextra -Werror -O2 -Iinclude ex
 try "the C example's run" runs
 try "the C example of distances" gcc -std=c11 -Wall -Wextra -Werror -O2 -Iinclude examples/distances.c -L"$archive" -lrrp -o "$out/distances"
 try "the C example's distances" works_out_distances
+try "the C examples as documented" prints_as_documented
 try "the library's size in a program" measures_size
 try "the second checker alone" second self
 try "the library against the second checker" second --seed "$seed" --plans "$plans"
