@@ -60,7 +60,8 @@ class Refusals(unittest.TestCase):
         self.assertEqual([int(number) for number, _, _ in rows("Refusals")], list(range(1, 14)))
 
     def test_the_header_has_the_sentences(self) -> None:
-        self.assertEqual(members("rrp_refusal"), [("0", "RRP_OK", "not refused"), *rows("Refusals")])
+        none = ("0", "RRP_OK", "not refused")
+        self.assertEqual(members("rrp_refusal"), [none, *rows("Refusals")])
 
     def test_the_tool_has_the_sentences(self) -> None:
         told = {int(number): sentence for number, _, sentence in rows("Refusals")}

@@ -1,8 +1,10 @@
-"""The commands of the README give what is printed there.
+"""The pages are held to the repository: the commands that they show give the outputs shown, and the
+files, headings, crates and theorems that they name are there.
 
 In a block marked `console` a line after `$ ` is a command, and what follows is its output, in which
-a line `..` stands for lines that are left out. The commands are run one after the other in a folder
-that has copies of the examples.
+a line `..` stands for lines that are left out. The commands of a page are run one after the other
+in a folder that has copies of the examples. Those of docs/EMBEDDING.md are of C programs, which
+tests/run-embedding.sh builds and runs. tests/trace.py holds the names in docs/trace.
 """
 
 from __future__ import annotations
@@ -13,15 +15,29 @@ import re
 import shlex
 import shutil
 import subprocess
+import sys
 import tempfile
 import unittest
 from typing import NamedTuple
 
-from .support import EXAMPLES, PYTHON, ROOT, read, rrp
+from .support import EXAMPLES, ROOT, read, rrp
 
 COMMAND = "target/bin/rrp"
 
+#: The pages that must show commands, with the fewest that they show.
+SHOWING = {"README.md": 3, "docs/TOOL.md": 12}
+ELSEWHERE = {"docs/EMBEDDING.md"}
+
+#: What stands for a name in the name of a file; and the folder of what is built.
+NO_FILES = {"NAME", "LABEL", "NN", "target"}
+
 _BLOCK = re.compile(r"^```(\w+)\n(.*?)^```$", re.DOTALL | re.MULTILINE)
+_LINK = re.compile(r"\]\(([^)\s]+)\)")
+_HEADING = re.compile(r"^#+ (.*)$", re.MULTILINE)
+_FOLDER = re.compile(r"(?<![\w/])(\w+/(?:specs|proofs|src)/[\w/]+)")
+_PATH = re.compile(r"(?<![\w/.-])((?:crates|docs|examples|include|python|tests|\.ci)/[\w./-]*\w)")
+_THEOREM = re.compile(r"`([\w-]+)`\s+\((\w+/proofs/\w+)\)")
+_CRATE = re.compile(r"\bcrates? `(\w+)`")
 
 
 class Shown(NamedTuple):
@@ -32,18 +48,30 @@ class Shown(NamedTuple):
 
 
 def pages() -> list[str]:
-    """The pages that show commands."""
-    return [f"{ROOT}/README.md", *glob.glob(f"{PYTHON}/*.md")]
+    """The README and all pages of docs/, from the root of the repository."""
+    found = glob.glob(f"{ROOT}/docs/**/*.md", recursive=True)
+    return ["README.md", *sorted(os.path.relpath(path, ROOT) for path in found)]
 
 
-def blocks(kind: str) -> list[str]:
-    """The blocks of a kind in the pages."""
-    return [block for page in pages() for mark, block in _BLOCK.findall(read(page)) if mark == kind]
+def page(name: str) -> str:
+    """The text of a page."""
+    return read(f"{ROOT}/{name}")
 
 
-def shown(block: str) -> list[Shown]:
-    """The commands of a block."""
-    parts = re.split(r"^\$ ", block, flags=re.MULTILINE)[1:]
+def prose() -> list[str]:
+    """The pages without those of the trace."""
+    return [name for name in pages() if not name.lower().startswith("docs/trace")]
+
+
+def blocks(name: str, kind: str) -> list[str]:
+    """The blocks of a kind in a page."""
+    return [block for mark, block in _BLOCK.findall(page(name)) if mark == kind]
+
+
+def shown(name: str) -> list[Shown]:
+    """The commands of a page."""
+    text = "".join(blocks(name, "console"))
+    parts = re.split(r"^\$ ", text, flags=re.MULTILINE)[1:]
     return [Shown(*part.split("\n", 1)) for part in parts]
 
 
@@ -54,14 +82,27 @@ def fits(output: str, expected: str) -> bool:
     return re.fullmatch(pattern, output) is not None
 
 
-class Readme(unittest.TestCase):
+def anchors(name: str) -> set[str]:
+    """The headings of a page as links name them."""
+    found = [re.sub(r"[^\w -]", "", heading.lower()) for heading in _HEADING.findall(page(name))]
+    return {heading.replace(" ", "-") for heading in found}
+
+
+def there(path: str) -> bool:
+    """Whether a name is that of a file or a folder, or of a source without its ending."""
+    return any(os.path.exists(f"{ROOT}/{path}{ending}") for ending in ("", ".antt", ".rt"))
+
+
+class Commands(unittest.TestCase):
     """Every command that is shown."""
 
     def setUp(self) -> None:
+        self.addCleanup(os.chdir, os.getcwd())
+
+    def enter(self) -> None:
+        """A new folder with copies of the examples."""
         folder = tempfile.TemporaryDirectory()
-        before = os.getcwd()
         self.addCleanup(folder.cleanup)
-        self.addCleanup(os.chdir, before)
         os.chdir(folder.name)
         shutil.copytree(EXAMPLES, "examples")
 
@@ -79,17 +120,79 @@ class Readme(unittest.TestCase):
         return ""
 
     def test_outputs(self) -> None:
-        commands = [each for block in blocks("console") for each in shown(block)]
-        self.assertGreater(len(commands), 10)
-        for command, expected in commands:
-            output = self.output(command)
-            self.assertTrue(fits(output, expected), f"{command}\n{output}")
+        for name in sorted(set(pages()) - ELSEWHERE):
+            self.enter()
+            commands = shown(name)
+            self.assertGreaterEqual(len(commands), SHOWING.get(name, 0), name)
+            for command, expected in commands:
+                output = self.output(command)
+                self.assertTrue(fits(output, expected), f"{name}: {command}\n{output}")
 
     def test_python(self) -> None:
-        found = blocks("python")
+        self.enter()
+        found = blocks("docs/TOOL.md", "python")
         self.assertGreater(len(found), 0)
         for block in found:
-            exec(compile(block, "README", "exec"), {"print": lambda *values: None})
+            exec(compile(block, "TOOL.md", "exec"), {"print": lambda *values: None})
+
+    def test_python_that_writes_a_plan(self) -> None:
+        (block,) = blocks("docs/FORMAT.md", "python")
+        ran = subprocess.run([sys.executable, "-c", block], check=True, capture_output=True)
+        with open(f"{EXAMPLES}/m3.plan", "rb") as file:
+            self.assertEqual(ran.stdout, file.read())
+
+    def test_what_does_not_fit_is_found(self) -> None:
+        for expected in ("a\nb\n", "a\n..\nc\n", "..\n"):
+            self.assertTrue(fits("a\nb\n" if "c" not in expected else "a\nb\nc\n", expected))
+        for expected in ("a\n", "b\n", "a\nb\nc\n", "..\na\n", ""):
+            self.assertFalse(fits("a\nb\n", expected), expected)
+
+
+class Names(unittest.TestCase):
+    """What pages name is there."""
+
+    def test_links(self) -> None:
+        count = 0
+        for name in pages():
+            for link in _LINK.findall(page(name)):
+                if re.match(r"\w+:", link):
+                    continue
+                path, _, anchor = link.partition("#")
+                target = os.path.normpath(os.path.join(os.path.dirname(name), path))
+                target = target if path else name
+                self.assertTrue(there(target), f"{name}: {link}")
+                if anchor:
+                    self.assertIn(anchor, anchors(target), f"{name}: {link}")
+                count += 1
+        self.assertGreater(count, 50)
+
+    def test_files(self) -> None:
+        named = [(name, path) for name in prose() for path in _PATH.findall(page(name))]
+        for name in prose():
+            named += [(name, f"crates/{path}") for path in _FOLDER.findall(page(name))]
+        self.assertGreater(len(named), 100)
+        for name, path in named:
+            if not NO_FILES & set(re.findall(r"\w+", path)):
+                self.assertTrue(there(path), f"{name}: {path}")
+
+    def test_crates(self) -> None:
+        crates = set(os.listdir(f"{ROOT}/crates"))
+        named = [(name, crate) for name in prose() for crate in _CRATE.findall(page(name))]
+        self.assertGreater(len(named), 5)
+        for name, crate in named:
+            self.assertIn(crate, crates, name)
+
+    def test_theorems(self) -> None:
+        theorems = _THEOREM.findall(page("README.md"))
+        self.assertGreaterEqual(len(theorems), 10)
+        for theorem, file in theorems:
+            text = read(f"{ROOT}/crates/{file}.antt")
+            self.assertRegex(text, rf"(?m)^\s*pub {re.escape(theorem)} :", file)
+
+    def test_columns(self) -> None:
+        for name in prose():
+            for number, line in enumerate(page(name).splitlines(), 1):
+                self.assertLessEqual(len(line), 120, f"{name}:{number}")
 
 
 if __name__ == "__main__":
