@@ -27,7 +27,7 @@ BAD_TABLE = 10
 TOO_FAR = 12
 TOO_MANY_PARENTS = 13
 
-#: Why a call is refused, by number.
+#: Why a call is refused, by number, in the words of docs/CALLS.md.
 REFUSALS = {
     1: "the length is not 26 to 16,731 bytes, bytes 0 to 3 are not RRP1, or byte 5 is not 4",
     2: "the number of routers is 0 or above 64",
