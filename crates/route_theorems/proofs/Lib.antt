@@ -4,3 +4,4 @@ pub mod Existence
 pub mod Settling
 pub mod Uniqueness
 pub mod Sharpness
+pub mod Senders
