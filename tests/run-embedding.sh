@@ -1,7 +1,7 @@
 #!/usr/bin/env bash
 # Builds the library for C and runs what embeds it: the header as C and as C++, the C examples, the second checker held against the library, the programs
 # that measure its size and the stack.
-# Also holds the yardsticks of the bench, the expected lines of `cases`, the verdict and the margin program against the second checker, and builds the bench.
+# Also holds the yardstick of the bench, the expected lines of `cases`, the verdict and the margin program against the second checker, and builds the bench.
 # usage: tests/run-embedding.sh [SEED]        (needs rt, gcc, g++ and cargo)
 set -uo pipefail
 shopt -s nullglob
@@ -167,8 +167,7 @@ try "the C examples as documented" prints_as_documented
 try "the library's size in a program" measures_size
 try "the second checker alone" second self
 try "the library against the second checker" second --seed "$seed" --plans "$plans"
-try "the yardstick plain against the second checker" second --against plain --seed "$seed" --plans 2000
-try "the yardstick tight against the second checker" second --against tight --seed "$seed" --plans 2000
+try "the yardstick against the second checker" second --against tight --seed "$seed" --plans 2000
 try "the expected lines of cases from the second checker" writes crates/cases/stdout second cases
 try "the bench program" linked build --bin bench
 try "the stack program" gcc -std=gnu11 -Wall -Wextra -Werror -O2 -Iinclude tests/stack.c -L"$archive" -lrrp -o "$out/stack"

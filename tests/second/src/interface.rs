@@ -1,5 +1,5 @@
 //! The calls of the C interface, said with slices. The oracle, the linked
-//! library, the yardsticks and the checkers with a known fault all answer them.
+//! library, the yardstick and the checkers with a known fault all answer them.
 
 /// The four buffers of the verdict call.
 pub struct VerdictBuffers<'a> {

@@ -8,7 +8,6 @@ mod interface;
 mod library;
 mod oracle;
 
-pub use bench::plain::Plain;
 pub use bench::tight::Tight;
 #[cfg(feature = "library")]
 pub use bench::timing::bench;

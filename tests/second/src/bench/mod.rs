@@ -1,6 +1,5 @@
-//! The yardsticks, and what times the library against them.
+//! The yardstick, and what times the library against it.
 
-pub mod plain;
 #[cfg(feature = "library")]
 mod shapes;
 pub mod tight;

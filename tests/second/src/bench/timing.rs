@@ -1,8 +1,7 @@
-//! Times the library and the yardsticks in one process on the same inputs, in
+//! Times the library and the yardstick in one process on the same inputs, in
 //! turns. A time is the best of the turns; a ratio is the median of the ratios of
 //! the turns, so that a machine that is slower for a while slows both sides.
 
-use super::plain::Plain;
 use super::shapes::{full_sheet, ring_and_chords, two_parts, Shape, SIZES};
 use super::tight::Tight;
 use crate::harness::arguments;
@@ -27,8 +26,8 @@ const TURN: f64 = 0.005;
 /// The activations of a run, unless its line says another number.
 const ACTS: usize = 50_000;
 
-/// Nanoseconds of the library, `plain` and `tight`.
-type Times = [f64; 3];
+/// Nanoseconds of the library and of `tight`.
+type Times = [f64; 2];
 
 #[repr(C)]
 struct Timespec {
@@ -60,7 +59,7 @@ fn seconds(call: &mut dyn FnMut(), calls: usize) -> f64 {
 
 /// One turn: the work on each checker.
 fn turn(work: &mut dyn FnMut(&mut dyn Checker)) -> Times {
-    let checkers: [&mut dyn Checker; 3] = [&mut Library, &mut Plain, &mut Tight];
+    let checkers: [&mut dyn Checker; 2] = [&mut Library, &mut Tight];
     checkers.map(|checker| {
         let mut call = || work(checker);
         let calls = (TURN / seconds(&mut call, 3)).max(1.0) as usize;
@@ -87,9 +86,8 @@ impl Bench<'_> {
         }
         let turns: Vec<Times> = (0..TURNS).map(|_| turn(&mut work)).collect();
         let best = |which: usize| turns.iter().map(|turn| turn[which]).fold(f64::INFINITY, f64::min) / parts as f64;
-        let ratio = |which: usize| median(turns.iter().map(|turn| turn[0] / turn[which]));
-        print!("{name:<40} {:>8.1} {:>8.1} {:>8.1} ns", best(0), best(1), best(2));
-        println!("  ours/plain {:>5.2}  ours/tight {:>5.2}", ratio(1), ratio(2));
+        let ratio = median(turns.iter().map(|[ours, tight]| ours / tight));
+        println!("{name:<40} {:>8.1} {:>8.1} ns  ours/tight {ratio:>5.2}", best(0), best(1));
     }
 
     /// How many times as long as the first run the second takes.
@@ -99,9 +97,9 @@ impl Bench<'_> {
         }
         let both = || [first, second].map(|run| turn(&mut |checker| run.by(checker)));
         let turns: Vec<[Times; 2]> = (0..TURNS).map(|_| both()).collect();
-        let [ours, plain, tight] =
-            [0, 1, 2].map(|which| median(turns.iter().map(|[first, second]| second[which] / first[which])));
-        println!("{name:<40} {ours:>8.2} {plain:>8.2} {tight:>8.2} times as long");
+        let [ours, tight] =
+            [0, 1].map(|which| median(turns.iter().map(|[first, second]| second[which] / first[which])));
+        println!("{name:<40} {ours:>8.2} {tight:>8.2} times as long");
     }
 }
 
@@ -267,7 +265,7 @@ fn time_skips(bench: &Bench, random: &mut Random) {
 
 /// Prints the lines whose names have the word.
 pub fn bench(word: &str) {
-    println!("library (ours), plain, tight: the best of {TURNS} turns, for a run that of one of its activations");
+    println!("library (ours), tight: the best of {TURNS} turns, for a run that of one of its activations");
     println!("ratios: the median of those of the turns");
     let bench = Bench { word };
     let mut random = Random::new(4456);

@@ -1,4 +1,4 @@
-//! Times the library against the yardsticks. With a word as argument only the
+//! Times the library against the yardstick. With a word as argument only the
 //! lines that have it in their names are timed.
 
 fn main() {

@@ -2,7 +2,7 @@
 
 use second_checker::{explained_pairs, margin_line, questions, self_test, verdict_lines};
 use second_checker::{small_explanations, small_margins, small_parents, small_plans, small_roles, small_sheets};
-use second_checker::{Checker, Plain, Random, Tight};
+use second_checker::{Checker, Random, Tight};
 use std::env;
 use std::error::Error;
 use std::fs;
@@ -12,7 +12,7 @@ use std::process::ExitCode;
 use std::time::Instant;
 
 const USAGE: &str = "\
-second --against library|plain|tight [--seed S] [--first K] [--plans N]   compare a checker with the second one
+second --against library|tight [--seed S] [--first K] [--plans N]   compare a checker with the second one
 second self [--seed S] [--plans N]           test the second checker alone, and the comparison on known faults
 second cases                                 print the lines that the program `cases` is due to print
 second verdict                               print the lines the verdict program is due to print for standard input
@@ -54,7 +54,6 @@ fn subject(name: &str) -> Result<Box<dyn Checker>, Box<dyn Error>> {
     match name {
         #[cfg(feature = "library")]
         "library" => Ok(Box::new(second_checker::Library)),
-        "plain" => Ok(Box::new(Plain)),
         "tight" => Ok(Box::new(Tight)),
         _ => Err(format!("no checker {name} is built in").into()),
     }
