@@ -12,10 +12,12 @@ pub use bench::tight::Tight;
 #[cfg(feature = "library")]
 pub use bench::timing::bench;
 pub use harness::cases::lines as case_lines;
-pub use harness::comparison::compare;
-pub use harness::generate::{deepest, largest, numbered};
+pub use harness::comparison::compare::compare;
+pub use harness::faults::wrong_programs;
+pub use harness::plans::generate::{deepest, largest, numbered};
+pub use harness::plans::questions;
 pub use harness::random::Random;
-pub use harness::{explained_pairs, questions, self_test};
+pub use harness::{explained_pairs, self_test};
 pub use harness::{small_explanations, small_margins, small_parents, small_plans, small_roles, small_sheets};
 pub use interface::Checker;
 #[cfg(feature = "library")]

@@ -1,9 +1,9 @@
 //! The plans and the sheets of links that the bench times.
 
-use crate::harness::draft::Draft;
+use crate::harness::plans::draft::Draft;
+use crate::harness::plans::sheets::Sheet;
+use crate::harness::plans::topology::all_pairs;
 use crate::harness::random::Random;
-use crate::harness::sheets::Sheet;
-use crate::harness::topology::all_pairs;
 use crate::oracle::links::MOST_LINKS;
 use crate::oracle::plan::{MOST_PARENTS, NO_WAY};
 use crate::oracle::verdict_lines;

@@ -4,11 +4,11 @@
 
 use super::shapes::{full_sheet, ring_and_chords, two_parts, Shape, SIZES};
 use super::tight::Tight;
-use crate::harness::arguments;
-use crate::harness::draft::Draft;
-use crate::harness::generate;
+use crate::harness::comparison::arguments;
+use crate::harness::plans::draft::Draft;
+use crate::harness::plans::generate;
+use crate::harness::plans::sheets::Sheet;
 use crate::harness::random::Random;
-use crate::harness::sheets::Sheet;
 use crate::interface::{
     Acts, Checker, CompareFields, ExplainFields, Flag, ListFields, RunFields, SizeFields, VerdictBuffers,
     VerdictFields,

@@ -1,6 +1,6 @@
 //! Compares a checker of route-reflection plans with the second one.
 
-use second_checker::{explained_pairs, margin_line, questions, self_test, verdict_lines};
+use second_checker::{explained_pairs, margin_line, questions, self_test, verdict_lines, wrong_programs};
 use second_checker::{small_explanations, small_margins, small_parents, small_plans, small_roles, small_sheets};
 use second_checker::{Checker, Random, Tight};
 use std::env;
@@ -90,7 +90,7 @@ fn test_self(options: &Options) -> Result<bool, Box<dyn Error>> {
     println!("damage aimed at refusals 1 to 7, 11 and 13: refused so");
     println!("known faults: {} found, each of them", self_test::faults()?);
     println!("misread rules: {} found, each also beside itself", self_test::misread_on_both_sides()?);
-    let programs = questions::wrong_programs_found(options.seed, INPUTS)?;
+    let programs = wrong_programs::each_is_found(options.seed, INPUTS)?;
     println!("wrong margin programs: {programs} found on {INPUTS} inputs, each of them");
     let explained = explained_pairs::test(options.seed)?;
     println!("explained pairs {}: a reason applies exactly where there is no reliance", explained.pairs);

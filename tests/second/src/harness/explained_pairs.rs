@@ -1,9 +1,9 @@
 //! The oracle's explanations of reliances tested alone, on every pair of routers of
 //! random plans.
 
-use super::explain_misreadings::{ExplainMisreading, EXPLAIN_MISREADINGS};
-use super::generate;
 use super::random::Random;
+use crate::harness::faults::explain_misreadings::{ExplainMisreading, EXPLAIN_MISREADINGS};
+use crate::harness::plans::generate;
 use crate::interface::{ExplainFields, Explained, Reason};
 use crate::oracle::plan;
 use crate::oracle::rules::{Case, Right, Rules, REASONS};

@@ -1,18 +1,18 @@
 //! The oracle tested alone, and the comparison tested on checkers with a known
 //! fault.
 
-use super::arguments;
-use super::careless::Careless;
-use super::comparison::differ;
-use super::damage::{self, AIMED_AT};
-use super::explain_misreadings::{MisreadExplanation, EXPLAIN_MISREADINGS};
-use super::generate;
-use super::misreadings::{Misread, MISREADINGS};
-use super::parent_slips::PARENT_SLIPS;
 use super::random::Random;
-use super::sheets::{self, Sheet, DAMAGES};
-use super::skip_misreadings::{MisreadSkip, SKIP_MISREADINGS};
-use super::slips::{Slip, SLIPS};
+use crate::harness::comparison::arguments;
+use crate::harness::comparison::compare::differ;
+use crate::harness::faults::careless::Careless;
+use crate::harness::faults::explain_misreadings::{MisreadExplanation, EXPLAIN_MISREADINGS};
+use crate::harness::faults::misreadings::{Misread, MISREADINGS};
+use crate::harness::faults::parent_slips::PARENT_SLIPS;
+use crate::harness::faults::skip_misreadings::{MisreadSkip, SKIP_MISREADINGS};
+use crate::harness::faults::slips::{Slip, SLIPS};
+use crate::harness::plans::damage::{self, AIMED_AT};
+use crate::harness::plans::generate;
+use crate::harness::plans::sheets::{self, Sheet, DAMAGES};
 use crate::interface::Checker;
 use crate::oracle::links::{self, Sums};
 use crate::oracle::plan::{self, Router};

@@ -1,10 +1,10 @@
 //! What document 02 states of explained reliances, on small plans: each rule, and
 //! each reason that is ever the first to apply.
 
-use super::call::{Call, Field};
-use super::draft::Draft;
-use super::small_plans::{answer, draft, same, with_cuts};
-use super::small_roles::two_sites;
+use super::small_plans::{answer, same};
+use crate::harness::comparison::call::{Call, Field};
+use crate::harness::plans::draft::Draft;
+use crate::harness::plans::small_plans::{draft, two_sites, with_cuts};
 use std::collections::BTreeSet;
 
 /// What the call gives: relies, code, offer, has own, own, margin.

@@ -1,11 +1,12 @@
 //! What document 02 states of the margin of two routes, on small plans.
 
-use super::call::{perform, Call, Field};
-use super::draft::Draft;
-use super::generate;
-use super::misreadings::{Misread, Misreading};
 use super::random::Random;
-use super::small_plans::{answer, draft, same, with_cuts};
+use super::small_plans::{answer, same};
+use crate::harness::comparison::call::{perform, Call, Field};
+use crate::harness::faults::misreadings::{Misread, Misreading};
+use crate::harness::plans::draft::Draft;
+use crate::harness::plans::generate;
+use crate::harness::plans::small_plans::{draft, with_cuts};
 use crate::oracle::{margin_line, verdict_lines, Oracle};
 use std::collections::BTreeSet;
 

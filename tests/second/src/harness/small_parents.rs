@@ -1,25 +1,12 @@
 //! What document 02 states of the parents of a client, on small plans.
 
-use super::call::Call;
-use super::draft::{Bodies, Draft};
 use super::small_plans::{answer, same};
+use crate::harness::comparison::call::Call;
+use crate::harness::plans::draft::Bodies;
+use crate::harness::plans::small_plans::star;
 use crate::interface::Checker;
-use crate::oracle::plan::{Router, CLIENT, SKIPPING};
+use crate::oracle::plan::Router;
 use crate::oracle::Oracle;
-
-/// Routers of these roles, of which one neighbours all others; all distances are 0.
-pub fn star(centre: Router, roles: &[u8]) -> Draft {
-    let n = roles.len();
-    let others = (0..n).filter(|&other| other != centre);
-    Draft {
-        reflector: roles.iter().map(|&role| role != CLIENT).collect(),
-        skips: (0..n).filter(|&router| roles[router] == SKIPPING).collect(),
-        identifiers: (1..=n as u32).map(|place| 10 * place).collect(),
-        sessions: others.map(|other| (centre.min(other), centre.max(other))).collect(),
-        distances: vec![vec![0; n]; n],
-        lists: vec![[centre].into()],
-    }
-}
 
 /// All that is stated, or the first thing that is otherwise.
 pub fn test() -> Result<(), String> {

@@ -2,27 +2,12 @@
 //! of the verdict program; what document 02 states of cut-off routers; and the
 //! rank of the deepest plan.
 
-use super::call::{perform, Answer, Call, Field};
-use super::draft::Draft;
-use super::generate;
-use crate::oracle::plan::NO_WAY;
+use crate::harness::comparison::call::{perform, Answer, Call, Field};
+use crate::harness::plans::draft::Draft;
+use crate::harness::plans::generate;
+use crate::harness::plans::small_plans::{draft, lone_reflectors, with_cuts};
 use crate::oracle::{verdict_lines, Oracle};
-use std::collections::BTreeSet;
 use std::fmt::Debug;
-
-/// Two reflectors with a client each: `p` is the distance from 0 to 3, `q`
-/// the one from 1 to 2.
-pub fn draft(p: u16, q: u16, lists: &[&[usize]]) -> Draft {
-    let distances = [[0, 30, 10, p], [30, 0, q, 10], [30, 30, 0, 30], [30, 30, 30, 0]];
-    Draft {
-        reflector: vec![true, true, false, false],
-        skips: BTreeSet::new(),
-        identifiers: vec![10, 20, 30, 40],
-        sessions: BTreeSet::from([(0, 1), (0, 2), (1, 3)]),
-        distances: distances.map(Vec::from).to_vec(),
-        lists: lists.iter().map(|list| list.iter().copied().collect()).collect(),
-    }
-}
 
 /// All that is stated, or the first thing that is otherwise.
 pub fn test() -> Result<(), String> {
@@ -88,18 +73,6 @@ fn runs() -> Result<(), String> {
     run("M9", [1, 0, 2, 3], [3, 1, 3, 3, 2, 2, 3, 3])
 }
 
-/// A plan of reflectors without a session, router 0 alone listed.
-pub fn lone_reflectors(n: usize) -> Draft {
-    Draft {
-        reflector: vec![true; n],
-        skips: BTreeSet::new(),
-        identifiers: (0..n as u32).collect(),
-        sessions: BTreeSet::new(),
-        distances: vec![vec![0; n]; n],
-        lists: vec![BTreeSet::from([0])],
-    }
-}
-
 fn bounds() -> Result<(), String> {
     let check = |draft: &Draft| answer(draft, &Call::Check).refusal;
     same("64 routers", check(&lone_reflectors(64)), 0)?;
@@ -111,14 +84,6 @@ fn bounds() -> Result<(), String> {
     same("distance 65535 to itself", check(&to_itself), 6)?;
     let two_lists = draft(6, 6, &[&[2, 3], &[3]]);
     same("size", answer(&two_lists, &Call::Size), due(&[4, 2], &[]))
-}
-
-/// M3's plan with this list and no way between these pairs, from the first to the
-/// second.
-pub fn with_cuts(list: &[usize], cuts: &[(usize, usize)]) -> Draft {
-    let mut draft = draft(6, 6, &[list]);
-    cuts.iter().for_each(|&(from, to)| draft.distances[from][to] = NO_WAY);
-    draft
 }
 
 /// A route without a way is not heard, is no best client and makes no reflector

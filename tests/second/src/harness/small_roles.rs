@@ -1,27 +1,12 @@
 //! What document 02 states of reflectors that skip their own clients, on a small
 //! plan.
 
-use super::call::{Answer, Call};
-use super::draft::Draft;
 use super::small_plans::{answer, same};
+use crate::harness::comparison::call::{Answer, Call};
+use crate::harness::plans::draft::Draft;
+use crate::harness::plans::small_plans::two_sites;
 use crate::interface::Checker;
 use crate::oracle::Oracle;
-use std::collections::BTreeSet;
-
-/// Reflector 0 with clients 2, 3 and 4, and reflector 1 with client 5; sessions
-/// between the reflectors and between clients 3 and 4. Client 2 is in no mesh.
-pub fn two_sites(skips: &[usize], lists: &[&[usize]]) -> Draft {
-    let distances = [[0, 30, 5, 10, 30, 6], [4, 0, 30, 6, 30, 10]].map(Vec::from);
-    let of_clients = (2..6).map(|from| (0..6).map(|to| if from == to { 0 } else { 30 }).collect());
-    Draft {
-        reflector: (0..6).map(|router| router < 2).collect(),
-        skips: skips.iter().copied().collect(),
-        identifiers: (1..=6).map(|place| 10 * place).collect(),
-        sessions: BTreeSet::from([(0, 1), (0, 2), (0, 3), (0, 4), (1, 5), (3, 4)]),
-        distances: distances.into_iter().chain(of_clients).collect(),
-        lists: lists.iter().map(|list| list.iter().copied().collect()).collect(),
-    }
-}
 
 /// All that is stated, or the first thing that is otherwise.
 pub fn test() -> Result<(), String> {

@@ -3,7 +3,7 @@
 
 use super::line::line;
 use super::{small, LISTS, START};
-use crate::harness::small_plans;
+use crate::harness::plans::small_plans;
 
 /// Every call that takes a list.
 fn list(name: &str, list: usize) -> String {

@@ -3,7 +3,7 @@
 
 use super::line::{line, Line};
 use super::{LISTS, START};
-use crate::harness::small_plans;
+use crate::harness::plans::small_plans;
 use crate::oracle::plan::NO_WAY;
 
 /// The small plan with no way between these pairs, from the first to the second.

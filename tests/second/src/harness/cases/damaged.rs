@@ -2,8 +2,8 @@
 
 use super::line::line;
 use super::{small, LISTS, START};
-use crate::harness::draft::Bodies;
-use crate::harness::small_plans;
+use crate::harness::plans::draft::Bodies;
+use crate::harness::plans::small_plans;
 
 /// Every call on a plan, for list 0; the run goes on from the activation's table.
 pub fn every_call(name: &str, plan: &[u8]) -> String {

@@ -2,9 +2,9 @@
 
 use super::line::line;
 use super::{small, LISTS};
-use crate::harness::generate;
+use crate::harness::plans::generate;
+use crate::harness::plans::small_plans::{self, lone_reflectors};
 use crate::harness::random::Random;
-use crate::harness::small_plans::{self, lone_reflectors};
 use crate::oracle::plan::NO_WAY;
 
 fn check(name: &str, plan: &[u8]) -> String {

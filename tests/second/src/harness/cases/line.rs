@@ -1,7 +1,7 @@
 //! A line of the program `cases`: a name, then what each call gave, in words and
 //! numbers with a space before each.
 
-use crate::harness::call::{perform, Answer, Call};
+use crate::harness::comparison::call::{perform, Answer, Call};
 use crate::oracle::Oracle;
 use std::fmt::Display;
 

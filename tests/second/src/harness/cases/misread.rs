@@ -2,7 +2,7 @@
 
 use super::line::line;
 use super::small;
-use crate::harness::draft::Draft;
+use crate::harness::plans::draft::Draft;
 use std::collections::BTreeSet;
 
 fn relies(name: &str, plan: &[u8], list: usize, router: usize, other: usize) -> String {

@@ -11,7 +11,7 @@ mod parents;
 mod runs;
 mod skips;
 
-use super::small_plans;
+use super::plans::small_plans;
 
 /// The lists of the small plan.
 const LISTS: [&[usize]; 4] = [&[2, 3], &[3], &[0], &[1, 2, 3]];

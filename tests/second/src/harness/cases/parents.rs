@@ -4,8 +4,8 @@
 use super::damaged::every_call;
 use super::line::line;
 use super::START;
-use crate::harness::draft::Bodies;
-use crate::harness::small_parents::star;
+use crate::harness::plans::draft::Bodies;
+use crate::harness::plans::small_plans::star;
 
 const ROLES: [u8; 6] = [1, 1, 3, 1, 1, 2];
 

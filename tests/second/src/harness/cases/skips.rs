@@ -2,7 +2,7 @@
 //! has clients 3 and 4; all distances are equal.
 
 use super::line::{line, Line};
-use crate::harness::draft::Draft;
+use crate::harness::plans::draft::Draft;
 use std::collections::BTreeSet;
 
 const LISTS: [&[usize]; 5] = [&[2], &[3], &[4], &[0], &[2, 4]];

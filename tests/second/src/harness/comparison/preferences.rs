@@ -2,7 +2,7 @@
 //! router. All other answers follow from it, the roles, the sessions and the list.
 
 use super::call::Call;
-use super::comparison::{hex, Comparison, Mismatch};
+use super::compare::{hex, Comparison, Mismatch};
 use crate::interface::Compared;
 use crate::oracle::plan::{Plan, Router};
 use crate::oracle::rules::{Rules, Value};

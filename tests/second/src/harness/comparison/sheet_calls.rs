@@ -2,9 +2,9 @@
 
 use super::arguments;
 use super::call::Call;
-use super::comparison::{Comparison, Mismatch, Outcome};
-use super::random::Random;
-use super::sheets::{self, DAMAGES};
+use super::compare::{Comparison, Mismatch, Outcome};
+use crate::harness::plans::sheets::{self, DAMAGES};
+use crate::harness::random::Random;
 use crate::oracle::plan::MOST_ROUTERS;
 
 /// All calls for one random sheet.

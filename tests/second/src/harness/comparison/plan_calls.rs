@@ -2,12 +2,12 @@
 
 use super::arguments;
 use super::call::{Answer, Call};
-use super::comparison::{Comparison, Mismatch, Outcome};
-use super::generate;
+use super::compare::{Comparison, Mismatch, Outcome};
 use super::preferences::Preferences;
-use super::random::Random;
 use super::reliance_calls;
 use super::series;
+use crate::harness::plans::generate;
+use crate::harness::random::Random;
 use crate::oracle::plan::{self, Plan, MOST_PARENTS};
 use crate::oracle::rules::Case;
 

@@ -1,7 +1,7 @@
 //! Sheets of links, sound and damaged: sparse, dense and full ones, with and
 //! without a walk between all pairs, weights small, large and at their bounds.
 
-use super::random::Random;
+use crate::harness::random::Random;
 use crate::oracle::links::{LinkBytes, FARTHEST, MOST_LINKS};
 use crate::oracle::plan::{Router, MOST_ROUTERS};
 use std::collections::BTreeMap;

@@ -1,6 +1,6 @@
 //! Who is a reflector and who has a session with whom, in several shapes.
 
-use super::random::Random;
+use crate::harness::random::Random;
 use crate::oracle::plan::{Router, MOST_PARENTS};
 use std::collections::BTreeSet;
 

@@ -3,9 +3,9 @@
 
 use super::arguments;
 use super::call::{Answer, Call};
-use super::comparison::{hex, Comparison, Mismatch, Outcome};
+use super::compare::{hex, Comparison, Mismatch, Outcome};
 use super::plan_calls::FEW;
-use super::random::Random;
+use crate::harness::random::Random;
 use crate::oracle::plan::{Plan, Router};
 
 type Pair = (Router, Router);

@@ -1,11 +1,11 @@
 //! Checkers with a slip in one call each.
 
 use super::compare_slips;
-use super::draft::Bodies;
 use super::explain_slips;
 use super::parent_slips;
 use super::sheet_slips;
 use super::slips::Slip;
+use crate::harness::plans::draft::Bodies;
 use crate::interface::{
     Acts, Checker, CompareFields, ExplainFields, ListFields, RunFields, SizeFields, VerdictBuffers, VerdictFields,
 };

@@ -1,7 +1,7 @@
 //! Plans with cut-off routers: ways taken out of a plan.
 
-use super::random::Random;
 use super::topology::{all_pairs, ordered, Topology};
+use crate::harness::random::Random;
 use crate::oracle::plan::{Router, NO_WAY};
 use std::collections::BTreeSet;
 

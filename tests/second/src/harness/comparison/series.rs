@@ -3,8 +3,8 @@
 
 use super::arguments;
 use super::call::{Answer, Call};
-use super::comparison::{hex, Comparison, Mismatch, Outcome};
-use super::random::Random;
+use super::compare::{hex, Comparison, Mismatch, Outcome};
+use crate::harness::random::Random;
 use crate::oracle::plan::{self, Plan};
 use crate::oracle::rules::Case;
 use crate::oracle::tables::Rounds;

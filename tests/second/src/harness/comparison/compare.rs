@@ -4,11 +4,11 @@
 
 use super::call::{perform, Answer, Call};
 use super::counts::Counts;
-use super::generate;
 use super::plan_calls;
 use super::preferences::Preferences;
-use super::random::Random;
 use super::sheet_calls;
+use crate::harness::plans::generate;
+use crate::harness::random::Random;
 use crate::interface::Checker;
 use crate::oracle::Oracle;
 use std::ops::Range;

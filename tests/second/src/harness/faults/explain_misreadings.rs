@@ -2,7 +2,7 @@
 //! see that the comparison finds it.
 
 use super::misreadings::{Misread, Misreading};
-use super::plan_calls::FEW;
+use crate::harness::comparison::plan_calls::FEW;
 use crate::interface::{Explained, Reason, Rule};
 use crate::oracle::plan::Router;
 use crate::oracle::rules::{Case, Right, Rules};

@@ -1,7 +1,7 @@
 //! Arguments for the calls: numbers at and past their bounds, buffers too
 //! short, exact and longer, routing tables sound and broken, sequences.
 
-use super::random::Random;
+use crate::harness::random::Random;
 use crate::oracle::plan::Plan;
 use crate::oracle::rules::Case;
 use crate::oracle::tables::NONE;

@@ -1,8 +1,8 @@
 //! Damaged plans: aimed at one refusal number, or at random.
 
 use super::draft::{Bodies, Draft};
-use super::random::Random;
 use super::topology::ordered;
+use crate::harness::random::Random;
 use crate::oracle::plan::{CLIENT, FIRST_BODY, LONGEST_PLAN, MOST_PARENTS, NO_WAY, REFLECTOR, SKIPPING};
 use std::collections::BTreeSet;
 

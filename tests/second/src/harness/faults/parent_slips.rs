@@ -1,6 +1,6 @@
 //! The slips of checkers in refusal 13: what they count, and when they check it.
 
-use super::draft::Bodies;
+use crate::harness::plans::draft::Bodies;
 use crate::oracle::plan::{self, Router, CLIENT, REFLECTOR, SKIPPING};
 
 #[derive(Clone, Copy, Debug, PartialEq, Eq)]

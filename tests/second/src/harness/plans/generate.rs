@@ -4,8 +4,8 @@
 use super::cuts;
 use super::damage::{self, AIMED_AT};
 use super::draft::Draft;
-use super::random::Random;
 use super::topology::{all_pairs, crowd, ordered, skipping, topology, Topology};
+use crate::harness::random::Random;
 use crate::oracle::plan::{Router, MOST_LISTS, MOST_PARENTS, MOST_ROUTERS};
 use std::collections::BTreeSet;
 

@@ -1,0 +1,12 @@
+//! The calls that are made on the oracle and on a checker: their arguments, what they
+//! answer and leave, how that is compared, and what is counted.
+
+pub mod arguments;
+pub mod call;
+pub mod compare;
+mod counts;
+pub mod plan_calls;
+mod preferences;
+mod reliance_calls;
+mod series;
+mod sheet_calls;

@@ -1,0 +1,13 @@
+//! Faults planted: checkers that misread a rule, checkers that slip in a call, and wrong
+//! programs, for the comparison to find each.
+
+pub mod careless;
+mod compare_slips;
+pub mod explain_misreadings;
+mod explain_slips;
+pub mod misreadings;
+pub mod parent_slips;
+mod sheet_slips;
+pub mod skip_misreadings;
+pub mod slips;
+pub mod wrong_programs;

@@ -1,0 +1,68 @@
+//! Small plans, of which the papers state answers.
+
+use super::draft::Draft;
+use crate::oracle::plan::{Router, CLIENT, NO_WAY, SKIPPING};
+use std::collections::BTreeSet;
+
+/// Two reflectors with a client each: `p` is the distance from 0 to 3, `q`
+/// the one from 1 to 2.
+pub fn draft(p: u16, q: u16, lists: &[&[usize]]) -> Draft {
+    let distances = [[0, 30, 10, p], [30, 0, q, 10], [30, 30, 0, 30], [30, 30, 30, 0]];
+    Draft {
+        reflector: vec![true, true, false, false],
+        skips: BTreeSet::new(),
+        identifiers: vec![10, 20, 30, 40],
+        sessions: BTreeSet::from([(0, 1), (0, 2), (1, 3)]),
+        distances: distances.map(Vec::from).to_vec(),
+        lists: lists.iter().map(|list| list.iter().copied().collect()).collect(),
+    }
+}
+
+/// M3's plan with this list and no way between these pairs, from the first to the
+/// second.
+pub fn with_cuts(list: &[usize], cuts: &[(usize, usize)]) -> Draft {
+    let mut draft = draft(6, 6, &[list]);
+    cuts.iter().for_each(|&(from, to)| draft.distances[from][to] = NO_WAY);
+    draft
+}
+
+/// A plan of reflectors without a session, router 0 alone listed.
+pub fn lone_reflectors(n: usize) -> Draft {
+    Draft {
+        reflector: vec![true; n],
+        skips: BTreeSet::new(),
+        identifiers: (0..n as u32).collect(),
+        sessions: BTreeSet::new(),
+        distances: vec![vec![0; n]; n],
+        lists: vec![BTreeSet::from([0])],
+    }
+}
+
+/// Reflector 0 with clients 2, 3 and 4, and reflector 1 with client 5; sessions
+/// between the reflectors and between clients 3 and 4. Client 2 is in no mesh.
+pub fn two_sites(skips: &[usize], lists: &[&[usize]]) -> Draft {
+    let distances = [[0, 30, 5, 10, 30, 6], [4, 0, 30, 6, 30, 10]].map(Vec::from);
+    let of_clients = (2..6).map(|from| (0..6).map(|to| if from == to { 0 } else { 30 }).collect());
+    Draft {
+        reflector: (0..6).map(|router| router < 2).collect(),
+        skips: skips.iter().copied().collect(),
+        identifiers: (1..=6).map(|place| 10 * place).collect(),
+        sessions: BTreeSet::from([(0, 1), (0, 2), (0, 3), (0, 4), (1, 5), (3, 4)]),
+        distances: distances.into_iter().chain(of_clients).collect(),
+        lists: lists.iter().map(|list| list.iter().copied().collect()).collect(),
+    }
+}
+
+/// Routers of these roles, of which one neighbours all others; all distances are 0.
+pub fn star(centre: Router, roles: &[u8]) -> Draft {
+    let n = roles.len();
+    let others = (0..n).filter(|&other| other != centre);
+    Draft {
+        reflector: roles.iter().map(|&role| role != CLIENT).collect(),
+        skips: (0..n).filter(|&router| roles[router] == SKIPPING).collect(),
+        identifiers: (1..=n as u32).map(|place| 10 * place).collect(),
+        sessions: others.map(|other| (centre.min(other), centre.max(other))).collect(),
+        distances: vec![vec![0; n]; n],
+        lists: vec![[centre].into()],
+    }
+}
