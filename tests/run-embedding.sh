@@ -1,7 +1,8 @@
 #!/usr/bin/env bash
-# Builds the library for C and runs what embeds it: the header as C and as C++, the C examples, the second checker held against the library, the programs
-# that measure its size and the stack.
-# Also holds the yardstick of the bench, the expected lines of `cases`, the verdict and the margin program against the second checker, and builds the bench.
+# Builds the library for C and runs what embeds it: the header as C and as C++, the C examples, the second checker held
+# against the library, the programs that measure its size and the stack.
+# Also runs the second checker's own tests; holds the yardstick of the bench, the expected lines of `cases`, the verdict
+# and the margin program against it; and builds the bench.
 # usage: tests/run-embedding.sh [SEED]        (needs rt, gcc, g++ and cargo)
 set -uo pipefail
 shopt -s nullglob
@@ -39,7 +40,10 @@ explains() {
     local asked expected
     while IFS='|' read -r asked expected; do
         # shellcheck disable=SC2086
-        [ "$("$out/why" examples/m3.plan $asked)" = "$expected" ] || { echo "embedding: why $asked is not: $expected"; return 1; }
+        if [ "$("$out/why" examples/m3.plan $asked)" != "$expected" ]; then
+            echo "embedding: why $asked is not: $expected"
+            return 1
+        fi
     done <<'END'
 0 0 1|yes, better offer 3 against 2, margin -4
 1 0 1|yes, better offer 3
@@ -116,7 +120,10 @@ agrees() {
     rm -rf "$inputs"
     second "$command" "$inputs" --seed "$seed" --plans 300 >/dev/null || return 1
     for input in "$inputs"/*.plan "$inputs"/*.input; do
-        "target/bin/$program" <"$input" | cmp -s - "${input%.*}.expected" || { echo "embedding: $input differs"; return 1; }
+        if ! "target/bin/$program" <"$input" | cmp -s - "${input%.*}.expected"; then
+            echo "embedding: $input differs"
+            return 1
+        fi
         count=$((count + 1))
     done
     echo "embedding: $program: $count inputs printed as expected"
@@ -130,8 +137,14 @@ measures_deepest() {
 
 # What of the library a program holds that refers to every call.
 measures_size() {
-    gcc -std=c11 -Wall -Wextra -Wno-cast-function-type -Werror -O2 -Iinclude tests/every_call.c -L"$archive" -lrrp -Wl,--gc-sections \
-        -Wl,-Map="$out/every_call.map" -o "$out/every_call" && python3 tests/library_size.py "$out/every_call.map" include/rrp.h
+    gcc -std=c11 -Wall -Wextra -Wno-cast-function-type -Werror -O2 -Iinclude tests/every_call.c -L"$archive" -lrrp \
+        -Wl,--gc-sections -Wl,-Map="$out/every_call.map" -o "$out/every_call" &&
+        python3 tests/library_size.py "$out/every_call.map" include/rrp.h
+}
+
+# Builds an example in C.
+example() {
+    gcc -std=c11 -Wall -Wextra -Werror -O2 -Iinclude "examples/$1.c" -L"$archive" -lrrp -o "$out/$1"
 }
 
 # A cargo command on the second checker, linked with the library.
@@ -147,17 +160,30 @@ second() {
     linked run --bin second -- "$@"
 }
 
+# The second checker's own tests, each counted under its name. There must be some; and cargo fails where they do not
+# build, where one fails, and where they end before the last.
+own_tests() {
+    local log=$out/own-tests.log name outcome count=0 ended=0
+    linked test -- --format pretty >"$log" 2>&1 || ended=$?
+    while read -r name outcome; do
+        try "$name" [ "$outcome" = ok ]
+        count=$((count + 1))
+    done < <(sed -n 's/^test \([^ ]*\) \.\.\. \(.*\)$/\1 \2/p' "$log")
+    [ "$ended" -eq 0 ] || cat "$log"
+    [ "$ended" -eq 0 ] && [ "$count" -gt 0 ]
+}
+
 mkdir -p "$out"
 rm -f "$out/verdicts" "$out/compare" "$out/why" "$out/run" "$out/distances" "$out/stack"
 try "the library" rt staticlib rrp
 try "the header as C99" gcc -std=c99 -pedantic -Wall -Wextra -Werror -Iinclude -fsyntax-only -x c include/rrp.h
 try "the header as C++" g++ -std=c++11 -pedantic -Wall -Wextra -Werror -Iinclude -fsyntax-only -x c++ include/rrp.h
-try "the C example" gcc -std=c11 -Wall -Wextra -Werror -O2 -Iinclude examples/verdicts.c -L"$archive" -lrrp -o "$out/verdicts"
+try "the C example" example verdicts
 try "the C example's verdicts" writes examples/m3.verdicts "$out/verdicts" examples/m3.plan
 try "the C example's refusal" refuses_cut_plan
-try "the C example of a comparison" gcc -std=c11 -Wall -Wextra -Werror -O2 -Iinclude examples/compare.c -L"$archive" -lrrp -o "$out/compare"
+try "the C example of a comparison" example compare
 try "the C example's margins" compares
-try "the C example of an explanation" gcc -std=c11 -Wall -Wextra -Werror -O2 -Iinclude examples/why.c -L"$archive" -lrrp -o "$out/why"
+try "the C example of an explanation" example why
 try "the C example's explanations" explains
 try "the C example of a run" gcc -std=c11 -Wall -Wextra -Werror -O2 -Iinclude examples/run.c -L"$archive" -lrrp -o "$out/run"
 try "the C example's run" runs
@@ -165,12 +191,13 @@ try "the C example of distances" gcc -std=c11 -Wall -Wextra -Werror -O2 -Iinclud
 try "the C example's distances" works_out_distances
 try "the C examples as documented" prints_as_documented
 try "the library's size in a program" measures_size
-try "the second checker alone" second self
+try "the second checker's own tests" own_tests
 try "the library against the second checker" second --seed "$seed" --plans "$plans"
 try "the yardstick against the second checker" second --against tight --seed "$seed" --plans 2000
 try "the expected lines of cases from the second checker" writes crates/cases/stdout second cases
 try "the bench program" linked build --bin bench
-try "the stack program" gcc -std=gnu11 -Wall -Wextra -Werror -O2 -Iinclude tests/stack.c -L"$archive" -lrrp -o "$out/stack"
+try "the stack program" \
+    gcc -std=gnu11 -Wall -Wextra -Werror -O2 -Iinclude tests/stack.c -L"$archive" -lrrp -o "$out/stack"
 try "the stack of each call on the deepest plan" measures_deepest
 
 try "the stored texts of the verdict program from the second checker" stored_texts verdict

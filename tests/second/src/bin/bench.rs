@@ -2,5 +2,5 @@
 //! lines that have it in their names are timed.
 
 fn main() {
-    second_checker::bench(&std::env::args().nth(1).unwrap_or_default());
+    second_checker::bench::timing::bench(&std::env::args().nth(1).unwrap_or_default());
 }

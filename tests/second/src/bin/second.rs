@@ -1,8 +1,12 @@
 //! Compares a checker of route-reflection plans with the second one.
 
-use second_checker::{explained_pairs, margin_line, questions, self_test, verdict_lines, wrong_programs};
-use second_checker::{small_explanations, small_margins, small_parents, small_plans, small_roles, small_sheets};
-use second_checker::{Checker, Random, Tight};
+use second_checker::bench::tight::Tight;
+use second_checker::harness::cases;
+use second_checker::harness::comparison::compare;
+use second_checker::harness::plans::{generate, questions};
+use second_checker::harness::random::Random;
+use second_checker::interface::Checker;
+use second_checker::oracle::{margin_line, verdict_lines};
 use std::env;
 use std::error::Error;
 use std::fs;
@@ -13,16 +17,12 @@ use std::time::Instant;
 
 const USAGE: &str = "\
 second --against library|tight [--seed S] [--first K] [--plans N]   compare a checker with the second one
-second self [--seed S] [--plans N]           test the second checker alone, and the comparison on known faults
 second cases                                 print the lines that the program `cases` is due to print
 second verdict                               print the lines the verdict program is due to print for standard input
 second margin                                print the line the margin program is due to print for standard input
 second write FOLDER [--seed S] [--plans N]   write plans and the lines the verdict program is due to print
 second ask FOLDER [--seed S] [--plans N]     write inputs and the lines the margin program is due to print
 second plan largest|deepest                  write the plan with the most bytes or the highest rank";
-
-/// The gate runs the margin program on so many inputs.
-const INPUTS: u64 = 300;
 
 struct Options {
     words: Vec<String>,
@@ -53,7 +53,7 @@ fn options() -> Result<Options, Box<dyn Error>> {
 fn subject(name: &str) -> Result<Box<dyn Checker>, Box<dyn Error>> {
     match name {
         #[cfg(feature = "library")]
-        "library" => Ok(Box::new(second_checker::Library)),
+        "library" => Ok(Box::new(second_checker::library::Library)),
         "tight" => Ok(Box::new(Tight)),
         _ => Err(format!("no checker {name} is built in").into()),
     }
@@ -65,50 +65,14 @@ fn compare(options: &Options) -> Result<bool, Box<dyn Error>> {
     let started = Instant::now();
     let mut report = |number: u64, mismatch: &str| println!("mismatch (--first {number} --plans 1)\n{mismatch}\n");
     let numbers = options.first..options.first + options.plans;
-    let counts = second_checker::compare(subject.as_mut(), options.seed, numbers, &mut report);
+    let counts = compare::compare(subject.as_mut(), options.seed, numbers, &mut report);
     println!("seconds {:.1}", started.elapsed().as_secs_f64());
     println!("{counts}");
     Ok(counts.mismatches == 0)
 }
 
-fn test_self(options: &Options) -> Result<bool, Box<dyn Error>> {
-    println!("seed {}", options.seed);
-    small_plans::test()?;
-    println!("small plans M1 to M9, bounds, cuts, example output, rank of the deepest plan: as stated");
-    small_margins::test()?;
-    println!("margins of small plans, and the lines of them: as stated");
-    small_roles::test()?;
-    println!("a small plan with role 3: as stated");
-    small_explanations::test()?;
-    println!("explained reliances of small plans, each rule and each reason but the fifth: as stated");
-    small_parents::test()?;
-    println!("clients of four and five parents, refusal 13 in its order: as stated");
-    small_sheets::test()?;
-    println!("small sheets of links, their refusals in order: as stated");
-    self_test::aimed_damage()?;
-    self_test::damaged_links()?;
-    println!("damage aimed at refusals 1 to 7, 11 and 13: refused so");
-    println!("known faults: {} found, each of them", self_test::faults()?);
-    println!("misread rules: {} found, each also beside itself", self_test::misread_on_both_sides()?);
-    let programs = wrong_programs::each_is_found(options.seed, INPUTS)?;
-    println!("wrong margin programs: {programs} found on {INPUTS} inputs, each of them");
-    let explained = explained_pairs::test(options.seed)?;
-    println!("explained pairs {}: a reason applies exactly where there is no reliance", explained.pairs);
-    println!("by rule {:?}, by reason {:?}", &explained.rules[1..], &explained.reasons[1..]);
-    let without_a_walk = self_test::least_sums(options.seed, options.plans)?;
-    println!("least sums on {} sheets: as due, {without_a_walk} pairs without a walk", options.plans);
-    let counts = self_test::consistency(options.seed, options.plans)?;
-    println!("starts on plans with cuts {}, with role 3 {}", counts.starts_with_cuts, counts.starts_with_skips);
-    println!("stable lists that role 3 lets settle otherwise {}", counts.changed_by_skips);
-    println!(
-        "second self: {} plans, {} lists, {} suspect, {} starts settled",
-        options.plans, counts.lists, counts.suspect, counts.starts
-    );
-    Ok(true)
-}
-
 fn plan_numbered(seed: u64, number: u64) -> Vec<u8> {
-    second_checker::numbered(seed, number).0
+    generate::numbered(seed, number).0
 }
 
 /// Writes inputs of a program as NNNNN.KIND, and as NNNNN.expected what it is due
@@ -148,14 +112,13 @@ fn program() -> Result<bool, Box<dyn Error>> {
     let words: Vec<&str> = options.words.iter().map(String::as_str).collect();
     match words[..] {
         [] => compare(&options),
-        ["self"] => test_self(&options),
-        ["cases"] => write(second_checker::case_lines().as_bytes()),
+        ["cases"] => write(cases::lines().as_bytes()),
         ["verdict"] => print_due(verdict_lines),
         ["margin"] => print_due(margin_line),
         ["write", folder] => write_inputs(folder, &options, "plan", plan_numbered, verdict_lines),
         ["ask", folder] => write_inputs(folder, &options, "input", questions::numbered, margin_line),
-        ["plan", "largest"] => write(&second_checker::largest(&mut Random::new(options.seed)).bytes()),
-        ["plan", "deepest"] => write(&second_checker::deepest().bytes()),
+        ["plan", "largest"] => write(&generate::largest(&mut Random::new(options.seed)).bytes()),
+        ["plan", "deepest"] => write(&generate::deepest().bytes()),
         _ => Err("unknown words".into()),
     }
 }

@@ -3,14 +3,6 @@
 
 pub mod cases;
 pub mod comparison;
-pub mod explained_pairs;
 pub mod faults;
 pub mod plans;
 pub mod random;
-pub mod self_test;
-pub mod small_explanations;
-pub mod small_margins;
-pub mod small_parents;
-pub mod small_plans;
-pub mod small_roles;
-pub mod small_sheets;

@@ -4,7 +4,7 @@
 pub mod arguments;
 pub mod call;
 pub mod compare;
-mod counts;
+pub mod counts;
 pub mod plan_calls;
 mod preferences;
 mod reliance_calls;

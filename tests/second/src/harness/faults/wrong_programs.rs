@@ -1,13 +1,12 @@
 //! Programs `margin` that are wrong in one way each, to see that the inputs tell each from
 //! the right one.
 
-use crate::harness::plans::questions::numbered;
 use crate::oracle::margin_line;
 
 /// A program that is wrong in one way.
-type Program = fn(&[u8]) -> String;
+pub type Program = fn(&[u8]) -> String;
 
-const WRONG: [(&str, Program); 12] = [
+pub const WRONG_PROGRAMS: [(&str, Program); 12] = [
     ("the sign left out", |input| margin_line(input).replace('-', "")),
     ("a plus sign", |input| of_margins(input, |margin| format!("{margin:+}\n"))),
     ("the sign turned", |input| of_margins(input, |margin| format!("{}\n", -margin))),
@@ -56,16 +55,4 @@ fn plan_first(input: &[u8]) -> String {
         input.rotate_right(3);
     }
     margin_line(&input)
-}
-
-/// Each wrong program prints another line for some of the first inputs; how many
-/// programs there are.
-pub fn each_is_found(seed: u64, inputs: u64) -> Result<usize, String> {
-    for (what, program) in WRONG {
-        let differs = |input: Vec<u8>| program(&input) != margin_line(&input);
-        if !(0..inputs).any(|number| differs(numbered(seed, number))) {
-            return Err(format!("no input tells of a program that is wrong so: {what}"));
-        }
-    }
-    Ok(WRONG.len())
 }

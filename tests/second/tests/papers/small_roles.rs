@@ -1,21 +1,16 @@
 //! What document 02 states of reflectors that skip their own clients, on a small
 //! plan.
 
-use super::small_plans::{answer, same};
-use crate::harness::comparison::call::{Answer, Call};
-use crate::harness::plans::draft::Draft;
-use crate::harness::plans::small_plans::two_sites;
-use crate::interface::Checker;
-use crate::oracle::Oracle;
+use super::{answer, same};
+use crate::Outcome;
+use second_checker::harness::comparison::call::{Answer, Call};
+use second_checker::harness::plans::draft::Draft;
+use second_checker::harness::plans::small_plans::two_sites;
+use second_checker::interface::Checker;
+use second_checker::oracle::Oracle;
 
-/// All that is stated, or the first thing that is otherwise.
-pub fn test() -> Result<(), String> {
-    roles()?;
-    settled()?;
-    reliances()
-}
-
-fn roles() -> Result<(), String> {
+#[test]
+fn there_are_the_roles_1_to_3_and_no_other() -> Outcome {
     let mut bodies = two_sites(&[0], &[&[3]]).bodies();
     for (role, refusal) in [(0, 4), (1, 0), (2, 0), (3, 0), (4, 4), (255, 4)] {
         bodies.routers[0] = role;
@@ -30,14 +25,15 @@ fn verdict(draft: &Draft) -> Answer {
 }
 
 /// Ranks and settled table of a stable list.
-fn stable(what: &str, draft: &Draft, ranks: [u8; 6], table: [u8; 12]) -> Result<(), String> {
+fn stable(what: &str, draft: &Draft, ranks: [u8; 6], table: [u8; 12]) -> Outcome {
     let found = verdict(draft);
     let highest = ranks.into_iter().max().unwrap_or(0).into();
     same(what, (found.fields, &found.buffers[1..3]), (vec![1, highest], &[ranks.to_vec(), table.to_vec()]))
 }
 
 /// Router 0 skips its clients, or does not.
-fn settled() -> Result<(), String> {
+#[test]
+fn role_3_tells_its_clients_no_route_of_a_client() -> Outcome {
     let skips = |list: &[usize]| two_sites(&[0], &[list]);
     let (ranks, nothing) = ([1, 2, 2, 0, 2, 3], 255);
     // Client 2 ends with nothing; the mesh brings 4 the route.
@@ -49,8 +45,8 @@ fn settled() -> Result<(), String> {
     same("a cycle", (found.fields, &found.buffers[3][..2]), (vec![0, 2], &[0, 1]))
 }
 
-/// It is a reflector in every rule of the reliances.
-fn reliances() -> Result<(), String> {
+#[test]
+fn role_3_is_a_reflector_in_every_rule_of_the_reliances() -> Outcome {
     let cases: [(&[usize], usize, usize, bool); 6] = [
         (&[3], 2, 0, true),
         (&[0], 1, 0, true),

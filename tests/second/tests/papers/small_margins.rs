@@ -1,26 +1,18 @@
 //! What document 02 states of the margin of two routes, on small plans.
 
-use super::random::Random;
-use super::small_plans::{answer, same};
-use crate::harness::comparison::call::{perform, Call, Field};
-use crate::harness::faults::misreadings::{Misread, Misreading};
-use crate::harness::plans::draft::Draft;
-use crate::harness::plans::generate;
-use crate::harness::plans::small_plans::{draft, with_cuts};
-use crate::oracle::{margin_line, verdict_lines, Oracle};
+use super::{answer, same};
+use crate::Outcome;
+use second_checker::harness::comparison::call::{perform, Call, Field};
+use second_checker::harness::faults::misreadings::{Misread, Misreading};
+use second_checker::harness::plans::draft::Draft;
+use second_checker::harness::plans::generate;
+use second_checker::harness::plans::small_plans::{draft, with_cuts};
+use second_checker::harness::random::Random;
+use second_checker::oracle::{margin_line, verdict_lines, Oracle};
 use std::collections::BTreeSet;
 
-/// All that is stated, or the first thing that is otherwise.
-pub fn test() -> Result<(), String> {
-    signs()?;
-    ends()?;
-    ways()?;
-    ring_of_four()?;
-    lines()
-}
-
 /// Which of two is better at router 0, and the margin if there is one.
-fn compares(draft: &Draft, pair: (usize, usize), better: Field, margin: Option<Field>) -> Result<(), String> {
+fn compares(draft: &Draft, pair: (usize, usize), better: Field, margin: Option<Field>) -> Outcome {
     let (first, second) = pair;
     let answer = answer(draft, &Call::Compare { router: 0, first, second });
     let fields = vec![better, Field::from(margin.is_some()), margin.unwrap_or(0)];
@@ -29,7 +21,8 @@ fn compares(draft: &Draft, pair: (usize, usize), better: Field, margin: Option<F
 
 /// Negative: the first is better; positive: the second; zero: the lower number, or
 /// they are the same.
-fn signs() -> Result<(), String> {
+#[test]
+fn the_sign_of_a_margin_says_which_is_better() -> Outcome {
     let (nearer, tie) = (draft(6, 6, &[&[0]]), draft(10, 10, &[&[0]]));
     compares(&nearer, (3, 2), 1, Some(-4))?;
     compares(&nearer, (2, 3), 2, Some(4))?;
@@ -38,14 +31,16 @@ fn signs() -> Result<(), String> {
     compares(&tie, (3, 3), 0, Some(0))
 }
 
-fn ends() -> Result<(), String> {
+#[test]
+fn margins_go_from_minus_65534_to_65534() -> Outcome {
     let far = draft(65_534, 6, &[&[0]]);
     compares(&far, (0, 3), 1, Some(-65_534))?;
     compares(&far, (3, 0), 2, Some(65_534))
 }
 
 /// At router 0, 1 and 2 without a way and 3 with one.
-fn ways() -> Result<(), String> {
+#[test]
+fn there_is_no_margin_without_a_way_to_both() -> Outcome {
     let plan = with_cuts(&[0], &[(0, 1), (0, 2)]);
     for (first, second, better) in [(3, 2, 1), (1, 3, 2), (1, 2, 0), (2, 1, 0), (2, 2, 0), (0, 1, 1)] {
         compares(&plan, (first, second), better, None)?;
@@ -56,7 +51,8 @@ fn ways() -> Result<(), String> {
 /// Reflectors 0 to 3 in a ring, each with the listed client of the number 4 higher.
 /// Each prefers the next one's client to its own, router 0 by minus four, the others
 /// by minus twenty; in tens the first of these is nought.
-fn ring_of_four() -> Result<(), String> {
+#[test]
+fn a_ring_of_four_is_suspect_and_in_tens_it_would_be_stable() -> Outcome {
     let distance = |from: usize, to: usize| match (from, to) {
         _ if from == to => 0,
         (0, 5) => 26,
@@ -80,7 +76,8 @@ fn ring_of_four() -> Result<(), String> {
     same("the ring in tens is stable", perform(&mut in_tens, &plan.bytes(), &verdict, 7).fields[0], 1)
 }
 
-fn lines() -> Result<(), String> {
+#[test]
+fn the_margin_program_prints_the_margin_or_none_or_the_refusal() -> Outcome {
     let line = |asked: &[u8], plan: &[u8]| margin_line(&[asked, plan].concat());
     let (nearer, tie) = (draft(6, 6, &[&[0]]).bytes(), draft(10, 10, &[&[0]]).bytes());
     let cut = with_cuts(&[0], &[(0, 2)]).bytes();

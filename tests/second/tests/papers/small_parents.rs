@@ -1,24 +1,20 @@
 //! What document 02 states of the parents of a client, on small plans.
 
-use super::small_plans::{answer, same};
-use crate::harness::comparison::call::Call;
-use crate::harness::plans::draft::Bodies;
-use crate::harness::plans::small_plans::star;
-use crate::interface::Checker;
-use crate::oracle::plan::Router;
-use crate::oracle::Oracle;
-
-/// All that is stated, or the first thing that is otherwise.
-pub fn test() -> Result<(), String> {
-    counted()?;
-    in_order()
-}
+use super::{answer, same};
+use crate::Outcome;
+use second_checker::harness::comparison::call::Call;
+use second_checker::harness::plans::draft::Bodies;
+use second_checker::harness::plans::small_plans::star;
+use second_checker::interface::Checker;
+use second_checker::oracle::plan::Router;
+use second_checker::oracle::Oracle;
 
 fn check(plan: &[u8]) -> u8 {
     Oracle::right().check(plan)
 }
 
-fn counted() -> Result<(), String> {
+#[test]
+fn a_client_has_at_most_four_parents() -> Outcome {
     let is = |what: &str, centre: Router, roles: &[u8], refusal: u8| {
         same(what, check(&star(centre, roles).bytes()), refusal)
     };
@@ -38,8 +34,8 @@ fn counted() -> Result<(), String> {
     is("role 3 with five reflectors", 5, &[1, 1, 1, 1, 1, 3], 0)
 }
 
-/// 13 goes after 4 and 5, and before 6, 7 and 8.
-fn in_order() -> Result<(), String> {
+#[test]
+fn refusal_13_goes_after_4_and_5_and_before_6_7_and_8() -> Outcome {
     let is = |what: &str, roles: &[u8], refusal: u8, damage: fn(&mut Bodies)| {
         let mut bodies = star(5, roles).bodies();
         damage(&mut bodies);

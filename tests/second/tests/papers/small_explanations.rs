@@ -1,10 +1,11 @@
 //! What document 02 states of explained reliances, on small plans: each rule, and
 //! each reason that is ever the first to apply.
 
-use super::small_plans::{answer, same};
-use crate::harness::comparison::call::{Call, Field};
-use crate::harness::plans::draft::Draft;
-use crate::harness::plans::small_plans::{draft, two_sites, with_cuts};
+use super::{answer, same};
+use crate::Outcome;
+use second_checker::harness::comparison::call::{Call, Field};
+use second_checker::harness::plans::draft::Draft;
+use second_checker::harness::plans::small_plans::{draft, two_sites, with_cuts};
 use std::collections::BTreeSet;
 
 /// What the call gives: relies, code, offer, has own, own, margin.
@@ -31,18 +32,37 @@ fn no(reason: Field) -> Fields {
     [0, reason, 0, 0, 0, 0]
 }
 
-/// All that is stated, or the first thing that is otherwise.
-pub fn test() -> Result<(), String> {
-    let stated = [rules(), margins(), reasons_of_any(), reasons_of_reflectors()].concat();
-    for (draft, (router, other), fields) in &stated {
-        let found = answer(draft, &Call::Explain { list: 0, router: *router, other: *other });
+/// Each call gives what is stated.
+fn explained(stated: Vec<Stated>) -> Outcome {
+    stated.into_iter().try_for_each(|(draft, (router, other), fields)| {
+        let found = answer(&draft, &Call::Explain { list: 0, router, other });
         let what = format!("{router} on {other}, list {:?}", draft.lists[0]);
-        same(&what, (found.refusal, found.fields), (0, fields.to_vec()))?;
-    }
+        same(&what, (found.refusal, found.fields), (0, fields.to_vec()))
+    })
+}
+
+#[test]
+fn a_reliance_is_explained_by_its_rule() -> Outcome {
+    explained(rules())
+}
+
+#[test]
+fn a_better_offer_is_explained_with_its_margin() -> Outcome {
+    explained(margins())
+}
+
+#[test]
+fn no_reliance_is_explained_by_the_first_reason_that_applies() -> Outcome {
+    explained(reasons_of_any())?;
+    explained(reasons_of_reflectors())
+}
+
+#[test]
+fn each_rule_and_each_reason_but_the_fifth_is_among_what_is_stated() -> Outcome {
+    let stated = [rules(), margins(), reasons_of_any(), reasons_of_reflectors()].concat();
     let occurring: BTreeSet<(Field, Field)> = stated.iter().map(|(_, _, fields)| (fields[0], fields[1])).collect();
     let due = (1..=4).map(|rule| (1, rule)).chain([1, 2, 3, 4, 6, 7, 8, 9].map(|reason| (0, reason)));
-    same("rules and reasons stated", occurring, due.collect())?;
-    refused()
+    same("rules and reasons stated", occurring, due.collect())
 }
 
 /// M3's plan with this list.
@@ -125,8 +145,8 @@ fn reasons_of_reflectors() -> Vec<Stated> {
     ]
 }
 
-/// A refused call leaves its variables.
-fn refused() -> Result<(), String> {
+#[test]
+fn a_refused_explanation_leaves_its_variables() -> Outcome {
     let before: Fields = [7, 248, 7, 0, !7u64 as Field, 7];
     for (list, router, other) in [(1, 0, 1), (0, 4, 1), (0, 0, 4), (usize::MAX, 0, 0)] {
         let found = answer(&m3(&[2, 3]), &Call::Explain { list, router, other });

@@ -1,20 +1,13 @@
 //! What document 02 states of links and their distances, on small sheets.
 
-use super::small_plans::same;
-use crate::interface::Checker;
-use crate::oracle::links::LinkBytes;
-use crate::oracle::Oracle;
+use super::same;
+use crate::Outcome;
+use second_checker::interface::Checker;
+use second_checker::oracle::links::LinkBytes;
+use second_checker::oracle::Oracle;
 
 /// Links from router to router, with a weight each.
 type Drawn<'a> = &'a [(u8, u8, u16)];
-
-/// All that is stated, or the first thing that is otherwise.
-pub fn test() -> Result<(), String> {
-    written()?;
-    broken_links()?;
-    too_far()?;
-    in_order()
-}
 
 fn bytes(links: Drawn) -> Vec<u8> {
     let link = |&(from, to, weight): &(u8, u8, u16)| -> LinkBytes {
@@ -30,15 +23,16 @@ fn answer(n: usize, links: &[u8], lent: usize) -> (u8, Vec<u8>) {
     (Oracle::right().distances(n, links, &mut out), out)
 }
 
-fn writes(what: &str, n: usize, links: Drawn, out: &[u8]) -> Result<(), String> {
+fn writes(what: &str, n: usize, links: Drawn, out: &[u8]) -> Outcome {
     same(what, answer(n, &bytes(links), out.len()), (0, out.to_vec()))
 }
 
-fn refuses(what: &str, refusal: u8, n: usize, links: &[u8], lent: usize) -> Result<(), String> {
+fn refuses(what: &str, refusal: u8, n: usize, links: &[u8], lent: usize) -> Outcome {
     same(what, answer(n, links, lent), (refusal, vec![9; lent]))
 }
 
-fn written() -> Result<(), String> {
+#[test]
+fn distances_are_the_least_sums_and_65535_without_a_walk() -> Outcome {
     writes("one router", 1, &[], &[0, 0])?;
     writes("bytes after the distances", 1, &[], &[0, 0, 9, 9])?;
     let three = [0, 0, 10, 0, 15, 0, 49, 1, 0, 0, 5, 0, 44, 1, 54, 1, 0, 0];
@@ -61,7 +55,8 @@ fn many(count: usize) -> Vec<u8> {
     bytes(&links)
 }
 
-fn broken_links() -> Result<(), String> {
+#[test]
+fn links_that_break_a_rule_are_refused_with_11() -> Outcome {
     let eleven = |what: &str, links: Drawn| refuses(what, 11, 2, &bytes(links), 8);
     eleven("weight 0", &[(0, 1, 1), (1, 0, 0)])?;
     eleven("from n", &[(0, 1, 1), (1, 0, 1), (2, 0, 1)])?;
@@ -74,7 +69,8 @@ fn broken_links() -> Result<(), String> {
     same("512 links", answer(23, &many(512), 2 * 23 * 23).0, 0)
 }
 
-fn too_far() -> Result<(), String> {
+#[test]
+fn a_least_sum_above_65534_is_refused_with_12() -> Outcome {
     let twelve = |what: &str, n: usize, links: Drawn| refuses(what, 12, n, &bytes(links), 2 * n * n);
     twelve("a walk too far, and none", 3, &[(0, 1, 65_533), (1, 2, 2)])?;
     twelve("weight 65535", 2, &[(0, 1, 65_535), (1, 0, 1)])?;
@@ -82,8 +78,8 @@ fn too_far() -> Result<(), String> {
     twelve("sum 65536", 3, &[(0, 1, 65_535), (1, 2, 1), (2, 0, 1)])
 }
 
-/// The checks in their order: 2, 11, 12, 9.
-fn in_order() -> Result<(), String> {
+#[test]
+fn sheets_are_refused_in_the_order_2_11_12_9() -> Outcome {
     for n in [0, 65, 256, 257, usize::MAX] {
         refuses("number of routers", 2, n, &[0], 0)?;
     }

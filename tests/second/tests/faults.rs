@@ -1,0 +1,89 @@
+//! The comparison finds each known fault: a misread rule even where the checker is compared
+//! with itself, since its answers do not follow from its own comparisons by the rules, or two
+//! of its calls do not agree. And the inputs of the program `margin` find each wrong program.
+
+use crate::SEED;
+use second_checker::harness::comparison::compare::differ;
+use second_checker::harness::faults::careless::Careless;
+use second_checker::harness::faults::explain_misreadings::{MisreadExplanation, EXPLAIN_MISREADINGS};
+use second_checker::harness::faults::misreadings::{Misread, MISREADINGS};
+use second_checker::harness::faults::parent_slips::PARENT_SLIPS;
+use second_checker::harness::faults::skip_misreadings::{MisreadSkip, SKIP_MISREADINGS};
+use second_checker::harness::faults::slips::{Slip, SLIPS};
+use second_checker::harness::faults::wrong_programs::{Program, WRONG_PROGRAMS};
+use second_checker::harness::plans::questions;
+use second_checker::interface::Checker;
+use second_checker::oracle::rules::Rules;
+use second_checker::oracle::{margin_line, Oracle};
+use std::fmt::Debug;
+
+/// A fault must be found within so many plans.
+const PLANS: u64 = 4000;
+
+/// The gate runs the margin program on so many inputs.
+const INPUTS: u64 = 300;
+
+/// The comparison tells each checker with a fault from the right one.
+fn each_is_found<F: Debug, C: Checker>(faults: impl IntoIterator<Item = F>, with: impl Fn(&F) -> C) {
+    none_missed(faults, |fault| differ(&mut Oracle::right(), &mut with(fault), SEED, 0..PLANS));
+}
+
+/// .. and from itself.
+fn each_is_found_beside_itself<F: Debug, R: Rules>(faults: impl IntoIterator<Item = F>, with: impl Fn(&F) -> R) {
+    let checker = |fault: &F| Oracle::with(with(fault));
+    none_missed(faults, |fault| differ(&mut checker(fault), &mut checker(fault), SEED, 0..PLANS));
+}
+
+fn none_missed<F: Debug>(faults: impl IntoIterator<Item = F>, is_found: impl Fn(&F) -> bool) {
+    let missed: Vec<F> = faults.into_iter().filter(|fault| !is_found(fault)).collect();
+    assert!(missed.is_empty(), "not found: {missed:?}");
+}
+
+#[test]
+fn each_misread_rule_is_found() {
+    each_is_found(MISREADINGS, |&fault| Oracle::with(Misread(fault)));
+}
+
+#[test]
+fn each_misread_rule_is_found_beside_itself() {
+    each_is_found_beside_itself(MISREADINGS, |&fault| Misread(fault));
+}
+
+#[test]
+fn each_misreading_of_role_3_is_found() {
+    each_is_found(SKIP_MISREADINGS, |&fault| Oracle::with(MisreadSkip(fault)));
+}
+
+#[test]
+fn each_misreading_of_role_3_is_found_beside_itself() {
+    each_is_found_beside_itself(SKIP_MISREADINGS, |&fault| MisreadSkip(fault));
+}
+
+#[test]
+fn each_wrong_explanation_is_found() {
+    each_is_found(EXPLAIN_MISREADINGS, |&fault| Oracle::with(MisreadExplanation(fault)));
+}
+
+#[test]
+fn each_wrong_explanation_is_found_beside_itself() {
+    each_is_found_beside_itself(EXPLAIN_MISREADINGS, |&fault| MisreadExplanation(fault));
+}
+
+#[test]
+fn each_slip_in_a_call_is_found() {
+    each_is_found(SLIPS, |&slip| Careless::new(slip));
+}
+
+#[test]
+fn each_slip_in_the_check_of_parents_is_found() {
+    each_is_found(PARENT_SLIPS, |&slip| Careless::new(Slip::Parents(slip)));
+}
+
+#[test]
+fn each_wrong_margin_program_is_found_by_the_inputs() {
+    let inputs: Vec<Vec<u8>> = (0..INPUTS).map(|number| questions::numbered(SEED, number)).collect();
+    let right: Vec<String> = inputs.iter().map(|input| margin_line(input)).collect();
+    let prints = |program: Program| inputs.iter().map(|input| program(input)).collect::<Vec<String>>();
+    let missed = WRONG_PROGRAMS.into_iter().filter(|&(_, program)| prints(program) == right);
+    assert_eq!(missed.map(|(what, _)| what).collect::<Vec<_>>(), [""; 0]);
+}

@@ -1,0 +1,5 @@
+//! What must hold of the oracle's answers on random plans and sheets.
+
+mod explained_pairs;
+mod least_sums;
+mod verdicts;
