@@ -15,8 +15,8 @@ try() {
     fi
 }
 
-# The last line of a script, which fails where something did.
+# The last line of a script, which fails where something did, or where nothing was tried.
 total() {
     echo "$part: $passed passed, $failed failed"
-    [ "$failed" -eq 0 ]
+    [ "$failed" -eq 0 ] && [ "$passed" -gt 0 ]
 }
