@@ -1,18 +1,27 @@
 #!/usr/bin/env bash
 # Builds the planner's tool and tests it: its unit tests, among them all stored outputs and fuzzed inputs; plans of the
 # second checker to text and back, and their verdicts by name; the command as ./build leaves it, and as pip installs it.
-# usage: tests/run-tool.sh [SEED]        (needs rt, gcc, cargo and python3)
+# usage: tests/run-tool.sh [SEED]        (needs rt, gcc, cargo, and python3 with pip)
 set -uo pipefail
 cd "$(dirname "$0")/.."
 seed=${1:-4456}
 plans=300
+# So many unit tests there were when this was last set; fewer are a sign that some are not found.
+fewest=128
 out=target/tool
 part=tool
 . tests/try.sh
 
-# The unit tests, or those of the modules named.
+# The unit tests, or those of the modules that `-p` names. So many must run: to unittest, none at all are fine.
 unit_tests() {
-    PYTHONPATH=python python3 -m unittest discover -s python/tests -t python "$@"
+    local least=$1 log=$out/unit-tests.log ran
+    shift
+    PYTHONPATH=python python3 -m unittest discover -s python/tests -t python "$@" 2>&1 | tee "$log" || return 1
+    ran=$(sed -n 's/^Ran \([0-9]*\) tests\{0,1\} in .*/\1/p' "$log")
+    if [ "${ran:-0}" -lt "$least" ]; then
+        echo "tool: ${ran:-0} unit tests ran, not $least"
+        return 1
+    fi
 }
 
 # `second` with the words given, built as tests/run-embedding.sh builds it, and so not built again after it.
@@ -28,7 +37,7 @@ random_plans() {
     second write "$out/plans" --seed "$seed" --plans "$plans" >/dev/null || return 1
     [ "$(find "$out/plans" -name '*.plan' | wc -l)" -eq "$plans" ] || return 1
     export RRP_PLANS=$PWD/$out/plans
-    unit_tests -p test_roundtrip.py && unit_tests -p test_filing.py
+    unit_tests 1 -p test_roundtrip.py && unit_tests 1 -p test_filing.py
 }
 
 # The command finds the example's suspect list, started from anywhere and by a link to it.
@@ -52,13 +61,9 @@ pip_installs() {
 mkdir -p "$out"
 try "the build" ./build
 try "the sources compile" python3 -m compileall -q python/rrp python/tests
-try "the unit tests" unit_tests
+try "the unit tests" unit_tests "$fewest"
 try "random plans to text and back" random_plans
 try "the command" command_runs
-if python3 -m pip --version >/dev/null 2>&1; then
-    try "the command as pip installs it" pip_installs
-else
-    echo "tool: the command as pip installs it: not tried, there is no pip here"
-fi
+try "the command as pip installs it" pip_installs
 
 total
