@@ -1,30 +1,29 @@
 #!/usr/bin/env python3
 """Finds the constant arrays of more than 16 elements in the sources of the product's crates, and prints them.
 
-Constant data is the value of a `const`, and outside of one each array that is written element by element and each byte
-string. An array in an array counts with all its elements, also where it is a constant and stands there by its name. Of
-constants with one name the largest counts. Memory to work in, `[0; 64]` in a local, is no constant data. The product's
-crates are all of crates.txt but the programs that only test it.
+Constant data is the value of each `const` and `static`, whose type says how many elements it has; each array that is
+written out element by element; each string; and each repeat, `[x; n]`, but for one right after `=`, which is memory to
+work in. Arrays and strings in an array count with it. What cannot be read as 16 elements or fewer is found too: another
+type than numbers and arrays of them, another length than a plain number, and in an array a repeat or a constant that is
+no number. The product's crates are all of crates.txt but the programs that only test it.
 """
+import math
 import re
 import sys
 from pathlib import Path
 
 MOST = 16
+UNREAD = 10 ** 9
 TEST_PROGRAMS = {'cases'}
-TOKEN = re.compile(r'''(?P<comment> //[^\n]* | /\*.*?\*/ ) | (?P<raw> br(?P<hashes> \#*)".*?"(?P=hashes) )
-                       | (?P<string> b"(?: \\. | [^"\\] )*" ) | (?P<char> b'(?: \\. | [^'\\] )+' )
-                       | (?P<number> [0-9][0-9A-Za-z_]* ) | (?P<word> [^\W\d]\w* ) | (?P<mark> << | >> | \S )''',
+TOKEN = re.compile(r'''(?P<comment> //[^\n]* | /\*.*?\*/ ) | (?P<raw> [bc]?r(?P<hashes> \#*)".*?"(?P=hashes) )
+                       | (?P<string> [bc]?"(?: \\. | [^"\\] )*" ) | (?P<char> b?'(?: \\[^']+ | [^'\\] )' )
+                       | (?P<word> '?[^\W\d]\w* ) | (?P<mark> [=!<>]= | => | [0-9]\w* | \S )''',
                    re.VERBOSE | re.DOTALL)
 CONTINUED = re.compile(r'\\\n\s*')
 ESCAPE = re.compile(r'\\(x[0-9a-fA-F]{2}|.)', re.DOTALL)
-OPERATORS = {'<<': lambda a, b: a << b, '>>': lambda a, b: a >> b, '+': lambda a, b: a + b, '-': lambda a, b: a - b,
-             '*': lambda a, b: a * b, '/': lambda a, b: a // b}
+# a number or an array of numbers, or a reference to one
+TYPE = re.compile(r"(?:&(?:'static)?)?\[*(?:bool|[ui](?:8|16|32|64|128|size))((?:;[0-9]+\])*)")
 CLOSING = {'[': ']', '(': ')', '{': '}'}
-
-
-class Unknown(Exception):
-    """A length that is no number and no known constant."""
 
 
 def tokens_of(text):
@@ -38,12 +37,16 @@ def tokens_of(text):
     return found
 
 
+def joined(tokens):
+    return ''.join(text for _, text, _ in tokens)
+
+
 def group_end(tokens, start):
-    """The place after the bracket that closes the one at `start`."""
+    """The place after the bracket that closes the one at `start`, or after a token that is no bracket."""
     depth = 0
     for place in range(start, len(tokens)):
         depth += (tokens[place][1] in CLOSING) - (tokens[place][1] in CLOSING.values())
-        if depth == 0:
+        if depth <= 0:
             return place + 1
     return len(tokens)
 
@@ -52,117 +55,77 @@ def split(tokens, mark):
     """The parts of tokens between the marks that stand in no bracket; an empty last part is left out."""
     parts, part, place = [], [], 0
     while place < len(tokens):
+        end = group_end(tokens, place)
         if tokens[place][1] == mark:
-            parts.append(part)
-            part, place = [], place + 1
-            continue
-        end = group_end(tokens, place) if tokens[place][1] in CLOSING else place + 1
-        part, place = part + tokens[place:end], end
+            parts, part = parts + [part], []
+        else:
+            part = part + tokens[place:end]
+        place = end
     return parts + [part] if part else parts
 
 
-def values(name, constants):
-    """The values of the constants of a name, and what else is known while one of them is looked at: not itself."""
-    return constants.get(name, []), {other: value for other, value in constants.items() if other != name}
+def string_size(text):
+    """The bytes of a string."""
+    prefix, content = text.rsplit('"', 1)[0].split('"', 1)
+    return len((content if 'r' in prefix else ESCAPE.sub('.', CONTINUED.sub('', content))).encode())
 
 
-def number(tokens, constants):
-    """The value of a length: a number, a constant by its last name, or such joined by operators."""
-    words = [text for _, text, _ in tokens]
-    if 'as' in words:
-        return number(tokens[:words.index('as')], constants)
-    for mark, join in OPERATORS.items():
-        parts = split(tokens, mark)
-        if len(parts) > 1:
-            value = number(parts[0], constants)
-            for part in parts[1:]:
-                value = join(value, number(part, constants))
-            return value
-    if words and words[0] == '(' and group_end(tokens, 0) == len(tokens):
-        return number(tokens[1:-1], constants)
-    if len(words) == 1 and re.match(r'[0-9]', words[0]):
-        return int(re.sub(r'(usize|[ui]\d+)$|_', '', words[0]), 0)
-    found, others = values(words[-1], constants) if words else ([], {})
-    if not found:
-        raise Unknown(' '.join(words))
-    return max(number(value, others) for value in found)
-
-
-def elements(tokens, constants, constant):
-    """The most elements that a constant array among the tokens has; `constant` says that they are of a `const`."""
-    most, place = 0, 0
-    while place < len(tokens):
-        kind, text, _ = tokens[place]
-        end = group_end(tokens, place) if text in CLOSING else place + 1
-        if kind == 'string':
-            most = max(most, len(ESCAPE.sub('.', CONTINUED.sub('', text[2:-1]))))
-        elif kind == 'raw':
-            most = max(most, len(text.split('"', 1)[1].rsplit('"', 1)[0]))
-        elif kind == 'word':
-            found, others = values(text, constants)
-            most = max([most, *(elements(value, others, True) for value in found)])
-        elif text == '[':
-            most = max(most, array(tokens[place + 1:end - 1], constants, constant))
-        elif text in CLOSING:
-            most = max(most, elements(tokens[place + 1:end - 1], constants, constant))
-        place = end
-    return most
-
-
-def array(inside, constants, constant):
-    """The elements of an array, given what stands between its brackets; 0 for memory to work in, an index or a type."""
-    repeated = split(inside, ';')
-    if len(repeated) == 2:
-        each = elements(repeated[0], constants, constant)
-        return max(each, 1) * number(repeated[1], constants) if constant else each
-    items = split(inside, ',')
-    if len(items) == 1 and not constant:
-        return elements(items[0], constants, constant)
-    return sum(max(1, elements(item, constants, constant)) for item in items)
-
-
-def constants_of(tokens):
-    """The constants that a source declares: name, line and the tokens of the value."""
+def constants(tokens):
+    """Each `const` and `static`: its line, its name, and its elements by its type."""
     for place, (_, text, line) in enumerate(tokens):
-        if text == 'const':
-            statement = split(tokens[place:], ';')[0]
-            value = next((i for i, token in enumerate(statement) if token[1] == '='), len(statement))
-            yield statement[1][1], line, statement[value + 1:], (place, place + len(statement))
+        if text in ('const', 'static'):
+            name = place + (2 if joined(tokens[place + 1:place + 2]) == 'mut' else 1)
+            end = name + 2
+            while end < len(tokens) and tokens[end][1] not in ('=', ';', ',', '>'):
+                end = group_end(tokens, end)
+            declared = re.fullmatch(r'(\w+):(.*)', joined(tokens[name:end]), re.DOTALL)
+            read = TYPE.fullmatch(declared[2]) if declared else None
+            count = math.prod(map(int, re.findall('[0-9]+', read[1]))) if read else UNREAD
+            yield line, declared[1] if declared else None, count
+
+
+def elements(tokens, numbers):
+    """At most so many elements are among the tokens of an array; `numbers` are the constants that are numbers."""
+    count = 1
+    for place, (kind, text, _) in enumerate(tokens):
+        if text == ';' or kind == 'word' and text.isupper() and text not in numbers:
+            return UNREAD
+        last = joined(tokens[place + 1:place + 2]) in ('', *CLOSING.values())
+        count += string_size(text) if kind in ('string', 'raw') else text == ',' and not last
+    return count
+
+
+def array_size(tokens, place, numbers):
+    """The elements of the array whose bracket is at a place; 0 for a type, memory to work in, an index and the like."""
+    inside = tokens[place + 1:group_end(tokens, place) - 1]
+    repeat = split(inside, ';')
+    if len(repeat) != 2:
+        return elements(inside, numbers) if len(split(inside, ',')) > 1 else 0
+    while place > 0 and tokens[place][1] == '[':
+        place -= 1
+    if tokens[place][1] == '=' or TYPE.fullmatch(joined(repeat[0])):
+        return 0
+    times = joined(repeat[1])
+    return elements(repeat[0], numbers) * (int(times) if times.isdecimal() else UNREAD)
 
 
 def long_arrays(sources):
     """The constant arrays with more than MOST elements in sources, path → text: (path, line, what)."""
     read = {path: tokens_of(text) for path, text in sources.items()}
-    known, found = {}, []
-    for tokens in read.values():
-        for name, _, value, _ in constants_of(tokens):
-            known.setdefault(name, []).append(value)
-
-    def judge(path, line, tokens, constant):
-        try:
-            count = elements(tokens, known, constant)
-            if count > MOST:
-                found.append((path, line, f'{count} elements'))
-        except Unknown as length:
-            found.append((path, line, f'a length that is not known: {length}'))
-
+    declared = [(name, count) for tokens in read.values() for _, name, count in constants(tokens)]
+    numbers = {name for name, _ in declared} - {name for name, count in declared if count > 1}
+    found = {}
     for path, tokens in read.items():
-        rest, last = [], 0
-        for _, line, value, (start, end) in constants_of(tokens):
-            judge(path, line, value, True)
-            rest, last = rest + tokens[last:start], end
-        for part in outside_parts(rest + tokens[last:]):
-            judge(path, part[0][2], part, False)
-    return found
-
-
-def outside_parts(tokens):
-    """Tokens outside of constants: an array or index with all that is in it, and every other token by itself."""
-    place = 0
-    while place < len(tokens):
-        end = group_end(tokens, place) if tokens[place][1] == '[' else place + 1
-        yield tokens[place:end]
-        place = end
+        counts = [(line, count) for line, _, count in constants(tokens)]
+        for place, (kind, text, line) in enumerate(tokens):
+            if kind in ('string', 'raw'):
+                counts.append((line, string_size(text)))
+            elif text == '[':
+                counts.append((line, array_size(tokens, place, numbers)))
+        for line, count in counts:
+            if count > MOST:
+                found[path, line] = f'{count} elements' if count < UNREAD else 'a size that is not read'
+    return [(path, line, what) for (path, line), what in found.items()]
 
 
 def product_sources(root):
@@ -177,7 +140,7 @@ def main():
     sources = product_sources(Path(__file__).resolve().parent.parent)
     found = long_arrays(sources)
     for path, line, what in found:
-        print(f'{path}:{line}: a constant array of {what}' if 'elements' in what else f'{path}:{line}: {what}')
+        print(f'{path}:{line}: constant data of {what}')
     print(f'constant data: {len(sources)} sources, {len(found)} arrays of more than {MOST} elements')
     sys.exit(1 if found or not sources else 0)
 

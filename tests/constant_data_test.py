@@ -13,7 +13,8 @@ def listed(count):
 
 
 def by_lines(count):
-    return 'fn f() -> u8 {\n    let roles = [\n' + ''.join(f'        {i}, // a role\n' for i in range(count)) + '    ];\n    roles[0]\n}\n'
+    lines = ''.join(f'        {i}, // a role\n' for i in range(count))
+    return f'fn f() -> u8 {{\n    let roles = [\n{lines}    ];\n    roles[0]\n}}\n'
 
 
 # a source, and whether an array in it is too long
@@ -25,13 +26,27 @@ CASES = {
     'a repeat of 16 in a const': ('const ROLES: [u8; 16] = [1; 16];', False),
     'a repeat as often as a const says': ('const COUNT: usize = 17;\npub const ROLES: [u8; COUNT] = [1; COUNT];', True),
     'a repeat by a product': ('const ROLES: [u8; 18] = [1u8; 2 * 9];', True),
-    'a repeat by a length that is not known': ('const ROLES: [u8; 4] = [1; elsewhere::COUNT];', True),
+    'a repeat by a length that is not known': ('const ROLES: [u8; elsewhere::COUNT] = [1; elsewhere::COUNT];', True),
+    'a repeat by a cast': ('const N: u8 = 2;\nconst A: [u8; N as usize * 9] = [1; N as usize * 9];', True),
+    'a repeat by a product and a quotient': ('const A: [u8; 3 * 17 / 3] = [1; 3 * 17 / 3];', True),
+    'a repeat of 17 in a static': ('static ROLES: [u8; 17] = [1; 17];', True),
+    'a repeat of 17 in a static to be changed': ('static mut ROLES: [u8; 17] = [1; 17];', True),
+    'a repeat of 16 in a static': ('static ROLES: [u8; 16] = [1; 16];', False),
+    'a repeat of 17 in a block of a const': ('fn f() { g(const { [1; 17] }); }', True),
+    'a const that a function makes': ('const ROLES: [u8; 17] = made();', True),
+    'a const of another type': ('type Roles = [u8; 17];\nconst ROLES: Roles = [1; 17];', True),
+    'a const of a slice': ('const ROLES: &[u8] = &[1; 17];', True),
+    'a const of a reference to 16': ("const ROLES: &'static [u8; 16] = &[1; 16];", False),
+    'a constant that is a number': ('const MOST: usize = 65;\nfn f() { g([MOST, MOST]); }', False),
+    'a length that is a parameter': ("fn f<'a, const N: usize>(rows: &'a [u64; N], more: &[u64; 64]) {}", False),
     'five times four in a const': ('const PAIRS: [[u8; 4]; 5] = [[1, 2, 3, 4]; 5];', True),
     'four times four in a const': ('const PAIRS: [[u8; 4]; 4] = [[1; 4]; 4];', False),
     'a named array twice': ('const A: [u8; 9] = [1; 9];\nconst B: [[u8; 9]; 2] = [A, A];', True),
     'a named array four times': ('const A: [u8; 16] = [1; 16];\nconst B: [[u8; 16]; 4] = [A; 4];', True),
     'a named array once': ('const A: [u8; 16] = [1; 16];\nfn f() { g(A, A, A[0]); }', False),
-    'two lengths of one name': ('const N: usize = 17;\nconst A: [u8; N] = [1; N];\nmod m {\nconst N: usize = 4;\n}', True),
+    'a named array twice in a call': ('const A: [u8; 9] = [1; 9];\nfn f() { g(&[A, A]); }', True),
+    'an array by another name': ('const A: [u8; 9] = [1; 9];\nuse m::A as B;\nfn f() { g(&[B, B]); }', True),
+    'two lengths of one name': ('const N: usize = 17;\nconst A: [u8; N] = [1; N];\nmod m { const N: u8 = 4; }', True),
     'a length in brackets': ('const A: [u8; 17] = [1; (16 + 1)];', True),
     'a length by a difference': ('const A: [u8; 16] = [1; 40 - 24];', False),
     'a length by a shift': ('const A: [u8; 32] = [1; 1 << 5];', True),
@@ -48,7 +63,19 @@ CASES = {
     'a literal in a literal': (f'fn f() {{ g([[{listed(9)}], [{listed(8)}]]); }}', True),
     'a byte string of 17': ('fn f() { g(b"seventeen letters"); }', True),
     'a byte string of 16': ('fn f() { g(b"sixteen letters\\n"); }', False),
+    'a byte string that ends in a mark': ('fn f() { g(b"seventeen marks##"); }', True),
+    'a text of 17': ('fn f() { g("seventeen letters"); }', True),
+    'two byte strings of 9': ('fn f() { g([b"nine byte", b"nine more"]); }', True),
+    'two byte strings of 7': ('fn f() { g([b"routers", b"suspect"]); }', False),
     'a byte string of 17 in a const': ('const WORD: &[u8; 17] = b"seventeen letters";', True),
+    'a reference to a repeat of 17': ('fn f() { g(&[1; 17]); }', True),
+    'a reference to a repeat of 16': ('fn f() { g(&[1; 16]); }', False),
+    'a repeat of 17 in a struct': ('fn f() { g(&Table { roles: [1; 17] }); }', True),
+    'a repeat of 17 compared with': ('fn f(roles: &[u8; 17]) -> bool { *roles == [1; 17] }', True),
+    'repeats in a literal': ('fn f() { g(&[[1; 9], [2; 9]]); }', True),
+    'a bracket in a letter': (f"fn f() {{ g(b'[', ']', [{listed(17)}]); }}", True),
+    'a comment in a byte string': ('fn f() { g(b"//", &[1; 17]); }', True),
+    'memory of rows to work in': ('fn f() { let mut rows = [[0u64; 64]; 64]; }', False),
     'memory to work in': ('fn f() { let mut rows = [0u64; 64]; g(&mut rows[2..], [1, 2]); }', False),
     'an array of 17 in a comment': (f'// [{listed(17)}]\nfn f() {{}}', False),
     'seventeen arguments in an index': (f'fn f() {{ s[g({listed(17)})] = 0; }}', False),
@@ -68,11 +95,13 @@ def repository_cases():
         (root / 'crates/roles/src/deep').mkdir()
         (root / 'crates/roles/src/deep/table.rt').write_text(f'\n{long}\n')
         found = constant_data.long_arrays(constant_data.product_sources(root))
-        yield 'a file of a module, with its line', [item[:2] for item in found] == [('crates/roles/src/deep/table.rt', 2)]
+        place = ('crates/roles/src/deep/table.rt', 2)
+        yield 'a file of a module, with its line', [item[:2] for item in found] == [place]
 
 
 def main():
-    results = [(name, bool(constant_data.long_arrays({'lib.rt': text})) == found) for name, (text, found) in CASES.items()]
+    finds = {name: bool(constant_data.long_arrays({'lib.rt': text})) for name, (text, _) in CASES.items()}
+    results = [(name, finds[name] == due) for name, (_, due) in CASES.items()]
     results += repository_cases()
     wrong = [name for name, right in results if not right]
     for name in wrong:
