@@ -156,22 +156,12 @@ pub fn perform(checker: &mut dyn Checker, plan: &[u8], call: &Call, prior: u64) 
             perform_explain(checker, &lent_plan, *list, (*router, *other), prior)
         }
         Call::Verdict { list, buffers } => perform_verdict(checker, &lent_plan, *list, buffers, prior),
-        Call::Activate { list, router, table } => {
-            let mut lent = [Guarded::new(table)];
-            let refusal = checker.activate(&lent_plan, *list, *router, lent[0].lent());
-            Answer::new(refusal, []).with(&lent)
-        }
+        Call::Activate { list, router, table } => perform_activate(checker, &lent_plan, *list, *router, table),
         Call::Run { list, sequence, limit, table } => {
             let acts = Acts { sequence, limit: *limit };
             perform_run(checker, &lent_plan, *list, acts, table, prior)
         }
-        Call::Distances { n, links, out } => {
-            let (lent_links, mut lent) = (links.clone(), [Guarded::new(out)]);
-            let refusal = checker.distances(*n, &lent_links, lent[0].lent());
-            let mut answer = Answer::new(refusal, []).with(&lent);
-            answer.surroundings_kept &= lent_links == *links;
-            answer
-        }
+        Call::Distances { n, links, out } => perform_distances(checker, *n, links, out),
     };
     answer.surroundings_kept &= lent_plan == plan;
     answer
@@ -217,6 +207,12 @@ fn perform_verdict(
     Answer::new(refusal, results).with(&lent).beside(fields.stable)
 }
 
+fn perform_activate(checker: &mut dyn Checker, plan: &[u8], list: usize, router: usize, table: &[u8]) -> Answer {
+    let mut lent = [Guarded::new(table)];
+    let refusal = checker.activate(plan, list, router, lent[0].lent());
+    Answer::new(refusal, []).with(&lent)
+}
+
 fn perform_run(checker: &mut dyn Checker, plan: &[u8], list: usize, acts: Acts, table: &[u8], prior: u64) -> Answer {
     let lent_sequence = acts.sequence.to_vec();
     let mut fields = RunFields { applied: prior, rounds: !prior, exhausted: Flag::new(prior as u8) };
@@ -226,5 +222,13 @@ fn perform_run(checker: &mut dyn Checker, plan: &[u8], list: usize, acts: Acts, 
     let results = [fields.applied.into(), fields.rounds.into(), fields.exhausted.value.into()];
     let mut answer = Answer::new(refusal, results).with(&lent).beside(fields.exhausted);
     answer.surroundings_kept &= lent_sequence == acts.sequence;
+    answer
+}
+
+fn perform_distances(checker: &mut dyn Checker, n: usize, links: &[u8], out: &[u8]) -> Answer {
+    let (lent_links, mut lent) = (links.to_vec(), [Guarded::new(out)]);
+    let refusal = checker.distances(n, &lent_links, lent[0].lent());
+    let mut answer = Answer::new(refusal, []).with(&lent);
+    answer.surroundings_kept &= lent_links == links;
     answer
 }
