@@ -4,6 +4,7 @@ from __future__ import annotations
 
 from argparse import ArgumentParser, Namespace
 
+from ..columns import left, widest
 from ..output import sizes, sizes_line, verdict_values, verdict_words, write_json, write_notes
 from ..plan import Plan, Verdict
 
@@ -34,9 +35,9 @@ def _run_plain(options: Namespace) -> int:
     else:
         write_notes(plan.notes)
         print(sizes_line(plan))
-        width = max(map(len, plan.lists))
+        width = widest(plan.lists)
         for verdict in verdicts:
-            print(f"{verdict.name:{width}}  {verdict_words(verdict)}")
+            print(f"{left(verdict.name, width)}  {verdict_words(verdict)}")
     return _status(verdicts)
 
 
@@ -56,7 +57,7 @@ def _run_changed(options: Namespace) -> int:
         print(sizes_line(changed))
         for text in options.set:
             print(f"with {' '.join(text.split())}")
-        width = max(map(len, changed.lists))
+        width = widest(changed.lists)
         for verdict in verdicts:
             _print_change(width, before.get(verdict.name), verdict)
     return _status(verdicts)
@@ -66,9 +67,9 @@ def _print_change(width: int, before: Verdict | None, after: Verdict) -> None:
     """One line for a list that is judged as before, two for another."""
     old, new = before and verdict_words(before), verdict_words(after)
     if old == new:
-        print(f"{after.name:{width}}  as before  {new}")
+        print(f"{left(after.name, width)}  as before  {new}")
         return
-    print(f"{after.name:{width}}  before     {old or 'not there'}")
+    print(f"{left(after.name, width)}  before     {old or 'not there'}")
     print(f"{'':{width}}  after      {new}")
 
 

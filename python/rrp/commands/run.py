@@ -5,6 +5,7 @@ from __future__ import annotations
 import re
 from argparse import ArgumentParser, ArgumentTypeError, Namespace, RawDescriptionHelpFormatter
 
+from ..columns import left, widest
 from ..errors import RrpError
 from ..output import count_words, write_json, write_notes
 from ..plan import Plan, Verdict
@@ -98,12 +99,12 @@ def _order(plan: Plan, options: Namespace) -> Order:
 
 def _print_run(tracing: Tracing, options: Namespace) -> None:
     print(f"{tracing.verdict.name}, {_order_words(tracing.order, options)}, from {options.start}")
-    width, changes = max(map(len, tracing.plan.routers)), 0
+    width, changes = widest(tracing.plan.routers), 0
     for step in tracing.steps():
         if step.before != step.after:
             changes += 1
             held = f"{route_words(step.before)} -> {route_words(step.after)}"
-            print(f"{step.number:>5}  {step.router:{width}}  {held}")
+            print(f"{step.number:>5}  {left(step.router, width)}  {held}")
         if step.ended is not None:
             made = count_words(changes, "change")
             print(f"{'':5}  round {step.ended} ends with activation {step.number}: {made}")

@@ -7,6 +7,7 @@ from argparse import ArgumentParser, Namespace
 from shlex import join
 
 from ..accounts import Account, account
+from ..columns import left, right, widest
 from ..output import verdict_words, write_json, write_notes
 from ..plan import Plan, Verdict
 from ..remedies import Remedy, smallest_remedy
@@ -46,10 +47,10 @@ def _show_stable(plan: Plan, verdict: Verdict, options: Namespace) -> None:
     for router in sorted(plan.routers, key=verdict.ranks.get):
         egress, sender = verdict.table[router] or (NOTHING, "")
         rows.append((router, str(verdict.ranks[router]), egress, sender))
-    widths = [max(map(len, column)) for column in zip(*rows)]
+    widths = [widest(column) for column in zip(*rows)]
     for router, rank, egress, sender in rows:
-        line = f"{router:{widths[0]}}  {rank:>{widths[1]}}  {egress:{widths[2]}}  {sender}"
-        print(line.rstrip())
+        cells = left(router, widths[0]), right(rank, widths[1]), left(egress, widths[2]), sender
+        print("  ".join(cells).rstrip())
 
 
 def _show_suspect(plan: Plan, verdict: Verdict, options: Namespace) -> None:

@@ -5,6 +5,7 @@ from __future__ import annotations
 from collections.abc import Iterable, Sequence
 from typing import NamedTuple
 
+from ..columns import width
 from ..errors import RrpError, cut_names, nearest
 from .words import Word
 
@@ -30,7 +31,7 @@ class Problem(NamedTuple):
         """The place and the message, the line with a mark under the word, the advice."""
         line = self.word.line
         shown, start = _window(line.text, self.word.column - 1)
-        before, under = _columns(shown[:start]), _columns(shown[start:][: len(self.word.text)])
+        before, under = width(shown[:start]), width(shown[start:][: len(self.word.text)])
         place = f"{line.file}:{line.number}:{self.word.column}"
         below = [shown, " " * before + "^" * max(1, under), cut_names(self.advice)]
         said = f"{place}: {cut_names(self.message)}"
@@ -97,13 +98,3 @@ def _window(text: str, start: int) -> tuple[str, int]:
     cut = max(0, start - _BEFORE) if len(text) > _COLUMNS else 0
     shown = printable(text[cut : cut + _COLUMNS]).rstrip().ljust(start - cut)
     return (f"..{shown[2:]}" if cut else shown), start - cut
-
-
-def _columns(text: str) -> int:
-    """How many columns a terminal takes for a text."""
-    if text.isascii():
-        return len(text)
-    from unicodedata import combining, east_asian_width
-
-    letters = (letter for letter in text if not combining(letter))
-    return sum(2 if east_asian_width(letter) in "FW" else 1 for letter in letters)

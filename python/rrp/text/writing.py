@@ -5,6 +5,7 @@ from __future__ import annotations
 from collections.abc import Iterator
 from itertools import combinations
 
+from ..columns import left, widest
 from ..encoding import CLIENT, SKIPPING
 from ..plan import Plan
 from .statements import NO_REFLECTION, NO_WAY
@@ -29,9 +30,9 @@ def identifier_text(identifier: int) -> str:
 def _routers(plan: Plan) -> Iterator[str]:
     """A line a router. A client's line has its sessions with reflectors."""
     identifiers = [identifier_text(identifier) for identifier in plan.model.identifiers]
-    names_width, width = max(map(len, plan.routers)), max(map(len, identifiers))
+    columns, width = widest(plan.routers), widest(identifiers)
     for number, (name, identifier) in enumerate(zip(plan.routers, identifiers)):
-        line = f"{plan.role(number):9} {name:{names_width}} {identifier:{width}}"
+        line = f"{plan.role(number):9} {left(name, columns)} {identifier:{width}}"
         parents = _parents(plan, number)
         if plan.model.roles[number] == SKIPPING:
             line += f" {NO_REFLECTION}"
