@@ -7,6 +7,7 @@ plan. Where it refuses, the statement to blame is found by asking it again with 
 from __future__ import annotations
 
 from collections.abc import Iterable
+from math import gcd
 
 from .. import encoding, library
 from ..encoding import CLIENT, Model, Rows
@@ -88,8 +89,32 @@ def _too_far(draft: Draft, names: list[str]) -> Problem:
             continue
         start, end, far = _farthest(rows, last, names)
         message = f"with this link it is {far:,} from {start} to {end}, which is too far"
-        advice = f"a distance is at most {library.MAX_DISTANCE:,}: divide all weights by the same"
-        return Problem(word, message, advice)
+        return Problem(word, message, _nearer(draft, names))
+
+
+def _nearer(draft: Draft, names: list[str]) -> str:
+    """How to bring the sums down so that every comparison stays as it is."""
+    most, divisor = f"a distance is at most {library.MAX_DISTANCE:,}", _common_divisor(draft)
+    never = "never round, or a suspect list may look stable"
+    divided = {
+        ends: way._replace(value=way.value and way.value // divisor)
+        for ends, way in draft.links.items()
+    }
+    try:
+        _from_links(divided, names)
+    except library.Refused:
+        keep = "keep at each router what is nearer and what is as far"
+        state = f"state distances in place of links, and {keep}"
+        return f"{most}, and no common divisor of the weights is enough; {never}; {state}"
+    every = "every weight and distance" if draft.distances else "every weight"
+    divide = f"divide {every} by a common divisor only, here by {divisor:,}"
+    return f"{most}: {divide}; {never}; or state distances in place of links"
+
+
+def _common_divisor(draft: Draft) -> int:
+    """The greatest number that divides every weight and every stated distance."""
+    ways = [*draft.links.values(), *draft.distances.values()]
+    return gcd(*(way.value for way in ways if way.value is not None))
 
 
 def _farthest(
