@@ -54,6 +54,24 @@ def verdict_words(verdict: Verdict) -> str:
     return f"suspect: {cycle_words(verdict.cycle)}"
 
 
+def verdict_lines(verdict: Verdict) -> list[str]:
+    """A verdict in a few words and, in a line of its own, who ends without a route."""
+    return [verdict_words(verdict), *without_route_lines(verdict)]
+
+
+def without_route_lines(verdict: Verdict) -> list[str]:
+    """A line on the routers of a stable list that end without a route, if there are any."""
+    if not verdict.without_route:
+        return []
+    who = ", ".join(verdict.without_route)
+    return [f"{routers_do(verdict.without_route, 'end')} without a route: {who}"]
+
+
+def routers_do(routers: Sequence[str], verb: str) -> str:
+    """How many routers do something: 1 router ends, 2 routers end."""
+    return f"1 router {verb}s" if len(routers) == 1 else f"{len(routers)} routers {verb}"
+
+
 def cycle_words(cycle: Sequence[str]) -> str:
     """A cycle: each router relies on the next, and the last one on the first."""
     return " -> ".join([*cycle, *cycle[:1]])
@@ -62,5 +80,6 @@ def cycle_words(cycle: Sequence[str]) -> str:
 def verdict_values(verdict: Verdict) -> dict[str, object]:
     """A verdict as plain values."""
     if verdict.stable:
-        return {"stable": True, "highest_rank": verdict.highest, "rounds": verdict.rounds}
+        ranks = {"highest_rank": verdict.highest, "rounds": verdict.rounds}
+        return {"stable": True, **ranks, "without_route": verdict.without_route}
     return {"stable": False, "cycle": verdict.cycle, "groups": verdict.groups}

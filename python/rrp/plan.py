@@ -63,6 +63,13 @@ class Verdict(NamedTuple):
     groups: tuple[tuple[str, ...], ...]
     cycle: tuple[str, ...]
 
+    @property
+    def without_route(self) -> tuple[str, ...] | None:
+        """The routers that a stable list leaves without a route, None if the list is suspect."""
+        if self.table is None:
+            return None
+        return tuple(router for router, route in self.table.items() if route is None)
+
 
 class Explanation(NamedTuple):
     """Why a router relies on another for a list, or does not.

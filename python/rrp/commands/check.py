@@ -5,7 +5,9 @@ from __future__ import annotations
 from argparse import ArgumentParser, Namespace
 
 from ..columns import left, widest
-from ..output import sizes, sizes_line, verdict_values, verdict_words, write_json, write_notes
+from ..effects import Effect, effect
+from ..output import sizes, sizes_line, verdict_lines, verdict_values, verdict_words
+from ..output import write_json, write_notes
 from ..plan import Plan, Verdict
 
 SET_HELP = (
@@ -14,19 +16,32 @@ SET_HELP = (
     "distance A > B 12, session A B, session A B none, list NAME A B"
 )
 
+STRICT_HELP = "end with 1 also where a list is stable but leaves a router without a route"
+
 
 def arguments(parser: ArgumentParser) -> None:
     """Adds what `check` takes."""
     parser.add_argument("plan", metavar="PLAN", help="a plan, text or bytes; - is standard input")
     parser.add_argument("--set", metavar="STATEMENT", action="append", default=[], help=SET_HELP)
+    parser.add_argument("--strict", action="store_true", help=STRICT_HELP)
+    parser.epilog = (
+        "Routers that a stable list leaves without a route are named. With --set, so are those "
+        "that settle on another route; as before says that every rank and route is the same. "
+        "Exit status: 0 all lists are stable, after the changes if any; 1 some list is suspect, "
+        "or with --strict some router ends without a route; 2 error."
+    )
 
 
 def run(options: Namespace) -> int:
-    """Judges every list. Returns 0 if all are stable, after the changes if any, else 1."""
-    return _run_changed(options) if options.set else _run_plain(options)
+    """Judges every list. Returns 0 if all are stable, after the changes if any, else 1. If strict,
+    it also returns 1 where a router ends without a route."""
+    verdicts = _run_changed(options) if options.set else _run_plain(options)
+    stable = all(verdict.stable for verdict in verdicts)
+    lacking = options.strict and any(verdict.without_route for verdict in verdicts)
+    return 0 if stable and not lacking else 1
 
 
-def _run_plain(options: Namespace) -> int:
+def _run_plain(options: Namespace) -> tuple[Verdict, ...]:
     plan = Plan.read(options.plan)
     verdicts = plan.verdicts()
     if options.json:
@@ -35,13 +50,11 @@ def _run_plain(options: Namespace) -> int:
     else:
         write_notes(plan.notes)
         print(sizes_line(plan))
-        width = widest(plan.lists)
-        for verdict in verdicts:
-            print(f"{left(verdict.name, width)}  {verdict_words(verdict)}")
-    return _status(verdicts)
+        _print_rows([row for each in verdicts for row in _rows(each)])
+    return verdicts
 
 
-def _run_changed(options: Namespace) -> int:
+def _run_changed(options: Namespace) -> tuple[Verdict, ...]:
     from ..text.assembly import assemble
     from ..text.changes import assemble_changed
     from ..text.reading import read_draft
@@ -50,43 +63,40 @@ def _run_changed(options: Namespace) -> int:
     plan, changed = assemble(draft), assemble_changed(draft, options.set)
     before = {verdict.name: verdict for verdict in plan.verdicts()}
     verdicts = changed.verdicts()
+    effects = [effect(before.get(verdict.name), verdict) for verdict in verdicts]
     if options.json:
-        _write_changed_json(options, changed, before, verdicts)
+        lists = [{"list": each.after.name, **each.values()} for each in effects]
+        answer = {"plan": changed.source, "changes": options.set, "sizes": sizes(changed)}
+        write_json({**answer, "lists": lists, "notes": changed.notes})
     else:
         write_notes(changed.notes)
         print(sizes_line(changed))
         for text in options.set:
             print(f"with {' '.join(text.split())}")
-        width = widest(changed.lists)
-        for verdict in verdicts:
-            _print_change(width, before.get(verdict.name), verdict)
-    return _status(verdicts)
+        _print_rows([row for each in effects for row in _effect_rows(each)])
+    return verdicts
 
 
-def _print_change(width: int, before: Verdict | None, after: Verdict) -> None:
-    """One line for a list that is judged as before, two for another."""
-    old, new = before and verdict_words(before), verdict_words(after)
-    if old == new:
-        print(f"{left(after.name, width)}  as before  {new}")
-        return
-    print(f"{left(after.name, width)}  before     {old or 'not there'}")
-    print(f"{'':{width}}  after      {new}")
+def _rows(verdict: Verdict) -> list[tuple[str, ...]]:
+    """A list with its verdict, and what more there is to say of it below."""
+    first, *more = verdict_lines(verdict)
+    return [(verdict.name, first), *(("", line) for line in more)]
 
 
-def _write_changed_json(
-    options: Namespace, changed: Plan, before: dict[str, Verdict], verdicts: tuple[Verdict, ...]
-) -> None:
-    lists = [
-        {
-            "list": verdict.name,
-            "before": verdict_values(before[verdict.name]) if verdict.name in before else None,
-            "after": verdict_values(verdict),
-        }
-        for verdict in verdicts
-    ]
-    answer = {"plan": changed.source, "changes": options.set, "sizes": sizes(changed)}
-    write_json({**answer, "lists": lists, "notes": changed.notes})
+def _effect_rows(found: Effect) -> list[tuple[str, ...]]:
+    """A list with its verdict: one row if it is as before, else one for it before and one after.
+    What changes beside it is below."""
+    name, new = found.after.name, verdict_words(found.after)
+    rows = [(name, found.label or "after", new)]
+    if found.label is None:
+        old = "not there" if found.before is None else verdict_words(found.before)
+        rows = [(name, "before", old), ("", "after", new)]
+    return [*rows, *(("", "", line) for line in found.lines())]
 
 
-def _status(verdicts: tuple[Verdict, ...]) -> int:
-    return 0 if all(verdict.stable for verdict in verdicts) else 1
+def _print_rows(rows: list[tuple[str, ...]]) -> None:
+    """Prints rows in columns. The last one is as wide as it is."""
+    *columns, _ = zip(*rows)
+    widths = [widest(column) for column in columns]
+    for *cells, last in rows:
+        print("  ".join([*map(left, cells, widths), last]))

@@ -1,0 +1,156 @@
+"""What a change of a plan does to a list: to its verdict, and to the route and the rank of each
+router.
+
+The verdicts before and after are the library's. They are compared here, router by router.
+"""
+
+from __future__ import annotations
+
+from collections.abc import Iterable, Iterator
+from typing import NamedTuple
+
+from .output import routers_do, verdict_values, verdict_words, without_route_lines
+from .plan import Verdict
+from .table_files import route_values
+from .tables import Route
+
+
+class Moved(NamedTuple):
+    """A router, with the route that it settles on before a change and the one after it."""
+
+    router: str
+    before: Route | None
+    after: Route | None
+
+    @property
+    def kind(self) -> str:
+        """What becomes of the route: `lost`, `gained`, another `egress`, or another `sender`."""
+        if self.after is None:
+            return "lost"
+        if self.before is None:
+            return "gained"
+        return "sender" if self.before.egress == self.after.egress else "egress"
+
+    def values(self) -> dict[str, object]:
+        """The router and its routes as plain values."""
+        routes = {"before": route_values(self.before), "after": route_values(self.after)}
+        return {"router": self.router, **routes}
+
+
+class Ranked(NamedTuple):
+    """A router, with its rank before a change and after it."""
+
+    router: str
+    before: int
+    after: int
+
+
+class Effect(NamedTuple):
+    """What a change does to a list. `before` is None where the list was not there. `moved` has the
+    routers that settle on another route and `ranked` those of another rank; both are None where
+    there is nothing to compare, as the list is not stable both times."""
+
+    before: Verdict | None
+    after: Verdict
+    moved: list[Moved] | None
+    ranked: list[Ranked] | None
+
+    @property
+    def as_before(self) -> bool:
+        """Whether all is as before: every rank and route, or the cycle and the groups."""
+        return self.before == self.after
+
+    @property
+    def label(self) -> str | None:
+        """What is as before, in two words; None where the verdict is another."""
+        if self.before is None or verdict_words(self.before) != verdict_words(self.after):
+            return None
+        if self.as_before:
+            return "as before"
+        return "same verdict" if self.after.stable else "same cycle"
+
+    def lines(self) -> list[str]:
+        """What changes beside the verdict, and who ends without a route."""
+        changes = [*self._group_lines(), *_route_lines(self.moved or []), *self._rank_lines()]
+        return [*changes, *without_route_lines(self.after)]
+
+    def _group_lines(self) -> Iterator[str]:
+        if self.before is None or self.before.stable or self.after.stable:
+            return
+        if self.before.groups != self.after.groups:
+            for when, verdict in (("before", self.before), ("after", self.after)):
+                for group in verdict.groups:
+                    yield f"routers that rely on one another {when}: {', '.join(group)}"
+
+    def _rank_lines(self) -> Iterator[str]:
+        if self.ranked:
+            ranks = [f"{each.router} ({each.before} -> {each.after})" for each in self.ranked]
+            yield f"{routers_do(ranks, 'change')} rank: {', '.join(ranks)}"
+
+    def values(self) -> dict[str, object]:
+        """The verdicts and what changes, as plain values."""
+        return {
+            "before": None if self.before is None else verdict_values(self.before),
+            "after": verdict_values(self.after),
+            "same_verdict": self.label is not None,
+            "as_before": self.as_before,
+            "routes": None if self.moved is None else _route_values(self.moved),
+            "ranks": None if self.ranked is None else [each._asdict() for each in self.ranked],
+        }
+
+
+def effect(before: Verdict | None, after: Verdict) -> Effect:
+    """What a change does to a list, of which these are the verdicts."""
+    if before is None or before.table is None or after.table is None:
+        return Effect(before, after, None, None)
+    moved = [Moved(router, before.table[router], after.table[router]) for router in after.table]
+    ranked = [Ranked(router, before.ranks[router], rank) for router, rank in after.ranks.items()]
+    return Effect(
+        before,
+        after,
+        [each for each in moved if each.before != each.after],
+        [each for each in ranked if each.before != each.after],
+    )
+
+
+def _of(moved: Iterable[Moved], kind: str) -> list[Moved]:
+    return [each for each in moved if each.kind == kind]
+
+
+def _route_values(moved: list[Moved]) -> dict[str, object]:
+    kinds = ("egress", "lost", "gained", "sender")
+    return {kind: [each.values() for each in _of(moved, kind)] for kind in kinds}
+
+
+def _route_lines(moved: list[Moved]) -> Iterator[str]:
+    """Who settles on another route, and on which."""
+    yield from _egress_lines(_of(moved, "egress"))
+    lost, gained = _of(moved, "lost"), _of(moved, "gained")
+    if lost:
+        its = "its" if len(lost) == 1 else "their"
+        yield f"{routers_do(lost, 'lose')} {its} route: {_names(lost)}"
+    if gained:
+        yield f"{routers_do(gained, 'gain')} a route: {_names(gained)}"
+    yield from _sender_lines(_of(moved, "sender"))
+
+
+def _egress_lines(moved: list[Moved]) -> Iterator[str]:
+    """How many change egress, and for each two egresses a line on who moves between them."""
+    if moved:
+        yield f"{routers_do(moved, 'change')} egress:"
+    pairs = [(each.before.egress, each.after.egress) for each in moved]
+    for pair in dict.fromkeys(pairs):
+        alike = [each for each, its in zip(moved, pairs) if its == pair]
+        yield f"  from {' to '.join(pair)}: {_names(alike)}"
+
+
+def _sender_lines(moved: list[Moved]) -> Iterator[str]:
+    """Who keeps the egress, and has it from another neighbour."""
+    if moved:
+        has = "its egress, but has" if len(moved) == 1 else "their egress, but have"
+        pairs = [f"{each.router} ({each.before.sender} -> {each.after.sender})" for each in moved]
+        yield f"{routers_do(moved, 'keep')} {has} it from another neighbour: {', '.join(pairs)}"
+
+
+def _names(moved: Iterable[Moved]) -> str:
+    return ", ".join(each.router for each in moved)
