@@ -12,7 +12,7 @@ as a larger change than any other; the smallest change comes first.
 
 from __future__ import annotations
 
-from collections.abc import Iterator
+from collections.abc import Iterable, Iterator
 from itertools import groupby
 from typing import NamedTuple
 
@@ -81,6 +81,14 @@ def smallest_remedy(plan: Plan, egress_list: Which, router: str, other: str) -> 
         if remedies:
             return min(remedies, key=lambda remedy: not remedy.verdict.stable)
     return None
+
+
+def recommended(remedies: Iterable[Remedy]) -> Remedy | None:
+    """The remedy to recommend: of those that make the list stable, the smallest that leaves the
+    fewest routers without a route. None if no remedy makes the list stable."""
+    ending = [remedy for remedy in remedies if remedy.verdict.stable]
+    order = [(len(each.verdict.without_route), each.change.size) for each in ending]
+    return ending[order.index(min(order))] if ending else None
 
 
 def _size(change: Change) -> int:

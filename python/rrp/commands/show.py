@@ -1,32 +1,41 @@
 """`rrp show PLAN LIST`: what the routers of a stable list settle on; why a list is suspect, and
-what would end that."""
+what would end that. Without a list it names the lists of the plan."""
 
 from __future__ import annotations
 
 from argparse import ArgumentParser, Namespace
 from shlex import join
+from textwrap import wrap
 
 from ..accounts import Account, account
 from ..columns import left, right, widest
-from ..output import verdict_words, write_json, write_notes
+from ..output import sizes, sizes_line, verdict_lines, verdict_values, verdict_words
+from ..output import without_route_lines, write_json, write_notes
 from ..plan import Plan, Verdict
-from ..remedies import Remedy, smallest_remedy
+from ..remedies import Remedy, recommended, smallest_remedy
+from ..senders import heard_again, sender_note
 from ..table_files import NOTHING, table_values
+
+#: So wide is a note below a table.
+_COLUMNS = 110
 
 
 def arguments(parser: ArgumentParser) -> None:
     """Adds what `show` takes."""
     parser.add_argument("plan", metavar="PLAN", help="a plan, text or bytes; - is standard input")
-    parser.add_argument("list", metavar="LIST", help="a list, by name or number")
+    which = "a list, by name or number; without it all are named"
+    parser.add_argument("list", metavar="LIST", nargs="?", help=which)
     parser.epilog = (
-        "A change that is shown was tried, and there is no smaller one of one distance. "
-        "Exit status: 0 the list is stable, 1 suspect, 2 error."
+        "A change that is shown was tried, and there is no smaller one of one distance. Exit "
+        "status: 0 the list is stable, or all are where none is given; 1 suspect; 2 error."
     )
 
 
 def run(options: Namespace) -> int:
-    """Explains the verdict for a list. Returns 0 if it is stable, else 1."""
+    """Explains the verdict for a list. Returns 0 if it is stable, or all are, else 1."""
     plan = Plan.read(options.plan)
+    if options.list is None:
+        return _show_lists(plan, options)
     verdict = plan.verdict(options.list)
     if not options.json:
         write_notes(plan.notes)
@@ -36,12 +45,34 @@ def run(options: Namespace) -> int:
     return 0 if verdict.stable else 1
 
 
+def _show_lists(plan: Plan, options: Namespace) -> int:
+    """The lists of the plan, each with its verdict in a word and its routers."""
+    verdicts = plan.verdicts()
+    if options.json:
+        lists = [
+            {"list": each.name, "routers": plan.egresses(each.name), **verdict_values(each)}
+            for each in verdicts
+        ]
+        write_json({"plan": plan.source, "sizes": sizes(plan), "lists": lists, "notes": plan.notes})
+    else:
+        write_notes(plan.notes)
+        print(sizes_line(plan))
+        width = widest(["list", *plan.lists])
+        print(f"{left('list', width)}  verdict  routers")
+        for each in verdicts:
+            word, routers = "stable " if each.stable else "suspect", plan.egresses(each.name)
+            print(f"{left(each.name, width)}  {word}  {', '.join(routers)}")
+        print(f"to explain one: {join(['rrp', 'show', options.plan, plan.lists[0]])}")
+    return 0 if all(each.stable for each in verdicts) else 1
+
+
 def _show_stable(plan: Plan, verdict: Verdict, options: Namespace) -> None:
     """The rank of each router and what it settles on, by rank and then by number."""
+    again = heard_again(plan, verdict)
     if options.json:
-        values = {"stable": True, "highest_rank": verdict.highest, "rounds": verdict.rounds}
+        values = {**verdict_values(verdict), "ranks": verdict.ranks, "sender_may_differ": again}
         table = table_values(verdict.table)
-        _write(plan, verdict, {**values, "ranks": verdict.ranks, "table": table})
+        _write(plan, verdict, {**values, "table": table}, sender_note(again))
         return
     rows = [("router", "rank", "egress", "from")]
     for router in sorted(plan.routers, key=verdict.ranks.get):
@@ -51,6 +82,9 @@ def _show_stable(plan: Plan, verdict: Verdict, options: Namespace) -> None:
     for router, rank, egress, sender in rows:
         cells = left(router, widths[0]), right(rank, widths[1]), left(egress, widths[2]), sender
         print("  ".join(cells).rstrip())
+    note = wrap(f"note: {sender_note(again)}", _COLUMNS, break_on_hyphens=False)
+    for line in [*without_route_lines(verdict), *note]:
+        print(line)
 
 
 def _show_suspect(plan: Plan, verdict: Verdict, options: Namespace) -> None:
@@ -60,19 +94,22 @@ def _show_suspect(plan: Plan, verdict: Verdict, options: Namespace) -> None:
         (account(plan, verdict.name, *pair), smallest_remedy(plan, verdict.name, *pair))
         for pair in pairs
     ]
+    remedies = [remedy for _, remedy in found if remedy is not None]
     if options.json:
         reliances = [
             {**one.values(), "change": None if remedy is None else remedy.values()}
             for one, remedy in found
         ]
         values = {"stable": False, "groups": verdict.groups, "cycle": verdict.cycle}
-        _write(plan, verdict, {**values, "reliances": reliances})
+        best = recommended(remedies)
+        change = None if best is None else best.change.statement
+        _write(plan, verdict, {**values, "reliances": reliances, "recommended": change})
         return
     for group in verdict.groups:
         print(f"routers that rely on one another: {', '.join(group)}")
     for number, (one, remedy) in enumerate(found, 1):
         _print_reliance(number, one, remedy)
-    _print_advice(options.plan, [remedy for _, remedy in found if remedy is not None])
+    _print_advice(options.plan, remedies)
 
 
 def _print_reliance(number: int, one: Account, remedy: Remedy | None) -> None:
@@ -83,16 +120,22 @@ def _print_reliance(number: int, one: Account, remedy: Remedy | None) -> None:
     change = remedy.change
     print(f"   smallest change that ends this: {change.statement} (now {change.was})")
     then = "then" if remedy.verdict.stable else "still"
-    print(f"   tried: the list is {then} {verdict_words(remedy.verdict)}")
+    words, *more = verdict_lines(remedy.verdict)
+    for line in [f"tried: the list is {then} {words}", *more]:
+        print(f"   {line}")
 
 
 def _print_advice(path: str, remedies: list[Remedy]) -> None:
-    """How to judge a change: the smallest of those that make the list stable, if there are any."""
-    if remedies:
-        best = min(remedies, key=lambda each: (not each.verdict.stable, each.change.size))
+    """How to judge a change that makes the list stable, or that none by itself does."""
+    best = recommended(remedies)
+    if best is not None:
         words = ["rrp", "check", path, "--set", best.change.statement]
         print(f"\nto judge a change for all lists: {join(words)}")
+    elif remedies:
+        print("\nno change above makes the list stable by itself: make one of them in the plan,")
+        print("and show the list again for the cycle that is left; or change a session or the list")
 
 
-def _write(plan: Plan, verdict: Verdict, values: dict[str, object]) -> None:
-    write_json({"plan": plan.source, "list": verdict.name, **values, "notes": plan.notes})
+def _write(plan: Plan, verdict: Verdict, values: dict[str, object], *notes: str) -> None:
+    notes = [*plan.notes, *notes]
+    write_json({"plan": plan.source, "list": verdict.name, **values, "notes": notes})
