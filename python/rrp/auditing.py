@@ -13,30 +13,41 @@ from typing import TYPE_CHECKING, NamedTuple
 from . import library
 from .errors import RrpError
 from .files import read_file
-from .filing import SUFFIX, differences, packed, read_verdict, verdict_path, verdict_text
+from .filing import SUFFIX, packed, read_verdict, verdict_path
 from .output import count_words
+from .verdict_differences import CHANGED, FALSE, LINES, RIGHT, compare
+from .verdict_files import entry
 
 if TYPE_CHECKING:
     from multiprocessing.connection import Connection
 
 PLAN_SUFFIXES = (".rrp", ".plan")
 
-#: What may be found of a file.
-RIGHT, FALSE, UNFILED, STRAY, UNREADABLE = "right", "false", "unfiled", "stray", "unreadable"
+#: What may be found of a file, beside what is found of a verdict.
+UNFILED, STRAY, UNREADABLE = "unfiled", "stray", "unreadable"
+KINDS = (RIGHT, LINES, CHANGED, FALSE, UNFILED, STRAY, UNREADABLE)
 
 #: So many plans are judged before they are reported. Fewer are judged in one process.
 _CHUNK = 100
 
 
 class Finding(NamedTuple):
-    """What was found of a plan, or of a verdict that has none. A false verdict is there as it is
-    filed, and as it is due unless the plan's text has errors."""
+    """What was found of a plan, or of a verdict that has none.
+
+    `stable` and `suspect` count the lists of the plan, and `refused` says whether it is refused. A
+    verdict that is false or of another plan is there as it is filed, and as it is due unless the
+    plan's text has errors; `differences` has the values that differ.
+    """
 
     path: str
     kind: str
     details: tuple[str, ...] = ()
+    stable: int = 0
+    suspect: int = 0
+    refused: bool = False
     filed: str | None = None
     due: str | None = None
+    differences: tuple[dict[str, object], ...] = ()
 
 
 class Found(NamedTuple):
@@ -95,12 +106,17 @@ def judge(path: str) -> Finding:
     except RrpError as failure:
         return Finding(path, UNREADABLE, (str(failure),))
     try:
-        due = verdict_text(packed(data, name))
+        plan = packed(data, name)
     except RrpError as failure:
-        return Finding(path, FALSE, (f"a verdict is filed, but {_first_problem(failure)}",), filed)
-    if filed == due:
-        return Finding(path, RIGHT)
-    return Finding(path, FALSE, tuple(differences(filed, due)), filed, due)
+        details = (f"a verdict is filed, but {_first_problem(failure)}",)
+        return Finding(path, FALSE, details, filed=filed)
+    due = entry(plan.data)
+    found = compare(filed, due, plan.names)
+    finding = Finding(path, found.kind, found.details, due.stable, due.suspect, due.refused)
+    if found.kind in (RIGHT, LINES):
+        return finding
+    values = tuple(each.values(plan.names) for each in found.differences)
+    return finding._replace(filed=filed, due=due.text, differences=values)
 
 
 def _need_file(path: str) -> None:

@@ -8,12 +8,13 @@ from contextlib import suppress
 
 from .errors import RrpError
 
-#: A longer file is no plan, neither text nor bytes.
+#: A longer file is no plan, neither text nor bytes, and no table or verdict of one.
 MOST_BYTES = 1 << 22
 
 
-def read_file(path: str | os.PathLike[str]) -> tuple[str, bytes]:
-    """The name that errors give a file, and its content; standard input if the path is `-`."""
+def read_file(path: str | os.PathLike[str], what: str = "plan") -> tuple[str, bytes]:
+    """The name that errors give a file, and its content; standard input if the path is `-`. What
+    the file is to be is named where it is too long for that."""
     name = os.fspath(path)
     if name == "-" and sys.stdin is None:
         raise RrpError("standard input is closed: give the plan there, or name its file")
@@ -26,7 +27,7 @@ def read_file(path: str | os.PathLike[str]) -> tuple[str, bytes]:
     except (OSError, ValueError) as failure:
         raise RrpError(f"{name} cannot be read: {_reason(failure)}") from None
     if len(data) > MOST_BYTES:
-        raise RrpError(f"{name} is no plan: it has more than {MOST_BYTES:,} bytes")
+        raise RrpError(f"{name} is no {what}: it has more than {MOST_BYTES:,} bytes")
     return name, data
 
 

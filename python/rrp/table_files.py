@@ -55,7 +55,7 @@ def table_values(table: Table) -> dict[str, object]:
 def read_table(path: str | os.PathLike[str], plan: Plan, egress_list: str) -> Read:
     """The table of a file, in text or as `table` in JSON. All problems of a text come in one
     `TextErrors`."""
-    name, data = read_file(path)
+    name, data = read_file(path, "table")
     text = decode_text(data, name)
     if text.lstrip().startswith("{"):
         text, name = _text_of_json(text, name), f"{name} as text"

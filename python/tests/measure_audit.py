@@ -15,7 +15,8 @@ import time
 from itertools import combinations
 
 from rrp import encoding
-from rrp.filing import verdict_path, verdict_text
+from rrp.filing import verdict_path
+from rrp.verdict_files import entry
 
 ROUTERS, REFLECTORS, LISTS = 16, 4, 4
 
@@ -48,7 +49,7 @@ def write_library(folder: str, count: int) -> None:
         with open(path, "wb") as file:
             file.write(data)
         with open(verdict_path(path), "w", encoding="ascii") as file:
-            file.write(verdict_text(data))
+            file.write(entry(data).text)
 
 
 def main() -> None:

@@ -9,32 +9,32 @@ from typing import NamedTuple
 
 from ..errors import LibraryMissing, RrpError
 from ..files import read_file, write_file
-from ..filing import SUFFIX, is_meant, packed, read_verdict, verdict_path, verdict_text
+from ..filing import SUFFIX, is_meant, packed, read_verdict, verdict_path
 from ..output import count_words, write_json
+from ..verdict_differences import LINES, RIGHT, compare
+from ..verdict_files import Entry, digest_of, entry
 
 
 class Filed(NamedTuple):
-    """A verdict that is filed: `filed` newly, `unchanged`, or `replaced` if another was there."""
+    """A verdict that is filed: `filed` newly, `unchanged`, `completed` if its lines alone were
+    there, or `replaced` if another was."""
 
     plan: str
     path: str
-    text: str
+    entry: Entry
     change: str
 
     @property
     def status(self) -> int:
         """0 if all lists are stable, 1 if some list is suspect, 2 if the plan is refused."""
-        if self.text.startswith("refused"):
-            return 2
-        return 1 if " suspect " in self.text else 0
+        return 2 if self.entry.refused else 1 if self.entry.suspect else 0
 
     def words(self) -> str:
         """The verdict in a few words."""
-        first, *lists = self.text.splitlines()
-        if self.status == 2:
-            return first
-        suspect = sum(" suspect " in line for line in lists)
-        return f"{count_words(len(lists), 'list')}, {suspect} suspect"
+        if self.entry.refused:
+            return self.entry.program.rstrip()
+        lists = self.entry.stable + self.entry.suspect
+        return f"{count_words(lists, 'list')}, {self.entry.suspect} suspect"
 
 
 def arguments(parser: ArgumentParser) -> None:
@@ -43,10 +43,12 @@ def arguments(parser: ArgumentParser) -> None:
     damaged = "file that a plan is refused also where it is so damaged that it looks like no plan"
     parser.add_argument("--damaged", action="store_true", help=damaged)
     parser.epilog = (
-        f"The verdict of PLAN is written to PLAN{SUFFIX}: the lines of the verdict program, for a "
-        "text plan on the bytes that it packs into. The verdict of a damaged plan in bytes is that "
-        "it is refused. Exit status: 0 all lists are stable, 1 some list is suspect, 2 a plan is "
-        "refused, cannot be read or has errors, or a verdict cannot be written."
+        f"The verdict of PLAN is written to PLAN{SUFFIX}: the lines of the verdict program, then "
+        "the rank and the route of each router of a stable list and the groups of a suspect one, "
+        "and the SHA-256 of the plan's bytes; for a text plan all of that is of the bytes that it "
+        "packs into. The verdict of a damaged plan in bytes is that it is refused. Exit status: 0 "
+        "all lists are stable, 1 some list is suspect, 2 a plan is refused, cannot be read or has "
+        "errors, or a verdict cannot be written."
     )
 
 
@@ -79,13 +81,14 @@ def _file(plan: str, damaged: bool) -> Filed:
     if not damaged and not is_meant(data):
         what = "it neither starts with RRP nor has a statement of a text plan"
         raise RrpError(f"{plan} is no plan: {what}; --damaged files that it is refused")
-    text, path = verdict_text(packed(data, name)), verdict_path(plan)
+    due, path = entry(packed(data, name).data), verdict_path(plan)
     change = "filed"
     if os.path.exists(path):
-        change = "unchanged" if read_verdict(path) == text else "replaced"
+        changes = {RIGHT: "unchanged", LINES: "completed"}
+        change = changes.get(compare(read_verdict(path), due).kind, "replaced")
     if change != "unchanged":
-        write_file(path, text.encode())
-    return Filed(plan, path, text, change)
+        write_file(path, due.text.encode())
+    return Filed(plan, path, due, change)
 
 
 def _print(filed: list[Filed], failures: list[RrpError]) -> None:
@@ -97,5 +100,6 @@ def _print(filed: list[Filed], failures: list[RrpError]) -> None:
 
 
 def _values(filed: Filed) -> dict[str, object]:
-    lines = filed.text.splitlines()
-    return {"plan": filed.plan, "verdict": filed.path, "change": filed.change, "lines": lines}
+    lines, digest = filed.entry.program.splitlines(), digest_of(filed.entry.digest)
+    values = {"plan": filed.plan, "verdict": filed.path, "change": filed.change}
+    return {**values, "lines": lines, "sha256": digest}
