@@ -15,6 +15,9 @@ if TYPE_CHECKING:
     from .tables import Route, Table
     from .text import TextErrors
 
+#: The version of the package, which `rrp --version` writes; pyproject.toml has it too.
+__version__ = "1.1.0"
+
 #: The names of the package, and the modules that they are of.
 _HOMES = {
     "Comparison": "plan",

@@ -3,22 +3,24 @@ is imported."""
 
 from __future__ import annotations
 
-import argparse
 import errno
 import os
 import signal
 import sys
+from argparse import Namespace
 from collections.abc import Sequence
 from contextlib import suppress
 from importlib import import_module
 from typing import TextIO
 
+from . import __version__
 from .errors import RrpError
+from .usage import Parser, too_many, unknown_command
 
 #: The subcommands with a line of help. Each is a module of its name, with `arguments` and `run`.
 COMMANDS = {
     "check": "judge a plan for each of its lists",
-    "show": "explain the verdict for one list",
+    "show": "name the lists, or explain the verdict for one",
     "why": "explain why a router relies on another, or does not",
     "run": "activate routers one by one, and say what changes",
     "dot": "write who relies on whom as a Graphviz picture",
@@ -62,15 +64,28 @@ def main(words: Sequence[str] | None = None) -> int:
 def _run(words: list[str]) -> int:
     """Runs a subcommand. What it cannot answer is said on standard error, or as JSON if that is
     asked for."""
+    as_json = "--json" in words
     try:
-        options = _parser(words).parse_args(words)
+        options = _options(words)
+        as_json = options.json
+        return _module(options.command).run(options)
     except SystemExit as end:
         return int(end.code or 0)
-    try:
-        return _module(options.command).run(options)
     except RrpError as failure:
-        _report(failure, options.json)
+        _report(failure, as_json)
         return ERROR
+
+
+def _options(words: list[str]) -> Namespace:
+    """What the words ask for. Help and the version are written here, and end the command."""
+    parser, parsers = _parser(words)
+    command = next((word for word in words if not word.startswith("-")), None)
+    if command not in COMMANDS and (command or not {"-h", "--help", "--version"} & set(words)):
+        raise unknown_command(parser, command, list(COMMANDS))
+    options, extra = parser.parse_known_args(words)
+    if extra:
+        raise too_many(parsers[options.command], extra, words)
+    return options
 
 
 def _report(failure: RrpError, as_json: bool) -> None:
@@ -83,21 +98,24 @@ def _report(failure: RrpError, as_json: bool) -> None:
         print(failure.report(), file=sys.stderr)
 
 
-def _parser(words: list[str]) -> argparse.ArgumentParser:
-    """The parser, with the arguments of the subcommand that the words name."""
-    parser = argparse.ArgumentParser(
+def _parser(words: list[str]) -> tuple[Parser, dict[str, Parser]]:
+    """The parser, and that of each subcommand. The one that the words name has its arguments."""
+    parser = Parser(
         prog="rrp",
         description="Checks BGP route-reflection plans, over a proved library.",
         epilog="Exit status: 0 stable, 1 some list is suspect, 2 error. "
         "A plan is text or bytes, told apart by its first bytes; - is standard input.",
     )
+    parser.add_argument("--version", action="version", version=f"rrp {__version__}")
     subparsers = parser.add_subparsers(dest="command", metavar="COMMAND", required=True)
+    parsers = {}
     for name, line in COMMANDS.items():
-        subparser = subparsers.add_parser(name, help=line, description=f"{line.capitalize()}.")
+        description = f"{line[0].upper()}{line[1:]}."
+        parsers[name] = subparsers.add_parser(name, help=line, description=description)
         if name in words:
-            _module(name).arguments(subparser)
-            subparser.add_argument("--json", action="store_true", help="write JSON")
-    return parser
+            _module(name).arguments(parsers[name])
+            parsers[name].add_argument("--json", action="store_true", help="write JSON")
+    return parser, parsers
 
 
 def _module(name: str):
