@@ -2,11 +2,11 @@
 
 from __future__ import annotations
 
-import re
 from argparse import ArgumentParser, ArgumentTypeError, Namespace, RawDescriptionHelpFormatter
 
 from ..columns import left, widest
 from ..errors import RrpError
+from ..orders import order_words, read_order
 from ..output import count_words, write_json, write_notes
 from ..plan import Plan, Verdict
 from ..table_files import NOTHING, Read, read_table, route_values, route_words, table_values
@@ -39,7 +39,8 @@ def arguments(parser: ArgumentParser) -> None:
     orders.add_argument(
         "--order",
         metavar="A,B,..",
-        help="activate these routers, by name or number, again and again (all, by number)",
+        help="activate these routers, by name or number, again and again; with blanks between "
+        "them where names have commas (all, by number)",
     )
     orders.add_argument(
         "--random", metavar="SEED", type=_number, help="activate all in a new random order a round"
@@ -88,17 +89,14 @@ def _start(plan: Plan, verdict: Verdict, path: str) -> Read:
 
 
 def _order(plan: Plan, options: Namespace) -> Order:
-    """The order that is asked for. A router that has a comma in its name is given by its number."""
+    """The order that is asked for."""
     if options.order is None:
         return Order(plan.routers, options.random)
-    words = [word for word in re.split(r"[,\s]+", options.order) if word]
-    if not words:
-        raise RrpError(f"--order names no router: name some, as --order {plan.routers[0]}")
-    return Order([plan.routers[plan.router_number(word)] for word in words])
+    return Order(read_order(plan, options.order))
 
 
 def _print_run(tracing: Tracing, options: Namespace) -> None:
-    print(f"{tracing.verdict.name}, {_order_words(tracing.order, options)}, from {options.start}")
+    print(f"{tracing.verdict.name}, {_order_words(tracing, options)}, from {options.start}")
     width, changes = widest(tracing.plan.routers), 0
     for step in tracing.steps():
         if step.before != step.after:
@@ -113,10 +111,13 @@ def _print_run(tracing: Tracing, options: Namespace) -> None:
         print(line)
 
 
-def _order_words(order: Order, options: Namespace) -> str:
+def _order_words(tracing: Tracing, options: Namespace) -> str:
+    order = tracing.order
     if order.seed is not None:
         return f"all routers in a new random order each round (seed {order.seed})"
-    return "all routers by number" if options.order is None else f"order {','.join(order.routers)}"
+    if options.order is None:
+        return "all routers by number"
+    return f"order {order_words(tracing.plan, order.routers)}"
 
 
 def _outcome_lines(tracing: Tracing) -> list[str]:
