@@ -262,7 +262,10 @@ def activate(plan: bytes, egresses: int, router: int, table: bytes) -> bytes:
 def run(
     plan: bytes, egresses: int, sequence: bytes, table: bytes, limit: int | None = None
 ) -> Ran:
-    """Activates the routers of a sequence, one byte each, at most `limit` of them (rrp_run)."""
+    """Activates the routers of a sequence, one byte each, at most `limit` of them (rrp_run). A
+    negative limit, which the call has no number for, is refused here."""
+    if limit is not None and limit < 0:
+        raise RrpError(f"a limit is 0 or more, and not {limit}")
     held = ctypes.create_string_buffer(table, max(len(table), 1))
     applied, rounds, exhausted = ctypes.c_uint64(), ctypes.c_uint64(), ctypes.c_uint8()
     number, most = _sizes(egresses, len(sequence) if limit is None else limit)

@@ -130,6 +130,9 @@ class Plan:
         self._router_numbers = {name: number for number, name in enumerate(self.routers)}
         self._list_numbers = {name: number for number, name in enumerate(self.lists)}
 
+    def __repr__(self) -> str:
+        return f"<Plan {self.source}: {len(self.routers)} routers, {len(self.lists)} lists>"
+
     # Where plans come from
 
     @classmethod
@@ -281,8 +284,8 @@ class Plan:
         table: Table | None = None,
         limit: int | None = None,
     ) -> Run:
-        """Activates routers one after the other, at most `limit` of them, from a table or, if none
-        is given, from nothing."""
+        """Activates routers one after the other, at most `limit` of them, which is no negative
+        number, from a table or, if none is given, from nothing."""
         start = self.empty_table(egress_list) if table is None else table
         acts = bytes(self.router_number(which) for which in sequence)
         ran = library.run(self.data, self.list_number(egress_list), acts, start.data, limit)

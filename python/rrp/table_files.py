@@ -16,7 +16,7 @@ import os
 from collections.abc import Mapping
 from typing import NamedTuple
 
-from .errors import RrpError, nearest
+from .errors import RrpError, cut_names, nearest
 from .files import read_file
 from .library import BAD_TABLE, Refused
 from .plan import Plan
@@ -135,7 +135,7 @@ class _Reading:
         return first is word
 
     def _note(self, text: str) -> None:
-        self.notes.append(text)
+        self.notes.append(cut_names(text))
 
     def _problem(self, word: Word, message: str, advice: str) -> None:
         self.problems.append(Problem(word, message, advice))

@@ -87,8 +87,22 @@ class ByName(unittest.TestCase):
         self.assertEqual((run.applied, run.rounds, run.exhausted), (4, 1, False))
         self.assertEqual(run.table["r1"], Route("r2", "r0"))
         self.assertTrue(plan.run("l0", ["r0", "r1"], limit=1).exhausted)
+        none = plan.run("l0", ["r0", "r1"], limit=0)
+        self.assertEqual((none.table, none.applied, none.exhausted), (start, 0, True))
+        self.assertEqual(plan.run("l0", ["r0", "r1"], limit=2**70).applied, 2)
         settled = plan.verdict("l1").table
         self.assertEqual(plan.run("l1", list(plan.routers) * 5).table, settled)
+
+    def test_a_negative_limit_is_refused(self) -> None:
+        for limit in (-1, -(2**70)):
+            with self.assertRaisesRegex(RrpError, f"a limit is 0 or more, and not {limit}"):
+                self.m3.run("l0", ["r0", "r1"], limit=limit)
+            with self.assertRaises(RrpError):
+                library.run(self.m3.data, 0, b"\0", self.m3.empty_table("l0").data, limit)
+
+    def test_repr(self) -> None:
+        self.assertEqual(repr(self.net), f"<Plan {EXAMPLES}/net.rrp: 12 routers, 3 lists>")
+        self.assertEqual(repr(Plan(self.m3.data)), "<Plan the plan: 4 routers, 2 lists>")
 
     def test_a_table_that_cannot_be(self) -> None:
         table = self.m3.empty_table("l0").with_route("r0", Route("r2", "r3"))

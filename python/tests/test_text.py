@@ -85,6 +85,12 @@ class Meaning(unittest.TestCase):
         (note,) = Plan.parse(_TWO + "link a > b 5").notes
         self.assertEqual(note, "no way along links for 1 pair of routers: b to a")
 
+    def test_notes_cut_long_names(self) -> None:
+        long = "x" * 65
+        (note,) = Plan.parse(f"{_TWO}client {long} 3\nlink a b 5").notes
+        pairs = f"a and {'x' * 62}.., b and {'x' * 62}.."
+        self.assertEqual(note, f"no way along links for 2 pairs of routers: {pairs}")
+
 
 class Limits(unittest.TestCase):
     """A plan as large as can be, and one larger by one."""

@@ -165,6 +165,11 @@ class TableFiles(unittest.TestCase):
         table, notes = read_table(self.write("# nothing\n"), self.net, "transit")
         self.assertEqual((table, notes), (self.net.empty_table("transit"), ()))
 
+    def test_notes_cut_long_names(self) -> None:
+        plan = Plan.parse(f"reflector {'x' * 65} 1\nlist l {'x' * 65}\n")
+        notes = read_table(self.write(f"{'x' * 65} nothing\n"), plan, "l").notes
+        self.assertEqual(notes, (f"{'x' * 62}.. is in the list l, and starts with its own route",))
+
     def test_no_table(self) -> None:
         for text in ("{", '{"table": 3}', '{"table": {"lon-rr": 3}}', "{}", '{"table": null}'):
             answer = rrp("run", NET, "transit", "--from", self.write(text))

@@ -11,6 +11,7 @@ from math import gcd
 
 from .. import encoding, library
 from ..encoding import CLIENT, Model, Rows
+from ..errors import cut_names
 from ..plan import Plan
 from .draft import Draft, Way
 from .problems import Problem, TextErrors
@@ -192,6 +193,7 @@ def _notes(draft: Draft, names: list[str], model: Model) -> list[str]:
     pairs = [" and ".join(pair) for pair in both] + [" to ".join(pair) for pair in one_way]
     if not pairs:
         return []
-    named = ", ".join(pairs[:_PAIRS_NAMED]) + (", .." if len(pairs) > _PAIRS_NAMED else "")
+    named = ", ".join(map(cut_names, pairs[:_PAIRS_NAMED]))
+    named += ", .." if len(pairs) > _PAIRS_NAMED else ""
     count = "1 pair" if len(pairs) == 1 else f"{len(pairs)} pairs"
     return [f"no way along links for {count} of routers: {named}"]
