@@ -1,7 +1,8 @@
-"""Builds the wheel that pip installs, by the standard library alone (PEP 517).
+"""Builds the wheel that pip installs, by the standard library alone (PEP 517 and PEP 660).
 
 A wheel is an archive of the package, of the proved library beside it, and of some files that name
-them. The library is x86-64 code for Linux, and the wheel's name says so.
+them. The library is x86-64 code for Linux, and the wheel's name says so. The wheel of pip install
+-e has the place of the package instead, so that an edit of it counts at once.
 """
 
 from __future__ import annotations
@@ -23,10 +24,19 @@ def build_wheel(wheel_directory: str, config_settings=None, metadata_directory=N
     """Writes the wheel into a folder and returns its name."""
     if not os.path.isfile(os.path.join(_HERE, _LIBRARY)):
         sys.exit("python/rrp/librrp.so is missing: run ./build at the root of the repository first")
-    with open(os.path.join(_HERE, "pyproject.toml"), encoding="utf-8") as file:
-        project = dict(re.findall(r'^([\w-]+) = "(.*)"$', file.read(), re.M))
+    return _write_wheel(wheel_directory, {path: _content(path) for path in _paths()})
+
+
+def build_editable(wheel_directory: str, config_settings=None, metadata_directory=None) -> str:
+    """Writes a wheel that leads to the package where it is, and returns its name. The command says
+    so where the library is not built yet."""
+    return _write_wheel(wheel_directory, {"rrp-editable.pth": os.fsencode(f"{_HERE}\n")})
+
+
+def _write_wheel(wheel_directory: str, files: dict[str, bytes]) -> str:
+    """Writes a wheel of these files, and of those that describe it."""
+    project = _project()
     about = f"{project['name']}-{project['version']}"
-    files = {path: _content(path) for path in _paths()}
     for name, text in _about(project).items():
         files[f"{about}.dist-info/{name}"] = text.encode()
     record = f"{about}.dist-info/RECORD"
@@ -43,6 +53,12 @@ def build_wheel(wheel_directory: str, config_settings=None, metadata_directory=N
 def build_sdist(sdist_directory: str, config_settings=None) -> str:
     """There is none: the library is built at the root of the repository."""
     sys.exit("no source archive is made: install from the repository, with pip install ./python")
+
+
+def _project() -> dict[str, str]:
+    """What pyproject.toml states, but for lists."""
+    with open(os.path.join(_HERE, "pyproject.toml"), encoding="utf-8") as file:
+        return dict(re.findall(r'^([\w-]+) = "(.*)"$', file.read(), re.M))
 
 
 def _paths() -> list[str]:
