@@ -15,6 +15,8 @@ from rrp.errors import RrpError
 from rrp.plan import Plan
 from rrp.text import TextErrors, decode_text, parse
 from rrp.text.assembly import assemble
+from rrp.verdict_differences import FALSE, RIGHT, compare
+from rrp.verdict_files import entry
 
 from .support import EXAMPLES, FAULT, STORED_PLANS, TESTS, Answer, rrp
 
@@ -94,8 +96,8 @@ class Fuzz(unittest.TestCase):
                 data = random_input(self.inputs, self.draw)
                 with open(path, "wb") as file:
                     file.write(data)
-                command = self.draw.choice(["check", "check", "pack", "unpack"])
-                out = [] if command == "check" else ["-o", f"{folder}/output"]
+                command = self.draw.choice(["check", "check", "show", "pack", "unpack"])
+                out = [] if command in ("check", "show") else ["-o", f"{folder}/output"]
                 self.sound(rrp(command, path, *out), data)
 
     def test_changes(self) -> None:
@@ -104,6 +106,17 @@ class Fuzz(unittest.TestCase):
             changes = [random_line(self.draw) for _ in range(self.draw.randint(1, 3))]
             words = [word for change in changes for word in ("--set", change)]
             self.sound(rrp("check", plan, *words), changes)
+
+    def test_verdicts(self) -> None:
+        due = entry(Plan.read(f"{EXAMPLES}/net.rrp").data)
+        text, kinds = due.text.encode(), set()
+        for _ in range(COUNT):
+            filed = damaged(text, self.draw).decode("ascii", "backslashreplace")
+            found = compare(filed, due)
+            self.assertEqual(found.kind == RIGHT, filed == due.text, filed)
+            self.assertEqual(found.kind == RIGHT, not found.details, filed)
+            kinds.add(found.kind)
+        self.assertLessEqual({RIGHT, FALSE}, kinds)
 
     def test_marks_are_under_their_words(self) -> None:
         for _ in range(COUNT // 2):

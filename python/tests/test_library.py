@@ -124,6 +124,9 @@ class Missing(unittest.TestCase):
         return answer.errors
 
     def test_missing(self) -> None:
+        environment = mock.patch.dict(os.environ)
+        environment.start()
+        self.addCleanup(environment.stop)
         os.environ.pop("RRP_LIBRARY", None)
         self.assertIn("looked at /no/a.so and /no/b.so", self.report(["/no/a.so", "/no/b.so"]))
         self.assertIn("RRP_LIBRARY is /no/c.so", self.report([], RRP_LIBRARY="/no/c.so"))
