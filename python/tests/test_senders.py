@@ -72,7 +72,7 @@ class Senders(unittest.TestCase):
             self.assertTrue(lines[-1].endswith(f" Here: {', '.join(who) or 'no router'}"), lines)
             values = json.loads(rrp(*words, "--json").output)
             self.assertEqual(values["sender_may_differ"], who)
-            self.assertIn("CLUSTER_LIST", values["notes"][-1])
+            self.assertEqual(" ".join(lines[-2:]), f"note: {values['sender_note']}")
 
     def test_a_suspect_list_has_no_table_and_no_note(self) -> None:
         self.assertNotIn("CLUSTER_LIST", rrp("show", f"{EXAMPLES}/net.rrp", "transit").output)

@@ -16,8 +16,9 @@ from ..remedies import Remedy, recommended, smallest_remedy
 from ..senders import heard_again, sender_note
 from ..table_files import NOTHING, table_values
 
-#: So wide is a note below a table.
+#: So wide is a note below a table, in which no name is broken.
 _COLUMNS = 110
+_WHOLE = {"break_long_words": False, "break_on_hyphens": False}
 
 
 def arguments(parser: ArgumentParser) -> None:
@@ -70,9 +71,9 @@ def _show_stable(plan: Plan, verdict: Verdict, options: Namespace) -> None:
     """The rank of each router and what it settles on, by rank and then by number."""
     again = heard_again(plan, verdict)
     if options.json:
-        values = {**verdict_values(verdict), "ranks": verdict.ranks, "sender_may_differ": again}
-        table = table_values(verdict.table)
-        _write(plan, verdict, {**values, "table": table}, sender_note(again))
+        values = {"ranks": verdict.ranks, "table": table_values(verdict.table)}
+        senders = {"sender_may_differ": again, "sender_note": sender_note(again)}
+        _write(plan, verdict, {**verdict_values(verdict), **values, **senders})
         return
     rows = [("router", "rank", "egress", "from")]
     for router in sorted(plan.routers, key=verdict.ranks.get):
@@ -82,7 +83,7 @@ def _show_stable(plan: Plan, verdict: Verdict, options: Namespace) -> None:
     for router, rank, egress, sender in rows:
         cells = left(router, widths[0]), right(rank, widths[1]), left(egress, widths[2]), sender
         print("  ".join(cells).rstrip())
-    note = wrap(f"note: {sender_note(again)}", _COLUMNS, break_on_hyphens=False)
+    note = wrap(f"note: {sender_note(again)}", _COLUMNS, **_WHOLE)
     for line in [*without_route_lines(verdict), *note]:
         print(line)
 
@@ -136,6 +137,5 @@ def _print_advice(path: str, remedies: list[Remedy]) -> None:
         print("and show the list again for the cycle that is left; or change a session or the list")
 
 
-def _write(plan: Plan, verdict: Verdict, values: dict[str, object], *notes: str) -> None:
-    notes = [*plan.notes, *notes]
-    write_json({"plan": plan.source, "list": verdict.name, **values, "notes": notes})
+def _write(plan: Plan, verdict: Verdict, values: dict[str, object]) -> None:
+    write_json({"plan": plan.source, "list": verdict.name, **values, "notes": plan.notes})
