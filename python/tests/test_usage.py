@@ -86,6 +86,11 @@ class Usage(unittest.TestCase):
                 (error,) = json.loads(answer.output)["errors"]
                 self.assertEqual(error, {"message": message.split(": ", 1)[1], "advice": advice})
 
+    def test_json_by_a_shortened_option(self) -> None:
+        answer = rrp("check", "missing", "--js")
+        self.assertEqual((answer.status, answer.errors), (2, ""))
+        self.assertIn("missing cannot be read", json.loads(answer.output)["errors"][0]["message"])
+
     def test_long_words_are_cut(self) -> None:
         errors = rrp("check", NET, "x" * 65).errors
         self.assertIn(f"rrp check: {'x' * 62}.. is too much\n", errors)
