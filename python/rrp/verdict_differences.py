@@ -24,12 +24,12 @@ _MOST_SHOWN = 3
 _MOST_LETTERS = 80
 
 _ALONE = (
-    "its lines are right, but ranks, routes, groups and SHA-256 are not filed, so that an edit of "
-    "the plan may go unseen; rrp file adds them"
+    "its lines are right, but nothing more is filed: an edit of the plan may go unseen",
+    "rrp file adds the ranks, routes and groups, and the SHA-256 of the plan",
 )
 _OTHER_PLAN = (
-    "it is another plan than the one filed, with every verdict, rank and route the same; look at "
-    "what was edited, and rrp file files it anew"
+    "another plan than the one filed, with every verdict, rank and route the same",
+    "look at what was edited, then file it anew with rrp file",
 )
 
 
@@ -86,10 +86,10 @@ def compare(filed: str, due: Entry, names: Names = Names()) -> Comparison:
     if filed == due.text:
         return Comparison(RIGHT)
     if filed == due.program:
-        return Comparison(LINES, (_ALONE,))
+        return Comparison(LINES, _ALONE)
     digest = digest_of(filed)
     if digest is not None and filed == due._replace(digest=f"sha256 {digest}\n").text:
-        return Comparison(CHANGED, (_OTHER_PLAN,))
+        return Comparison(CHANGED, _OTHER_PLAN)
     expected = due.program if _alone(filed) else due.text
     found = differences(filed, expected)
     shown = [each.words(names) for each in found] or _line_differences(filed, expected)

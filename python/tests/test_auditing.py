@@ -90,9 +90,10 @@ class Edits(InFolder):
         for old, new in HARMLESS:
             status, lines = self.audit(old, new)
             self.assertEqual(status, 1)
-            self.assertRegex(lines[0], "^changed: ./net.rrp: it is another plan than the one filed")
+            said = "another plan than the one filed, with every verdict, rank and route the same"
+            self.assertEqual(lines[0], f"changed: ./net.rrp: {said}")
             lists = "lists judged: 2 stable, 1 suspect"
-            self.assertEqual(lines[1:], [f"1 plan: 0 right, 0 false, 1 changed; {lists}"])
+            self.assertEqual(lines[2:], [f"1 plan: 0 right, 0 false, 1 changed; {lists}"])
 
     def test_another_text_of_the_same_plan(self) -> None:
         for old, new in OF_THE_TEXT:
@@ -198,9 +199,10 @@ class Told(InFolder):
         lists = "lists judged: 2 stable, 2 suspect"
         summary = f"2 plans: 1 right, 0 false, 1 of lines alone; {lists}\n"
         answer = rrp("audit", ".")
-        said, told = answer.output.split("\n", 1)
+        said, advice, told = answer.output.split("\n", 2)
         self.assertEqual((answer.status, told), (1, summary))
-        self.assertRegex(said, "^lines: ./000.plan: its lines are right, but ranks, .* not filed")
+        self.assertRegex(said, "^lines: ./000.plan: its lines are right, but nothing more is filed")
+        self.assertRegex(advice, "^    rrp file adds the ranks, routes and groups")
         self.assertEqual(rrp("audit", ".", "--lines"), (0, summary, ""))
         values = json.loads(rrp("audit", ".", "--json").output)
         self.assertEqual((values["right"], values["lines"], values["false"]), (1, 1, 0))

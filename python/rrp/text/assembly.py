@@ -104,12 +104,12 @@ def _nearer(draft: Draft, names: list[str]) -> str:
     try:
         _from_links(divided, names)
     except library.Refused:
-        keep = "keep at each router what is nearer and what is as far"
-        state = f"state distances in place of links, and {keep}"
-        return f"{most}, and no common divisor of the weights is enough; {never}; {state}"
+        keep = "in place of links, that keep at each router what is nearer and what is as far"
+        none = f"{most}, and no common divisor of the weights is enough: state distances"
+        return f"{none}\n{keep}; {never}"
     every = "every weight and distance" if draft.distances else "every weight"
-    divide = f"divide {every} by a common divisor only, here by {divisor:,}"
-    return f"{most}: {divide}; {never}; or state distances in place of links"
+    divide = f"divide {every} by a common divisor only, here by {divisor:,};"
+    return f"{most}: {divide}\n{never}; or state distances in place of links"
 
 
 def _common_divisor(draft: Draft) -> int:

@@ -21,7 +21,7 @@ _BEFORE = 60
 
 
 class Problem(NamedTuple):
-    """What is wrong at a word, and what to do."""
+    """What is wrong at a word, and what to do, in a line or more."""
 
     word: Word
     message: str
@@ -33,7 +33,8 @@ class Problem(NamedTuple):
         shown, start = _window(line.text, self.word.column - 1)
         before, under = width(shown[:start]), width(shown[start:][: len(self.word.text)])
         place = f"{line.file}:{line.number}:{self.word.column}"
-        below = [shown, " " * before + "^" * max(1, under), cut_names(self.advice)]
+        mark = " " * before + "^" * max(1, under)
+        below = [shown, mark, *cut_names(self.advice).split("\n")]
         said = f"{place}: {cut_names(self.message)}"
         return "\n".join([said, *(f"    {each}".rstrip() for each in below)])
 
@@ -79,7 +80,7 @@ def _values(problem: Problem) -> dict[str, object]:
         "column": word.column,
         "text": word.line.text,
         "message": cut_names(problem.message),
-        "advice": cut_names(problem.advice),
+        "advice": cut_names(problem.advice.replace("\n", " ")),
     }
 
 
