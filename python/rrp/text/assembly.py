@@ -104,9 +104,9 @@ def _nearer(draft: Draft, names: list[str]) -> str:
     try:
         _from_links(divided, names)
     except library.Refused:
-        keep = "in place of links, that keep at each router what is nearer and what is as far"
-        none = f"{most}, and no common divisor of the weights is enough: state distances"
-        return f"{none}\n{keep}; {never}"
+        keep = "that keep at each router what is nearer and what is as far"
+        none = f"{most}, and no common divisor of the weights is enough"
+        return f"{none}: state distances in place of links,\n{keep}; {never}"
     every = "every weight and distance" if draft.distances else "every weight"
     divide = f"divide {every} by a common divisor only, here by {divisor:,};"
     return f"{most}: {divide}\n{never}; or state distances in place of links"
