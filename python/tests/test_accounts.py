@@ -18,7 +18,7 @@ BUNDLED = (
     f"{EXAMPLES}/m3.plan",
     f"{TESTS}/plans/reasons.rrp",
     f"{STORED_PLANS}/no-way-from-0-to-3.plan",
-    f"{STORED_PLANS}/ring-of-four.plan",
+    f"{STORED_PLANS}/cycle-of-four.plan",
     f"{STORED_PLANS}/role-3.plan",
 )
 

@@ -129,7 +129,7 @@ class Auditing(InFolder):
 
     def test_a_verdict_of_another_plan(self) -> None:
         self.library(300)
-        shutil.copyfile(f"{STORED_PLANS}/ring-of-four.plan", "123.plan")
+        shutil.copyfile(f"{STORED_PLANS}/cycle-of-four.plan", "123.plan")
         for processes in (1, 2, 3):
             self.assertEqual(self.kinds(processes), {"./123.plan": FALSE})
         answer = rrp("audit", ".")
@@ -181,7 +181,7 @@ class Told(InFolder):
     """What is told of all plans, and of each that is not right."""
 
     def test_lists_are_counted(self) -> None:
-        for name in ("ring-of-four", "role-3", "no-way-from-0-to-3", "refused-4-role-4", "empty"):
+        for name in ("cycle-of-four", "role-3", "no-way-from-0-to-3", "refused-4-role-4", "empty"):
             self.copy(f"{STORED_PLANS}/{name}.plan")
             write(f"{name}.plan.verdict", verdict_of(f"{name}.plan"))
         answer = rrp("audit", ".")

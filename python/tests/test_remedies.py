@@ -23,7 +23,7 @@ SUSPECT = (
     (f"{EXAMPLES}/m3.plan", "l0"),
     (f"{TESTS}/plans/reasons.rrp", "tie"),
     (f"{TESTS}/plans/far.rrp", "all"),
-    (f"{STORED_PLANS}/ring-of-four.plan", "l0"),
+    (f"{STORED_PLANS}/cycle-of-four.plan", "l0"),
     (f"{STORED_PLANS}/role-3.plan", "l4"),
 )
 
