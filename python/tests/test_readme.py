@@ -107,10 +107,14 @@ class Commands(unittest.TestCase):
         shutil.copytree(EXAMPLES, "examples")
 
     def output(self, command: str) -> str:
-        """What a command writes on standard output."""
+        """What a command writes on standard output, with what it writes on standard error before
+        it if the command ends in ` 2>&1`."""
         if not command.startswith(COMMAND):
             ran = subprocess.run(command, shell=True, check=True, capture_output=True, text=True)
             return ran.stdout
+        if command.endswith(" 2>&1"):
+            answer = rrp(*shlex.split(command[: -len(" 2>&1")])[1:])
+            return answer.errors + answer.output
         words, _, file = command.partition(" >")
         output = rrp(*shlex.split(words)[1:]).output
         if not file:
@@ -190,7 +194,8 @@ class Names(unittest.TestCase):
             self.assertRegex(text, rf"(?m)^\s*pub {re.escape(theorem)} :", file)
 
     def test_columns(self) -> None:
-        for name in prose():
+        rows_of_any_length = "docs/trace/"
+        for name in (each for each in pages() if not each.startswith(rows_of_any_length)):
             for number, line in enumerate(page(name).splitlines(), 1):
                 self.assertLessEqual(len(line), 120, f"{name}:{number}")
 
