@@ -20,6 +20,8 @@ import tempfile
 import unittest
 from typing import NamedTuple
 
+from rrp.command import COMMANDS
+
 from .support import EXAMPLES, ROOT, read, rrp
 
 COMMAND = "target/bin/rrp"
@@ -192,6 +194,23 @@ class Names(unittest.TestCase):
         for theorem, file in theorems:
             text = read(f"{ROOT}/crates/{file}.antt")
             self.assertRegex(text, rf"(?m)^\s*pub {re.escape(theorem)} :", file)
+
+    def test_modules(self) -> None:
+        table = page("docs/ARCHITECTURE.md").split("| module of python/rrp |")[1].split("\n\n")[0]
+        cells = [row.split("|")[1] for row in table.splitlines()[2:]]
+        named = [name for cell in cells for name in re.findall("`(.+?)`", cell)]
+        package = f"{ROOT}/python/rrp"
+        found = glob.glob(f"{package}/*.py") + glob.glob(f"{package}/text/*.py")
+        modules = [os.path.relpath(path, package)[: -len(".py")] for path in found]
+        due = [name for name in modules if not name.endswith("__")]
+        self.assertEqual(sorted(named), sorted([*due, "commands/"]))
+
+    def test_every_command_is_told(self) -> None:
+        questions, _, rest = page("docs/TOOL.md").partition("\n## ")
+        statuses = re.search(r"Exit status\n(.*?)\n## ", rest, re.S)[1]
+        for command in COMMANDS:
+            self.assertIn(f"`rrp {command} ", questions)
+            self.assertRegex(statuses, rf"(?m)^\|[^|]*`{command}`")
 
     def test_columns(self) -> None:
         rows_of_any_length = "docs/trace/"
