@@ -1,13 +1,14 @@
 #!/usr/bin/env bash
 # Builds the planner's tool and tests it: its unit tests, among them all stored outputs and fuzzed inputs; plans of the
-# second checker to text and back, and their verdicts by name; the command as ./build leaves it, and as pip installs it.
-# usage: tests/run-tool.sh [SEED]        (needs rt, gcc, cargo, and python3 with pip)
+# second checker to text and back, and their verdicts by name; the command as ./build leaves it, and as pip installs it,
+# as a copy and in place.
+# usage: tests/run-tool.sh [SEED]        (needs rt, gcc, cargo, and python3 with pip and venv)
 set -uo pipefail
 cd "$(dirname "$0")/.."
 seed=${1:-4456}
 plans=300
 # So many unit tests there were when this was last set; fewer are a sign that some are not found.
-fewest=128
+fewest=204
 out=target/tool
 part=tool
 . tests/try.sh
@@ -58,6 +59,18 @@ pip_installs() {
     [ $? -eq 1 ] && [ -f "$out/installed/rrp/librrp.so" ]
 }
 
+# Installed by pip install -e, without a network, the command is that of the repository.
+pip_installs_editable() {
+    local root=$PWD venv=$out/venv
+    rm -rf "$venv"
+    python3 -m venv "$venv" || return 1
+    env -u PYTHONPATH "$venv/bin/python" -m pip install --quiet --no-index -e ./python || return 1
+    (cd / && env -u PYTHONPATH -u RRP_LIBRARY "$root/$venv/bin/rrp" check "$root/examples/m3.plan" >/dev/null)
+    [ $? -eq 1 ] || return 1
+    local place='import rrp; print(rrp.__path__[0])'
+    [ "$(cd / && env -u PYTHONPATH "$root/$venv/bin/python" -c "$place")" = "$root/python/rrp" ]
+}
+
 mkdir -p "$out"
 try "the build" ./build
 try "the sources compile" python3 -m compileall -q python/rrp python/tests
@@ -65,5 +78,6 @@ try "the unit tests" unit_tests "$fewest"
 try "random plans to text and back" random_plans
 try "the command" command_runs
 try "the command as pip installs it" pip_installs
+try "the command as pip install -e installs it" pip_installs_editable
 
 total
