@@ -4,6 +4,7 @@ pub mod Below
 pub mod Best
 pub mod Seek
 pub mod Tab
+pub mod Elimination
 pub mod Joined
 pub mod BitLaws
 pub mod SetBits

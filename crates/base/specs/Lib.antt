@@ -2,6 +2,7 @@ pub mod Below
 pub mod Best
 pub mod Seek
 pub mod Tab
+pub mod Elimination
 pub mod Bytes
 pub mod Bits
 pub mod Lent

@@ -12,7 +12,8 @@ use Rattle.base.specs.Seek.{flag, seek, highest}
 use Rattle.base.proofs.Seek.{Found, seek-found, found-is, seek-cong, highest-over, highest-under}
 use Rattle.base.specs.Tab.{tab}
 use Rattle.base.proofs.Tab.{length-tab, tab-cong}
-use Rattle.graph_groups.specs.Closure.{Relation, closure, Agree}
+use Rattle.base.specs.Elimination.{Agree}
+use Rattle.graph_groups.specs.Closure.{Relation, closure}
 use Rattle.graph_groups.proofs.Sharing.{closure-returns}
 use Rattle.graph_cycle.specs.Cycle.{next, walk, trail, sameRouter, metAgainAt, metFirstAt, repeatedPart, cycleIn, cycle, CycleAsked}
 use Rattle.graph_cycle.specs.Follow.{Stays, FollowAsked, Followed}

@@ -10,7 +10,8 @@ use Rattle.base.specs.Seek.{flag, seek, highest, count}
 use Rattle.base.proofs.Tab.{length-tab, getD-tab}
 use Rattle.base.proofs.Seek.{flag-one, flag-same, Found, seek-found, seek-below, seek-cong, Top, highest-top, highest-over, highest-suc, count-less, count-le}
 use Rattle.base.proofs.Numbers.{eq-or-ne, lt-or-le, not-both}
-use Rattle.graph_groups.specs.Closure.{Relation, closure, Chain, step, more, Agree}
+use Rattle.base.specs.Elimination.{Agree}
+use Rattle.graph_groups.specs.Closure.{Relation, closure, Chain, step, more}
 use Rattle.graph_groups.specs.Groups.{together, stable, grouped}
 use Rattle.graph_cycle.specs.Cycle.{start, next, walk, trail, sameRouter, metAgainAt, metFirstAt, repeatedPart, cycleIn, cycle, IsCycle}
 use Rattle.graph_groups.proofs.Reaching.{closure-is, closure-related, closure-trans, closure-cong}

@@ -7,7 +7,8 @@ use lib.Dec.{eqb}
 use lib.ListN.{length, getD}
 use Rattle.base.specs.Tab.{tab}
 use Rattle.base.specs.Seek.{flag, seek, highest}
-use Rattle.graph_groups.specs.Closure.{Relation, closing, cell, closure, Within, Agree}
+use Rattle.base.specs.Elimination.{cell, Agree}
+use Rattle.graph_groups.specs.Closure.{Relation, closing, closure, Within}
 use Rattle.graph_groups.specs.Groups.{together, grouped, stable}
 
 -- "the ring is found from the lowest router in a group of two or more"
@@ -48,7 +49,7 @@ unfoldable pub cycleIn : Relation → Relation → ℕ → List ℕ
 cycleIn R C n = repeatedPart (trail R C n) n
 
 unfoldable pub cycle : Relation → ℕ → List ℕ
-cycle R n = let t : List (List ℕ) = closing R n n in cycleIn R (cell t) n
+cycle R n = let t : List (List ℕ) = closing R n n in cycleIn R (cell 0 t) n
 
 -- what the cycle l shows
 pub record IsCycle (R C : Relation) (n : ℕ) (l : List ℕ) : Type 0 where

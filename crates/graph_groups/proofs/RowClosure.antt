@@ -12,13 +12,14 @@ use lib.Seq.{getD-set-same, getD-set-other}
 use Rattle.base.specs.Bits.{bitN, bits}
 use Rattle.base.proofs.BitLaws.{bit-or, bit-in}
 use Rattle.base.proofs.Numbers.{eq-or-ne, lt-or-le}
-use Rattle.graph_groups.specs.Closure.{Relation, Agree, through, cell, closing, closure}
-use Rattle.graph_groups.proofs.Reaching.{stage-none, stage-more}
+use Rattle.base.specs.Elimination.{through, cell, Agree}
+use Rattle.base.proofs.Elimination.{stage-none, stage-more}
+use Rattle.graph_groups.specs.Closure.{Relation, reaches, closing, closure}
 
 -- the rows below i have what they reach through k, and the others are as they were
 pub record Passed (n k : ℕ) (rows₀ rows : List ℕ) (i : ℕ) : Type 0 where
   pub upto : i ≤ n
-  pub done : (d : ℕ) → d < i → (j : ℕ) → bits rows d j ≡ through (bits rows₀) k d j
+  pub done : (d : ℕ) → d < i → (j : ℕ) → bits rows d j ≡ through reaches (bits rows₀) k d j
   pub left : (d : ℕ) → i ≤ d → getD rows d 0 ≡ getD rows₀ d 0
 
 -- a row with bit k, and one without
@@ -61,21 +62,23 @@ module _ (n k : ℕ) (rows₀ : List ℕ) where
           left = λ d o. getD-set-other rows i d x 0 (λ e. omega arith) ∙ w .left d (omega arith);
         }
 
-  pub passed-done : (rows : List ℕ) (i : ℕ) → n ≤ i → Passed n k rows₀ rows i → Agree (bits rows) (through (bits rows₀) k) n
+  pub passed-done : (rows : List ℕ) (i : ℕ) → n ≤ i → Passed n k rows₀ rows i → Agree (bits rows) (through reaches (bits rows₀) k) n
   passed-done rows i l w d j o m = w .done d (omega arith) j
 
 -- the closure, one router more a turn
 module _ (R : Relation) (n : ℕ) where
-  pub closing-start : Agree R (cell (closing R n 0)) n
-  closing-start i j l m = sym (stage-none R n i j l m)
+  pub closing-start : Agree R (cell 0 (closing R n 0)) n
+  unfolding closing
+  closing-start i j l m = sym (stage-none reaches R n i j l m)
 
-  pub closing-more : (C D : Relation) (k : ℕ) → k < n → Agree C (cell (closing R n k)) n → Agree D (through C k) n
-      → Agree D (cell (closing R n (k + 1))) n
+  pub closing-more : (C D : Relation) (k : ℕ) → k < n → Agree C (cell 0 (closing R n k)) n → Agree D (through reaches C k) n
+      → Agree D (cell 0 (closing R n (k + 1))) n
+  unfolding closing
   closing-more C D k o g h i j l m =
       h i j l m
       ∙ ap₂ max (g i j l m) (ap₂ min (g i k l o) (g k j o m))
-      ∙ sym (stage-more R n k i j l m)
-      ∙ ap (λ x. cell (closing R n x) i j) (sym (add-one k))
+      ∙ sym (stage-more reaches R n k i j l m)
+      ∙ ap (λ x. cell 0 (closing R n x) i j) (sym (add-one k))
 
-  pub closing-done : (C : Relation) (k : ℕ) → k ≤ n → n ≤ k → Agree C (cell (closing R n k)) n → Agree C (closure R n) n
+  pub closing-done : (C : Relation) (k : ℕ) → k ≤ n → n ≤ k → Agree C (cell 0 (closing R n k)) n → Agree C (closure R n) n
   closing-done C k u l g = let e : k ≡ n = omega arith in rw e at g

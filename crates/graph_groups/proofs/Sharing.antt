@@ -13,7 +13,8 @@ use Rattle.base.proofs.Tab.{tab-cong}
 use Rattle.base.proofs.Below.{all-at, all-intro, all-cong}
 use Rattle.base.proofs.Seek.{flag-same, flag-one, seek-found, seek-cong, scan-miss, Top, highest-top, highest-over, highest-cong}
 use Rattle.base.proofs.Numbers.{lt-or-le}
-use Rattle.graph_groups.specs.Closure.{Relation, closure, Chain, step, more, Agree, Returns, AllReturn, Irreflexive, Acyclic}
+use Rattle.base.specs.Elimination.{Agree}
+use Rattle.graph_groups.specs.Closure.{Relation, closure, Chain, step, more, Returns, AllReturn, Irreflexive, Acyclic}
 use Rattle.graph_groups.specs.Groups.{together, label, stable, grouped}
 use Rattle.graph_groups.proofs.Reaching.{closure-is, closure-related, closure-trans}
 

@@ -1,41 +1,28 @@
 -- Relations between routers, and their closure. R w v is 0 if w is not related to v; any other number says that it is.
-use Prim.Native.Nat.{ℕ, zero, suc, _≤_, _<_, min, max}
+use Prim.Native.Nat.{ℕ, _≤_, _<_, min, max}
 use mathlib.Core.Path.{_≡_}
-use mathlib.Core.List.{List, []}
-use lib.ListN.{getD}
-use Rattle.base.specs.Tab.{tab}
+use mathlib.Core.List.{List}
+use Rattle.base.specs.Elimination.{PathAlgebra, cell, eliminated}
 
 abbrev pub Relation : Type 0
 Relation = ℕ → ℕ → ℕ
 
--- the relation's values below n, a row a router; and the relation that such a table states
-abbrev pub table : Relation → ℕ → List (List ℕ)
-table R n = tab (λ i. tab (R i) n) n
-
-abbrev pub cell : List (List ℕ) → Relation
-cell t i j = getD (getD t i []) j 0
-
--- i reaches j by C, or reaches k and from there j
-abbrev pub through : Relation → ℕ → Relation
-through C k i j = max (C i j) (min (C i k) (C k j))
+-- reaching by no chain, by one chain or another, and by one chain and another onward
+abbrev pub reaches : PathAlgebra ℕ
+reaches = record { none = 0; either = max; onward = min }
 
 -- who reaches whom by chains whose inner routers are below k, as a table
 unfoldable pub closing : Relation → ℕ → ℕ → List (List ℕ)
-closing R n zero = table R n
-closing R n (suc k) = table (through (cell (closing R n k)) k) n
+closing R n k = eliminated reaches R n k
 
 -- "reaches .. by reliances": who reaches whom below n
 abbrev pub closure : Relation → ℕ → Relation
-closure R n = cell (closing R n n)
+closure R n = cell 0 (closing R n n)
 
 -- the plain meaning of it: a chain of one or more related steps whose inner routers are below n
 pub data Chain (R : Relation) (n : ℕ) : ℕ → ℕ → Type 0 where
   step : {i j : ℕ} → 1 ≤ R i j → Chain R n i j
   more : {i k j : ℕ} → k < n → 1 ≤ R i k → Chain R n k j → Chain R n i j
-
--- two relations agree below n
-abbrev pub Agree : Relation → Relation → ℕ → Type 0
-Agree R S n = (i j : ℕ) → i < n → j < n → R i j ≡ S i j
 
 -- no router below n is related to one from n on
 abbrev pub Within : Relation → ℕ → Type 0

@@ -5,7 +5,8 @@ use mathlib.Core.Path.{_≡_}
 use mathlib.Core.Bool.{true, false}
 use mathlib.Core.List.{List, [], _∷_}
 use Rattle.base.specs.Tab.{tab}
-use Rattle.graph_groups.specs.Closure.{Relation, table, cell, closure}
+use Rattle.base.specs.Elimination.{table, cell}
+use Rattle.graph_groups.specs.Closure.{Relation, closure}
 use Rattle.graph_groups.specs.Groups.{together, label, stable, grouped}
 
 -- 0 relies on 3, 3 on 1, 1 on 0; 2 relies on 0, and none relies on 2
@@ -23,10 +24,10 @@ chained = (0 ∷ 0 ∷ 0 ∷ []) ∷ (1 ∷ 0 ∷ 0 ∷ []) ∷ (0 ∷ 1 ∷ 0 �
 
 -- who reaches whom
 abbrev pub inLoop : Relation
-inLoop = closure (cell looped) 4
+inLoop = closure (cell 0 looped) 4
 
 abbrev pub inChain : Relation
-inChain = closure (cell chained) 3
+inChain = closure (cell 0 chained) 3
 
 pub record GroupExamples : Type 0 where
   -- "reaches .. by reliances": by one or more, through any router. Misread without the last router: 0 from 0 to 1. With

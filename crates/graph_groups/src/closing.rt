@@ -4,7 +4,8 @@ use base::bits::bit;
 ghost use mathlib.Core.Path.{_≡_};
 ghost use Prim.Native.Nat.{ℕ, _≤_, _<_, min, max};
 ghost use Rattle.base.specs.Bits.{bitN, bits};
-ghost use Rattle.graph_groups.specs.Closure.{Agree, through, closure};
+ghost use Rattle.base.specs.Elimination.{through, Agree};
+ghost use Rattle.graph_groups.specs.Closure.{reaches, closure};
 
 // A row with what lies beyond router k, if it has k.
 fn joined(own: u64, beyond: u64, k: usize) -> u64
@@ -20,7 +21,7 @@ fn joined(own: u64, beyond: u64, k: usize) -> u64
 // Adds who reaches whom through router k.
 fn pass_through(rows: &mut [u64; 64], n: usize, k: usize)
     requires { ⌜ (n ≤ 64) × (k < n) ⌝ }
-    ensures { λ _. ⌜ Agree (bits (now (rows .exit))) (through (bits (now (rows .entry))) k) n ⌝ }
+    ensures { λ _. ⌜ Agree (bits (now (rows .exit))) (through reaches (bits (now (rows .entry))) k) n ⌝ }
 {
     let beyond = rows[k];
     let mut i = 0;

@@ -6,7 +6,8 @@ use Rattle.base.specs.Tab.{tab}
 use Rattle.base.specs.Seek.{highest}
 use Rattle.base.proofs.Tab.{getD-tab, tab-cong}
 use Rattle.base.proofs.Seek.{highest-cong, highest-over, highest-under, Top, highest-top, count-less, count-few}
-use Rattle.graph_groups.specs.Closure.{Relation, closure, Agree, Acyclic}
+use Rattle.base.specs.Elimination.{Agree}
+use Rattle.graph_groups.specs.Closure.{Relation, closure, Acyclic}
 use Rattle.graph_ranks.specs.Rank.{rankAbove, rankOver, entry, ranksByChains, rank, OneMore, RankMeans, highestRank}
 use Rattle.graph_ranks.specs.Search.{reached}
 use Rattle.graph_groups.proofs.Reaching.{closure-related, closure-trans}

@@ -4,7 +4,7 @@ use Prim.Native.Nat.{ℕ}
 use mathlib.Core.Path.{_≡_}
 use mathlib.Core.List.{List, [], _∷_}
 use Rattle.base.specs.Tab.{tab}
-use Rattle.graph_groups.specs.Closure.{cell}
+use Rattle.base.specs.Elimination.{cell}
 use Rattle.graph_ranks.specs.Rank.{rank, highestRank}
 
 -- 0 relies on 1, 2 and 3, 2 on 4, 4 on 1, 1 on 3
@@ -30,6 +30,6 @@ pub record RankExamples : Type 0 where
   -- "A router's rank is 0 if it relies on none, else one more than the highest rank it relies on." Router 0 relies on
   -- ranks 1, 3 and 0. Misread as one more than the first: 2. Than the lowest, or the last: 1. As the number of routers
   -- relied on: 3. As the highest rank relied on: 0. As 1 where none is relied on: 5.
-  pub ranks : tab (rank (cell deep) 5) 5 ≡ 4 ∷ 1 ∷ 3 ∷ 0 ∷ 2 ∷ []
+  pub ranks : tab (rank (cell 0 deep) 5) 5 ≡ 4 ∷ 1 ∷ 3 ∷ 0 ∷ 2 ∷ []
   -- the highest of all ranks, which are 0 2 1 0. Misread as that of router 0, or of the last: 0.
-  pub highestOfAll : highestRank (cell flat) 4 ≡ 2
+  pub highestOfAll : highestRank (cell 0 flat) 4 ≡ 2

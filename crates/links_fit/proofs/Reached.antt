@@ -16,7 +16,7 @@ use Rattle.base.proofs.Numbers.{not-both, lt-or-le}
 use Rattle.base.proofs.Tab.{getD-written}
 use Rattle.links_rules.specs.Sheet.{linkCount, linkFrom, linkTo}
 use Rattle.links_rules.specs.Walks.{Walk, stay, along, sum, LeastIs}
-use Rattle.links_rules.specs.Sums.{cell, leastSums}
+use Rattle.links_rules.specs.Sums.{leastSums}
 use Rattle.links_rules.specs.Distances.{fits, sumsOk}
 use Rattle.links_words.specs.Lowered.{wordAt}
 use Rattle.links_sums.specs.Words.{word, HoldsSums}
@@ -41,10 +41,10 @@ same-test true b g h = sym (g refl)
 same-test false true g h = h refl
 same-test false false g h = refl
 
-module _ (s : List ℕ) (n : ℕ) (small : n ≤ 64) (sheet : Sheet s n) (t : List ℕ) (h : HoldsSums (cell (leastSums s n)) n t)
+module _ (s : List ℕ) (n : ℕ) (small : n ≤ 64) (sheet : Sheet s n) (t : List ℕ) (h : HoldsSums (leastSums s n) n t)
     (words z : List ℕ) (is : words ≡ tab (nearTo t n) n ++ drop n z) where
   abbrev computed : ℕ → ℕ → Option ℕ
-  computed = cell (leastSums s n)
+  computed = leastSums s n
 
   least : (u e : ℕ) → u < n → e < n → LeastIs s u e (computed u e)
   least = computed-least s n sheet

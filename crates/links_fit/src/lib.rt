@@ -10,7 +10,7 @@ ghost use Prim.Native.Nat.{ℕ, _*_, _≤_, _<_};
 ghost use lib.ListN.{length, drop};
 ghost use Rattle.base.specs.Tab.{tab};
 ghost use Rattle.links_rules.specs.Sheet.{linkCount, linkFrom, linkTo, sheetOk};
-ghost use Rattle.links_rules.specs.Sums.{cell, leastSums};
+ghost use Rattle.links_rules.specs.Sums.{leastSums};
 ghost use Rattle.links_rules.specs.Distances.{sumsOk};
 ghost use Rattle.links_sums.specs.Words.{HoldsSums};
 ghost use Rattle.links_fit.specs.Near.{rowFits, wordsFit, nearTo, within, linksWithin};
@@ -101,8 +101,8 @@ fn links_within(links: &[u8], near: &[u64; 64]) -> bool
 // Whether every least sum is at most 65,534. A walk between two routers with a word of 65,535 goes along some link that starts at a
 // word of at most 65,534, counted from where the walk starts, and ends at one of 65,535.
 pub fn sums_fit(links: &[u8], n: usize, words: &[u16]) -> bool
-    requires { ⌜ (n ≤ 64) × (sheetOk (now links) n ≡ true) × HoldsSums (cell (leastSums (now links) n)) n (now words) ⌝ }
-    ensures { λ r. ⌜ r ≡ sumsOk (cell (leastSums (now (links .entry)) n)) n ⌝ }
+    requires { ⌜ (n ≤ 64) × (sheetOk (now links) n ≡ true) × HoldsSums (leastSums (now links) n) n (now words) ⌝ }
+    ensures { λ r. ⌜ r ≡ sumsOk (leastSums (now (links .entry)) n) n ⌝ }
 {
     if words_fit(words, n) {
         return true;

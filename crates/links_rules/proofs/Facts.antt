@@ -1,21 +1,21 @@
 -- Each check of a link sheet passes exactly if its plain facts hold: `..-facts` one way, `..-holds` the other.
-use Prim.Native.Nat.{ℕ, zero, suc, _+_, _*_, _%_, _≤_, _<_}
+use Prim.Native.Nat.{ℕ, _+_, _*_, _%_, _≤_, _<_}
 use native.Mathlib.Omega.{arith}
-use mathlib.Core.Path.{_≡_, refl, _∙_, sym, ap}
-use mathlib.Core.Bool.{Bool, true, false, _&&_, and-true}
+use mathlib.Core.Path.{_≡_, refl}
+use mathlib.Core.Bool.{true, false}
 use mathlib.Core.List.{List}
 use mathlib.Core.Logic.{_↔_}
 use mathlib.Core.Option.{Option, none, some}
-use borrow.Author.Tests.{le-leb, leb-true, leb-false}
+use borrow.Author.Tests.{le-leb, leb-true, leb-false, not-true}
 use lib.ListN.{length, getD}
 use Rattle.base.specs.Below.{allBelow}
-use Rattle.base.proofs.Below.{all-at, all-intro, all-none, all-suc}
+use Rattle.base.proofs.Below.{all-at, all-intro, all-broken}
 use Rattle.base.proofs.Numbers.{facts, not-both}
 use Rattle.plan_rules.specs.Rising.{risesAt}
 use Rattle.plan_rules.proofs.Rising.{pairs-rise, pairs-step}
 use Rattle.links_rules.specs.Sheet.{linksMost, linkCount, linkFrom, linkTo, linkWeight, linkBefore, linkOk, sheetOk}
 use Rattle.links_rules.specs.Walks.{Walk, Least, LeastIs}
-use Rattle.links_rules.specs.Sums.{cell, leastSums}
+use Rattle.links_rules.specs.Sums.{leastSums}
 use Rattle.links_rules.specs.Distances.{fits, sumsOk}
 use Rattle.links_rules.specs.SheetFacts.{Sheet, Near, AllNear, Above, SomeFar}
 use Rattle.links_rules.proofs.LeastSums.{least-sums}
@@ -59,22 +59,6 @@ module _ (s : List ℕ) (n : ℕ) where
 pub weight-most : (s : List ℕ) → ((p : ℕ) → getD s p 0 < 256) → (k : ℕ) → linkWeight s k ≤ 65535
 weight-most s bytes k = omega (arith, bytes (4 * k + 2), bytes (4 * k + 2 + 1))
 
--- a number at which a failing test of all numbers fails
-record Failing (p : ℕ → Bool) (n : ℕ) : Type 0 where
-  at : ℕ
-  below : at < n
-  fails : p at ≡ false
-
-all-failing : (p : ℕ → Bool) (n : ℕ) → allBelow p n ≡ false → Failing p n
-all-failing p zero h = not-both (allBelow p 0) (all-none p) h
-all-failing p (suc n) h = go (p n) refl (all-failing p n)
-  where
-    go : (b : Bool) → p n ≡ b → (allBelow p n ≡ false → Failing p n) → Failing p (suc n)
-    go true e earlier =
-        let w = earlier (sym (and-true (allBelow p n)) ∙ ap (_&&_ (allBelow p n)) (sym e) ∙ sym (all-suc p n) ∙ h) in
-        record { at = w .at; below = omega (arith, w .below); fails = w .fails }
-    go false e earlier = record { at = n; below = omega arith; fails = e }
-
 -- 12
 pub least-unique : (s : List ℕ) (i j d e : ℕ) → Least s i j d → Least s i j e → d ≡ e
 least-unique s i j d e p q = omega (arith, p .has, q .has, p .least (q .walk), q .least (p .walk))
@@ -85,7 +69,7 @@ near-most s u e d l h = let p = h (l .walk) in omega (arith, least-unique s u e 
 
 module _ (s : List ℕ) (n : ℕ) (f : Sheet s n) where
   abbrev computed : ℕ → ℕ → Option ℕ
-  computed = cell (leastSums s n)
+  computed = leastSums s n
 
   pub computed-least : (u e : ℕ) → u < n → e < n → LeastIs s u e (computed u e)
   computed-least = least-sums s n (f .froms) (f .tos)
@@ -120,14 +104,14 @@ module _ (s : List ℕ) (n : ℕ) (f : Sheet s n) where
   pub sums-far : sumsOk computed n ≡ false → SomeFar s n
   unfolding sumsOk
   sums-far h =
-      let row = all-failing _ n h in
-      let pair = all-failing _ n (row .fails) in
+      let row = all-broken _ n h in
+      let pair = all-broken _ n (not-true _ (row .holds)) in
       record {
         from = row .at;
         to = pair .at;
         fromBelow = row .below;
         toBelow = pair .below;
-        far = far _ _ _ (computed-least (row .at) (pair .at) (row .below) (pair .below)) (pair .fails);
+        far = far _ _ _ (computed-least (row .at) (pair .at) (row .below) (pair .below)) (not-true _ (pair .holds));
       }
 
   pub far-not-near : SomeFar s n → AllNear s n → ⊥

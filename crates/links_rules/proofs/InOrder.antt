@@ -14,7 +14,7 @@ use Rattle.plan_contents.specs.HeaderFacts.{RouterCount}
 use Rattle.plan_contents.proofs.Facts.{count-facts, count-holds}
 use Rattle.plan_rules.proofs.Table.{firstFailing, among, distinct, Decide, AllOf, FirstFails, first-fails, all-held, none-given, held-none, held-too}
 use Rattle.links_rules.specs.Sheet.{sheetOk}
-use Rattle.links_rules.specs.Sums.{cell, leastSums}
+use Rattle.links_rules.specs.Sums.{leastSums}
 use Rattle.links_rules.specs.Distances.{sumsOk, distancesRefusal}
 use Rattle.links_rules.specs.SheetFacts.{Sheet, AllNear, SomeFar, FirstDecides}
 use Rattle.links_rules.proofs.Facts.{sheet-facts, sheet-holds, sums-facts, sums-holds, sums-far, far-not-near}
@@ -24,7 +24,7 @@ module _ (n : ℕ) (s : List ℕ) (room : ℕ) where
   numbers = 2 ∷ 11 ∷ 12 ∷ 9 ∷ []
 
   abbrev checks : List Bool
-  checks = routerCountOk n ∷ sheetOk s n ∷ sumsOk (cell (leastSums s n)) n ∷ leb (2 * (n * n)) room ∷ []
+  checks = routerCountOk n ∷ sheetOk s n ∷ sumsOk (leastSums s n) n ∷ leb (2 * (n * n)) room ∷ []
 
   -- the facts of the checks, and of those after the first, the second and the third
   abbrev facts₃ : List (Type 0)
@@ -65,7 +65,7 @@ module _ (n : ℕ) (s : List ℕ) (room : ℕ) where
 
   -- some pair is far where not all are near
   some-far : Sheet s n → (AllNear s n → ⊥) → SomeFar s n
-  some-far f h = ⊎-elim (λ t. absurd (h (sums-facts s n f t))) (sums-far s n f) (true-or-false (sumsOk (cell (leastSums s n)) n))
+  some-far f h = ⊎-elim (λ t. absurd (h (sums-facts s n f t))) (sums-far s n f) (true-or-false (sumsOk (leastSums s n) n))
 
   no-room : (2 * (n * n) ≤ room → ⊥) → room < 2 * (n * n)
   no-room h = ⊎-elim (λ l. l) (λ l. absurd (h l)) (lt-or-le room (2 * (n * n)))

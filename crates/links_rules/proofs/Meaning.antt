@@ -14,7 +14,7 @@ use Rattle.base.proofs.Numbers.{not-both}
 use Rattle.plan_rules.specs.Distances.{distanceIn}
 use Rattle.plan_rules.proofs.Facts.{distances-holds}
 use Rattle.links_rules.specs.Walks.{Walk, stay, sum, Least, LeastIs}
-use Rattle.links_rules.specs.Sums.{cell, leastSums}
+use Rattle.links_rules.specs.Sums.{leastSums}
 use Rattle.links_rules.specs.Distances.{distanceOf, sheetBody, distancesRefusal, distancesAfter, DistancesCall}
 use Rattle.links_rules.specs.SheetFacts.{Sheet, Near, AllNear, LeastBody, CallMeans}
 use Rattle.links_rules.proofs.Facts.{near-most, computed-least}
@@ -63,8 +63,8 @@ module _ (s : List ℕ) (n : ℕ) where
     entry-is : (u e : ℕ) → u < n → e < n → Entry s u e (distanceIn (sheetBody s n) n u e)
     unfolding sheetBody
     entry-is u e l m =
-        let entry = entry-least u e (cell (leastSums s n) u e) (computed-least s n sheet u e l m) (all u e l m) in
-        rw (distance-read (λ u e. distanceOf (cell (leastSums s n) u e)) n u e l m (entry-small s u e _ entry)) entry
+        let entry = entry-least u e (leastSums s n u e) (computed-least s n sheet u e l m) (all u e l m) in
+        rw (distance-read (λ u e. distanceOf (leastSums s n u e)) n u e l m (entry-small s u e _ entry)) entry
 
     pub least-body : LeastBody s n (sheetBody s n)
     least-body =

@@ -8,7 +8,7 @@ use lib.ListN.{length, drop}
 use Rattle.plan_contents.specs.Header.{routerCountOk}
 use Rattle.plan_rules.specs.Refusal.{refuse}
 use Rattle.links_rules.specs.Sheet.{sheetOk}
-use Rattle.links_rules.specs.Sums.{cell, leastSums}
+use Rattle.links_rules.specs.Sums.{leastSums}
 use Rattle.links_rules.specs.Distances.{sumsOk, bodyOf, distanceOf, distancesRefusal, sheetBody, distancesAfter, DistancesCall}
 
 module _ (n : ℕ) (s out : List ℕ) where
@@ -33,18 +33,18 @@ module _ (n : ℕ) (s out : List ℕ) where
     sheet-refused f = refused 10 (rw (c, f))
 
     module _ (f : sheetOk s n ≡ true) where
-      pub sums-refused : sumsOk (cell (leastSums s n)) n ≡ false → DistancesCall n s 12 out out
+      pub sums-refused : sumsOk (leastSums s n) n ≡ false → DistancesCall n s 12 out out
       unfolding distancesRefusal refuse
       sums-refused w = refused 11 (rw (c, f, w))
 
-      module _ (w : sumsOk (cell (leastSums s n)) n ≡ true) where
+      module _ (w : sumsOk (leastSums s n) n ≡ true) where
         pub room-refused : leb (2 * (n * n)) (length out) ≡ false → DistancesCall n s 9 out out
         unfolding distancesRefusal refuse
         room-refused r = refused 8 (rw (c, f, w, r))
 
         pub call-made :
             (body after : List ℕ) → leb (2 * (n * n)) (length out) ≡ true → after ≡ body ++ drop (2 * (n * n)) out →
-            body ≡ bodyOf (λ u e. distanceOf (cell (leastSums s n) u e)) n →
+            body ≡ bodyOf (λ u e. distanceOf (leastSums s n u e)) n →
             DistancesCall n s 0 out after
         unfolding distancesRefusal refuse sheetBody
         call-made body after r e b =

@@ -12,7 +12,7 @@ use Rattle.plan_contents.specs.Header.{routerCountOk}
 use Rattle.plan_rules.specs.Refusal.{refuse}
 use Rattle.links_rules.specs.Sheet.{sheetOk}
 use Rattle.plan_rules.specs.Refused.{unlessRefused}
-use Rattle.links_rules.specs.Sums.{Sums, cell, leastSums}
+use Rattle.links_rules.specs.Sums.{Sums, leastSums}
 
 -- "Slip 1 writes 65,535 for a pair with no walk, so 12 is left for sums that are too large.": a least sum is too large "above 65,534"
 abbrev pub fits : Option ℕ → Bool
@@ -29,7 +29,7 @@ unfoldable pub distancesRefusal : ℕ → List ℕ → ℕ → ℕ
 distancesRefusal n s room =
     refuse (routerCountOk n) 2
     (refuse (sheetOk s n) 11
-    (refuse (sumsOk (cell (leastSums s n)) n) 12
+    (refuse (sumsOk (leastSums s n) n) 12
     (refuse (leb (2 * (n * n)) room) 9 0)))
 
 -- "It writes a kind 3 body": row by row, each distance in two bytes, low byte first
@@ -48,7 +48,7 @@ distanceOf none = 65535
 distanceOf (some d) = d
 
 unfoldable pub sheetBody : List ℕ → ℕ → List ℕ
-sheetBody s n = bodyOf (λ u e. distanceOf (cell (leastSums s n) u e)) n
+sheetBody s n = bodyOf (λ u e. distanceOf (leastSums s n u e)) n
 
 -- what the call leaves of the buffer: "later ones are untouched"
 unfoldable pub distancesAfter : ℕ → List ℕ → List ℕ → List ℕ

@@ -1,11 +1,10 @@
 -- The least sums as they are computed. The theorem `least-sums` says that they are the least sums over all walks.
 use Prim.Native.Nat.{ℕ, zero, suc, _+_, min}
 use mathlib.Core.Bool.{cond, _&&_}
-use mathlib.Core.List.{List, []}
+use mathlib.Core.List.{List}
 use mathlib.Core.Option.{Option, none, some}
 use lib.Dec.{eqb}
-use lib.ListN.{getD}
-use Rattle.base.specs.Tab.{tab}
+use Rattle.base.specs.Elimination.{PathAlgebra, cell, eliminated}
 use Rattle.links_rules.specs.Sheet.{linkCount, linkFrom, linkTo, linkWeight}
 
 -- a sum from each router to each; none where there is no walk
@@ -39,22 +38,14 @@ unfoldable pub direct : List ℕ → ℕ → Sums
 direct s zero = staying
 direct s (suc m) = linked (direct s m) (linkFrom s m) (linkTo s m) (linkWeight s m)
 
--- from i to j as in D, or to k and from there to j
-abbrev pub through : Sums → ℕ → Sums
-through D k i j = lesser (D i j) (plus (D i k) (D k j))
+-- the sum of no walk, the lesser of one walk's and another's, and the sum of one walk's and another's onward
+abbrev pub leastOf : PathAlgebra (Option ℕ)
+leastOf = record { none = none; either = lesser; onward = plus }
 
--- the sums below n as a table, a row a router; and the sums that such a table states
-abbrev pub table : Sums → ℕ → List (List (Option ℕ))
-table D n = tab (λ i. tab (D i) n) n
-
-abbrev pub cell : List (List (Option ℕ)) → Sums
-cell t i j = getD (getD t i []) j none
-
--- over the walks whose inner routers are below k
+-- over the walks whose inner routers are below k, as a table
 unfoldable pub summing : List ℕ → ℕ → ℕ → List (List (Option ℕ))
-summing s n zero = table (direct s (linkCount s)) n
-summing s n (suc k) = table (through (cell (summing s n k)) k) n
+summing s n k = eliminated leastOf (direct s (linkCount s)) n k
 
 -- over all walks
-abbrev pub leastSums : List ℕ → ℕ → List (List (Option ℕ))
-leastSums s n = summing s n n
+abbrev pub leastSums : List ℕ → ℕ → Sums
+leastSums s n = cell none (summing s n n)

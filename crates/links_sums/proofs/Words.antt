@@ -13,9 +13,10 @@ use lib.ListN.{set, replicate, length-set, length-replicate, getD-replicate}
 use lib.Seq.{getD-set-same, getD-set-other}
 use Rattle.base.proofs.Numbers.{both-left, both-right, eq-or-ne}
 use Rattle.links_rules.specs.Sheet.{linkCount, linkFrom, linkTo, linkWeight}
-use Rattle.links_rules.specs.Sums.{Sums, lesser, plus, nowhere, staying, linked, direct, through, cell, summing}
+use Rattle.base.specs.Elimination.{through, cell, Agree}
+use Rattle.base.proofs.Elimination.{stage-none, stage-more}
+use Rattle.links_rules.specs.Sums.{Sums, lesser, plus, nowhere, staying, linked, leastOf, direct, summing}
 use Rattle.links_rules.specs.SheetFacts.{Sheet}
-use Rattle.links_rules.proofs.LeastSums.{stage-none, stage-more}
 use Rattle.links_words.specs.Lowered.{capped, wordAt, RowsLowered}
 use Rattle.links_sums.specs.Words.{word, HoldsSums}
 
@@ -31,7 +32,7 @@ word-most none = omega arith
 word-most (some d) = omega arith
 
 -- sums that are the same below n
-holds-same : (D E : Sums) (n : ℕ) (t : List ℕ) → ((i j : ℕ) → i < n → j < n → D i j ≡ E i j) → HoldsSums D n t → HoldsSums E n t
+holds-same : (D E : Sums) (n : ℕ) (t : List ℕ) → Agree D E n → HoldsSums D n t → HoldsSums E n t
 holds-same D E n t e h = record { room = h .room; are = λ i j l o. h .are i j l o ∙ ap word (e i j l o) }
 
 -- one word lowered
@@ -139,7 +140,7 @@ word-lesser none y = omega (arith, word-most y)
 word-lesser (some a) none = omega arith
 word-lesser (some a) (some b) = omega arith
 
-holds-through : (D : Sums) (n k : ℕ) (t after : List ℕ) → k < n → HoldsSums D n t → RowsLowered n k t n after → HoldsSums (through D k) n after
+holds-through : (D : Sums) (n k : ℕ) (t after : List ℕ) → k < n → HoldsSums D n t → RowsLowered n k t n after → HoldsSums (through leastOf D k) n after
 holds-through D n k t after u h r = record {
   room = rw (r .long) (h .room);
   are =
@@ -151,13 +152,17 @@ holds-through D n k t after u h r = record {
 
 -- the stages, one router more a turn
 module _ (s : List ℕ) (n : ℕ) where
-  pub sums-start : (t : List ℕ) → HoldsSums (direct s (linkCount s)) n t → HoldsSums (cell (summing s n 0)) n t
-  sums-start t = holds-same (direct s (linkCount s)) (cell (summing s n 0)) n t (λ i j l o. sym (stage-none s n i j l o))
+  pub sums-start : (t : List ℕ) → HoldsSums (direct s (linkCount s)) n t → HoldsSums (cell none (summing s n 0)) n t
+  unfolding summing
+  sums-start t =
+      holds-same (direct s (linkCount s)) (cell none (summing s n 0)) n t (λ i j l o. sym (stage-none leastOf (direct s (linkCount s)) n i j l o))
 
   pub sums-more :
-      (t after : List ℕ) (k : ℕ) → k < n → HoldsSums (cell (summing s n k)) n t → RowsLowered n k t n after →
-      HoldsSums (cell (summing s n (k + 1))) n after
+      (t after : List ℕ) (k : ℕ) → k < n → HoldsSums (cell none (summing s n k)) n t → RowsLowered n k t n after →
+      HoldsSums (cell none (summing s n (k + 1))) n after
+  unfolding summing
   sums-more t after k u h r =
       rw add-one
-      (holds-same (through (cell (summing s n k)) k) (cell (summing s n (suc k))) n after (λ i j l o. sym (stage-more s n k i j l o))
-      (holds-through (cell (summing s n k)) n k t after u h r))
+      (holds-same (through leastOf (cell none (summing s n k)) k) (cell none (summing s n (suc k))) n after
+      (λ i j l o. sym (stage-more leastOf (direct s (linkCount s)) n k i j l o))
+      (holds-through (cell none (summing s n k)) n k t after u h r))

@@ -7,7 +7,7 @@ ghost use mathlib.Core.Path.{_≡_};
 ghost use mathlib.Core.Bool.{true};
 ghost use Prim.Native.Nat.{_≤_};
 ghost use Rattle.links_rules.specs.Sheet.{linkCount, sheetOk};
-ghost use Rattle.links_rules.specs.Sums.{nowhere, staying, direct, cell, leastSums};
+ghost use Rattle.links_rules.specs.Sums.{nowhere, staying, direct, leastSums};
 ghost use Rattle.links_sums.specs.Words.{HoldsSums};
 
 // The sum of the walk of no link, at each router.
@@ -41,7 +41,7 @@ fn add_links(links: &[u8], n: usize, words: &mut [u16])
 // The least sums over all walks.
 pub fn least_sums(links: &[u8], n: usize, words: &mut [u16])
     requires { ⌜ (n ≤ 64) × (sheetOk (now links) n ≡ true) × HoldsSums nowhere n (now words) ⌝ }
-    ensures { λ _. ⌜ HoldsSums (cell (leastSums (now (links .entry)) n)) n (now (words .exit)) ⌝ }
+    ensures { λ _. ⌜ HoldsSums (leastSums (now (links .entry)) n) n (now (words .exit)) ⌝ }
 {
     stay(words, n);
     add_links(links, n, words);

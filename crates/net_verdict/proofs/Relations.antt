@@ -13,7 +13,8 @@ use Rattle.base.specs.Tab.{tab}
 use Rattle.base.proofs.Numbers.{lt-or-le}
 use Rattle.base.proofs.Seek.{highest-cong, highest-over}
 use Rattle.base.proofs.Tab.{getD-written}
-use Rattle.graph_groups.specs.Closure.{closure, Within, Agree, Irreflexive, Acyclic}
+use Rattle.base.specs.Elimination.{Agree}
+use Rattle.graph_groups.specs.Closure.{closure, Within, Irreflexive, Acyclic}
 use Rattle.graph_groups.specs.Groups.{label, stable}
 use Rattle.graph_ranks.specs.Rank.{entry, rank, highestRank}
 use Rattle.graph_cycle.specs.Cycle.{cycle, CycleAsked}

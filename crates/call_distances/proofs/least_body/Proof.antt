@@ -6,7 +6,7 @@ use mathlib.Core.Bool.{true}
 use borrow.Author.Needs.{needs}
 use borrow.Author.Tests.{le-leb, lt-leb}
 use Rattle.base.proofs.Numbers.{yes, no, square-le}
-use Rattle.links_rules.specs.Sums.{cell, leastSums}
+use Rattle.links_rules.specs.Sums.{leastSums}
 use Rattle.links_rules.specs.Distances.{sumsOk}
 use Rattle.call_distances.proofs.Written.{words-body}
 use Rattle.links_rules.proofs.Returns.{sums-refused, room-refused, call-made}
@@ -24,7 +24,7 @@ square c = square-le (start (c .before) .args .n) 64 (start (c .before) .pre .0)
 
 -- where the sums fit
 sums-pass : (c : tie.Else1) →
-    let a = start (c .before) .args in sumsOk (cell (leastSums (a .links .now) (a .n))) (a .n) ≡ true
+    let a = start (c .before) .args in sumsOk (leastSums (a .links .now) (a .n)) (a .n) ≡ true
 sums-pass c = yes _ (c .before .sums-fit .ensures) (c .if1 .left)
 
 pub least-body-spec : {M : Type 1} → statement M

@@ -2,16 +2,18 @@
 use Prim.Native.Nat.{_-_, _≤_}
 use native.Mathlib.Omega.{arith}
 use mathlib.Core.Path.{_≡_, refl}
+use mathlib.Core.Option.{none}
 use borrow.Author.Needs.{needs}
 use lib.ListN.{length}
-use Rattle.links_rules.specs.Sums.{cell, summing}
+use Rattle.base.specs.Elimination.{cell}
+use Rattle.links_rules.specs.Sums.{summing}
 use Rattle.links_sums.specs.Words.{HoldsSums}
 use Rattle.links_sums.proofs.Words.{sums-start, sums-more}
 use Rattle.links_sums.proofs.least_sums.Statement.{statement}
 use Rattle.links_sums.proofs.least_sums.Tie as tie
 
 abbrev Inv-loop : tie.InvT-loop
-Inv-loop links n words₀ via₀ words via = HoldsSums (cell (summing links n via)) n words × (via ≤ n) × (length words ≡ length words₀)
+Inv-loop links n words₀ via₀ words via = HoldsSums (cell none (summing links n via)) n words × (via ≤ n) × (length words ≡ length words₀)
 
 abbrev μ-loop : tie.MeasureT-loop
 μ-loop links n words₀ via₀ words via = n - via

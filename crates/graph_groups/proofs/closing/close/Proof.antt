@@ -2,13 +2,14 @@
 use Prim.Native.Nat.{_-_, _≤_}
 use borrow.Author.Needs.{needs}
 use Rattle.base.specs.Bits.{bits}
-use Rattle.graph_groups.specs.Closure.{Agree, cell, closing}
+use Rattle.base.specs.Elimination.{cell, Agree}
+use Rattle.graph_groups.specs.Closure.{closing}
 use Rattle.graph_groups.proofs.RowClosure.{closing-start, closing-more, closing-done}
 use Rattle.graph_groups.proofs.closing.close.Statement.{statement}
 use Rattle.graph_groups.proofs.closing.close.Tie as tie
 
 abbrev Inv-loop : tie.InvT-loop
-Inv-loop rows₀ n k₀ rows k = (k ≤ n) × Agree (bits rows) (cell (closing (bits rows₀) n k)) n
+Inv-loop rows₀ n k₀ rows k = (k ≤ n) × Agree (bits rows) (cell 0 (closing (bits rows₀) n k)) n
 
 abbrev μ-loop : tie.MeasureT-loop
 μ-loop rows₀ n k₀ rows k = n - k
