@@ -8,6 +8,7 @@ pub mod Elimination
 pub mod Joined
 pub mod BitLaws
 pub mod SetBits
+pub mod Marked
 pub mod BitWalk
 pub mod BitSeek
 pub mod Differences

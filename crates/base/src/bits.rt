@@ -1,6 +1,7 @@
 // Single bits of a word.
 
 ghost use mathlib.Core.Path.{_≡_};
+ghost use mathlib.Core.Bool.{cond};
 ghost use Prim.Native.Nat.{ℕ, suc, _-_, _<_, _^_, min};
 ghost use lib.Bits.{bitOr};
 ghost use lib.Dec.{eqb};
@@ -29,6 +30,17 @@ pub fn with_bit(x: u64, j: usize) -> u64
     ensures { λ r. ⌜ r ≡ bitOr x (2 ^ j) ⌝ }
 {
     x | (1 << j)
+}
+
+// .. if that is asked for.
+pub fn with_bit_if(x: u64, j: usize, asked: bool) -> u64
+    requires { ⌜ j < 64 ⌝ }
+    ensures { λ r. ⌜ r ≡ cond asked (bitOr x (2 ^ j)) x ⌝ }
+{
+    if asked {
+        return with_bit(x, j);
+    }
+    x
 }
 
 // Sets bit j of row i.

@@ -12,6 +12,7 @@ use lib.ListN.{getD, drop}
 use Rattle.base.specs.Bits.{bitN}
 use Rattle.base.specs.Tab.{tab}
 use Rattle.base.proofs.Below.{all-at, all-intro}
+use Rattle.base.proofs.Marked.{marked-below, marked-past}
 use Rattle.base.proofs.Numbers.{not-both, lt-or-le}
 use Rattle.base.proofs.Tab.{getD-written}
 use Rattle.links_rules.specs.Sheet.{linkCount, linkFrom, linkTo}
@@ -24,7 +25,6 @@ use Rattle.links_fit.specs.Near.{near, nearTo, within, linksWithin}
 use Rattle.links_rules.specs.SheetFacts.{Sheet}
 use Rattle.links_rules.proofs.Facts.{computed-least}
 use Rattle.links_rules.proofs.LeastSums.{walk-on}
-use Rattle.links_fit.proofs.NearWords.{marked-below, marked-past}
 use Rattle.links_fit.proofs.Fits.{near-fits}
 
 -- a test that holds where another does

@@ -1,12 +1,11 @@
 -- Which words are near, that is, those of a sum that a distance of two bytes can be.
-use Prim.Native.Nat.{ℕ, zero, suc, _^_}
-use mathlib.Core.Bool.{Bool, cond, not, _||_}
+use Prim.Native.Nat.{ℕ}
+use mathlib.Core.Bool.{Bool, not, _||_}
 use mathlib.Core.List.{List}
-use lib.Bits.{bitOr}
 use lib.Dec.{leb, eqb}
 use lib.ListN.{getD}
 use Rattle.base.specs.Below.{allBelow}
-use Rattle.base.specs.Bits.{bitN}
+use Rattle.base.specs.Bits.{bitN, marked}
 use Rattle.links_rules.specs.Sheet.{linkCount, linkFrom, linkTo}
 use Rattle.links_words.specs.Lowered.{wordAt}
 
@@ -20,11 +19,6 @@ rowFits t n u = allBelow (near t u) n
 
 unfoldable pub wordsFit : List ℕ → ℕ → Bool
 wordsFit t n = allBelow (rowFits t n) n
-
--- the numbers below m at which p holds, a bit each
-unfoldable pub marked : (ℕ → Bool) → ℕ → ℕ
-marked p zero = 0
-marked p (suc m) = cond (p m) (bitOr (marked p m) (2 ^ m)) (marked p m)
 
 -- the routers that are near to e
 abbrev pub nearTo : List ℕ → ℕ → ℕ → ℕ

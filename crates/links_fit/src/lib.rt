@@ -1,6 +1,6 @@
 // Refusal 12: whether some pair has a walk and a least sum above 65,534, which its word does not tell from no walk.
 
-use base::bits::with_bit;
+use base::bits::with_bit_if;
 use base::bits::without;
 use base::wide;
 ghost use mathlib.Core.Path.{_≡_};
@@ -52,12 +52,8 @@ fn near_to(words: &[u16], n: usize, e: usize) -> u64
     let mut found = 0;
     let mut u = 0;
     while u < n {
-        if words[64 * u + e] <= 65534 {
-            found = with_bit(found, u);
-            u += 1;
-        } else {
-            u += 1;
-        }
+        found = with_bit_if(found, u, words[64 * u + e] <= 65534);
+        u += 1;
     }
     found
 }

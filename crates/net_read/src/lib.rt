@@ -6,7 +6,6 @@ use plan_contents::header::ROUTER_COUNT;
 use net_rules::Network;
 use plan_routers::CLIENT;
 ghost use mathlib.Core.Path.{_≡_};
-ghost use mathlib.Core.Bool.{_&&_, _||_};
 ghost use Prim.Native.Nat.{ℕ, _*_, _≤_, _<_};
 ghost use lib.Dec.{eqb};
 ghost use lib.ListN.{length, getD, replicate};
@@ -26,17 +25,6 @@ struct RoleWords {
     skips: u64,
 }
 
-// A word with bit v set too, if that is asked for.
-fn marked(word: u64, v: usize, asked: bool) -> u64
-    requires { ⌜ v < 64 ⌝ }
-    ensures { λ r. ⌜ ((u : ℕ) → eqb (bitN r u) 1 ≡ (eqb (bitN word u) 1 || (eqb v u && asked))) ⌝ }
-{
-    if asked {
-        return base::bits::with_bit(word, v);
-    }
-    word
-}
-
 // The reflectors, and those of them that skip their clients; s is the body of kind 1.
 fn role_words(s: &[u8], n: usize) -> RoleWords
     requires { ⌜ (n ≤ 64) × (length (now s) ≡ 5 * n) ⌝ }
@@ -48,8 +36,8 @@ fn role_words(s: &[u8], n: usize) -> RoleWords
     let mut v = 0;
     while v < n {
         let role = s[5 * v];
-        reflectors = marked(reflectors, v, role != CLIENT);
-        skips = marked(skips, v, role == SKIPPING);
+        reflectors = base::bits::with_bit_if(reflectors, v, role != CLIENT);
+        skips = base::bits::with_bit_if(skips, v, role == SKIPPING);
         v += 1;
     }
     RoleWords { reflectors, skips }

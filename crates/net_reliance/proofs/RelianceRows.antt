@@ -1,7 +1,6 @@
 -- Rows of reliances, one bit and one row more a turn.
-use Prim.Native.Nat.{ℕ, suc, _+_, _%_, _^_, _≤_, _<_}
+use Prim.Native.Nat.{ℕ, suc, _+_, _^_, _≤_, _<_}
 use native.Mathlib.Omega.{arith}
-use native.Mathlib.Nat.{zero-div}
 use mathlib.Core.Path.{_≡_, refl, _∙_, sym, ap}
 use mathlib.Core.Bool.{Bool, true, false, cond, _&&_, _||_}
 use mathlib.Core.List.{List}
@@ -12,10 +11,10 @@ use lib.Bits.{bitOr}
 use lib.Dec.{eqb}
 use lib.ListN.{length, getD, set, length-set}
 use lib.Seq.{getD-set-same, getD-set-other}
-use Rattle.base.specs.Bits.{bitN}
+use Rattle.base.specs.Bits.{bitN, marked}
 use Rattle.base.specs.BitWalk.{fromBit, LowestBit, BitWalk}
 use Rattle.base.specs.Seek.{flag}
-use Rattle.base.proofs.BitLaws.{bit-or, bit-pow-same, bit-pow-other}
+use Rattle.base.proofs.Marked.{marked-none, marked-suc, marked-below, marked-past}
 use Rattle.base.proofs.BitWalk.{walk-start, walk-within, walk-visit, walk-more, walk-done}
 use Rattle.base.proofs.SetBits.{bit-flag}
 use Rattle.base.proofs.Numbers.{eq-or-ne, not-both}
@@ -25,27 +24,13 @@ use Rattle.route_rules.proofs.Reliance.{bestClient-below}
 use Rattle.net_reliance.specs.RelianceRows.{RelianceRow, RelianceRows}
 
 module _ (I : Instance) (w : ℕ) where
-  pub row-none : RelianceRow I w 0 0
-  row-none = record { within = λ v l. absurd (omega arith); past = λ v l. ap (λ x. x % 2) (zero-div (2 ^ v)) }
-
-  module _ (k row : ℕ) (h : RelianceRow I w k row) where
-    noted-other : (b : Bool) (v : ℕ) → (k ≡ v → ⊥) → bitN (cond b (bitOr row (2 ^ k)) row) v ≡ bitN row v
-    noted-other true v d = omega (arith, bit-or row (2 ^ k) v, bit-pow-other k v d)
-    noted-other false v d = refl
-
-    noted-own : (b : Bool) → bitN (cond b (bitOr row (2 ^ k)) row) k ≡ flag b
-    noted-own true = omega (arith, bit-or row (2 ^ k) k, bit-pow-same k, h .past k (omega arith))
-    noted-own false = h .past k (omega arith)
-
-    pub row-more : (b : Bool) → b ≡ relies I w k → RelianceRow I w (suc k) (cond b (bitOr row (2 ^ k)) row)
-    row-more b e =
-        record {
-          within = λ v l.
-              ⊎-elim (λ (q : k ≡ v). rw (← q) (noted-own b ∙ ap flag e))
-              (λ (q : k ≡ v → ⊥). noted-other b v q ∙ h .within v (omega arith))
-              (eq-or-ne k v);
-          past = λ v l. noted-other b v (omega arith) ∙ h .past v (omega arith);
-        }
+  -- a word that a loop marked
+  row-marked : (k row : ℕ) → row ≡ marked (relies I w) k → RelianceRow I w k row
+  row-marked k row e =
+      record {
+        within = λ v l. bit-flag row v ∙ ap flag (ap (λ x. eqb (bitN x v) 1) e ∙ marked-below (relies I w) k v l);
+        past = λ v l. bit-flag row v ∙ ap flag (ap (λ x. eqb (bitN x v) 1) e ∙ marked-past (relies I w) k v l);
+      }
 
   -- a word whose bits are the reliances
   pub row-is : (x : ℕ) → ((v : ℕ) → eqb (bitN x v) 1 ≡ relies I w v) → ((v : ℕ) → bitN x v ≡ 1 → v < I .n) → RelianceRow I w (I .n) x
@@ -60,18 +45,18 @@ module _ (I : Instance) (w : ℕ) where
 pub record Noting (I : Instance) (w x row m : ℕ) : Type 0 where
   pub within : (v : ℕ) → bitN x v ≡ 1 → v < I .n
   pub others : (v : ℕ) → bitN x v ≡ 0 → relies I w v ≡ false
-  pub walk : BitWalk (λ k. RelianceRow I w k row) x (I .n) m
+  pub walk : BitWalk (λ k. row ≡ marked (relies I w) k) x (I .n) m
 
 module _ (I : Instance) (w x : ℕ) where
   pub noting-start : ((v : ℕ) → bitN x v ≡ 1 → v < I .n) → ((v : ℕ) → bitN x v ≡ 0 → relies I w v ≡ false) → Noting I w x 0 x
-  noting-start within others = record { within = within; others = others; walk = walk-start _ x (I .n) (row-none I w) }
+  noting-start within others = record { within = within; others = others; walk = walk-start _ x (I .n) (sym (marked-none (relies I w))) }
 
   module _ (row m : ℕ) (s : Noting I w x row m) where
     abbrev So : ℕ → Type 0
-    So k = RelianceRow I w k row
+    So k = row ≡ marked (relies I w) k
 
     pass : (v : ℕ) → v < I .n → bitN x v ≡ 0 → So v → So (suc v)
-    pass v l unset h = row-more I w v row h false (sym (s .others v unset))
+    pass v l unset h = marked-suc (relies I w) v row false (sym (s .others v unset)) h
 
     module _ (v : ℕ) (low : LowestBit m v) where
       pub noting-below : v < I .n
@@ -84,11 +69,11 @@ module _ (I : Instance) (w x : ℕ) where
             others = s .others;
             walk =
                 walk-more So x (I .n) m v (s .within) (s .walk) low _ m′ left
-                (row-more I w v row (walk-visit So x (I .n) pass m v (s .within) (s .walk) low) b e);
+                (marked-suc (relies I w) v row b e (walk-visit So x (I .n) pass m v (s .within) (s .walk) low));
           }
 
     pub noting-done : m ≡ 0 → RelianceRow I w (I .n) row
-    noting-done e = walk-done So x (I .n) pass m (s .walk) e
+    noting-done e = row-marked I w (I .n) row (walk-done So x (I .n) pass m (s .walk) e)
 
 -- an unlisted reflector relies on no router but its best client and the reflectors it neighbours
 module _ (I : Instance) (w : ℕ) (unlisted : I .listed w ≡ false) (reflector : I .reflector w ≡ true) where

@@ -3,9 +3,7 @@
 use net_rules::NO_ROUTER;
 use net_rules::Network;
 ghost use mathlib.Core.Path.{_≡_};
-ghost use mathlib.Core.Bool.{cond};
-ghost use Prim.Native.Nat.{_≤_, _<_, _^_};
-ghost use lib.Bits.{bitOr};
+ghost use Prim.Native.Nat.{_≤_, _<_};
 ghost use lib.ListN.{length, getD};
 ghost use Rattle.route_rules.specs.Reliance.{relies};
 ghost use Rattle.net_offers.specs.OwnClient.{OwnClient, OwnClients};
@@ -77,17 +75,6 @@ pub fn relies(net: Network, rows: &[u64; 64], distances: &[u8], w: usize, v: usi
     relies_by(net, rows, distances, w, v, own, other)
 }
 
-// A row with router v added if it is relied on.
-fn noted(row: u64, v: usize, relied: bool) -> u64
-    requires { ⌜ v < 64 ⌝ }
-    ensures { λ r. ⌜ r ≡ cond relied (bitOr row (2 ^ v)) row ⌝ }
-{
-    if relied {
-        return base::bits::with_bit(row, v);
-    }
-    row
-}
-
 // The routers that rule 3 asks about: the neighbouring reflectors, and the best client if there is one.
 fn candidates(net: Network, rows: &[u64; 64], w: usize, own: u8) -> u64
     requires { ⌜ (net .n ≤ 64) × (w < net .n) × RouterBelow (net .n) (asRouter own) ⌝ }
@@ -111,7 +98,7 @@ fn reflector_row(net: Network, rows: &[u64; 64], distances: &[u8], best: &[u8; 6
     let mut left = candidates(net, rows, w, own);
     while left != 0 {
         let v = base::bits::lowest_bit(left);
-        row = noted(
+        row = base::bits::with_bit_if(
             row,
             v,
             reflector_relies(net, rows, distances, w, v, own, best[v]),

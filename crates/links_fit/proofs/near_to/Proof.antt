@@ -1,11 +1,10 @@
 -- `links_fit::near_to`: the routers below u are marked.
 use Prim.Native.Nat.{_-_, _≤_}
 use native.Mathlib.Omega.{arith}
-use mathlib.Core.Path.{_≡_, _∙_, sym}
+use mathlib.Core.Path.{_≡_, refl, _∙_, sym}
 use borrow.Author.Needs.{needs}
-use borrow.Author.Tests.{le-leb, lt-leb}
+use Rattle.base.proofs.Marked.{marked-none, marked-more}
 use Rattle.links_fit.specs.Near.{near, nearTo}
-use Rattle.links_fit.proofs.NearWords.{marked-none, marked-more, marked-kept}
 use Rattle.links_fit.proofs.near_to.Statement.{statement}
 use Rattle.links_fit.proofs.near_to.Tie as tie
 
@@ -17,16 +16,9 @@ abbrev μ-loop : tie.MeasureT-loop
 
 loop-again : tie.Need-loop-again Inv-loop μ-loop
 loop-again c =
-    let u = c .before .before .before .before in
-    let a = u .before .before .args in
-    let more = marked-more (λ v. near (a .words .now) v (a .e)) (u .loop .u) _ (le-leb _ 65534 (c .before .if1 .taken)) (u .loop .inv .1) in
-    (search needs, c .with-bit .ensures ∙ more)
-
-loop-again-2 : tie.Need-loop-again-2 Inv-loop μ-loop
-loop-again-2 c =
     let u = c .before .before .before in
     let a = u .before .before .args in
-    (search needs, marked-kept (λ v. near (a .words .now) v (a .e)) (u .loop .u) _ (lt-leb _ 65534 (c .if1 .left)) (u .loop .inv .1))
+    (search needs, c .with-bit-if .ensures ∙ marked-more (λ v. near (a .words .now) v (a .e)) (u .loop .u) _ _ refl (u .loop .inv .1))
 
 pub near-to-spec : {M : Type 1} → statement M
 near-to-spec =
@@ -43,7 +35,4 @@ near-to-spec =
     (λ c. search needs)
     (λ c. search needs)
     loop-again
-    (λ c. search needs)
-    (λ c. search needs)
-    loop-again-2
     (λ c. let e : c .before .loop .u ≡ c .before .before .before .args .n = omega arith in rw e at (c .before .loop .inv .1)))

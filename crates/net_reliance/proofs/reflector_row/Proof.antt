@@ -48,7 +48,7 @@ loop-again c =
     let t = c .before in
     let v = t .before .before .before in
     let low = v .lowest-bit .ensures .0 in
-    rw (t .noted .ensures)
+    rw (t .with-bit-if .ensures)
     (noting-more _ _ _ _ _ (v .before .before .loop .inv) _ low _ (c .without-lowest .ensures .1 _ low) _ (t .before .reflector-relies .ensures))
 
 pub reflector-row-spec : {M : Type 1} → statement M
