@@ -7,7 +7,7 @@ use mathlib.Core.Bool.{Bool, true, false}
 use mathlib.Core.Logic.{⊎-elim}
 use lib.Dec.{ltb, eqb}
 use borrow.Author.Count.{below-none, below-more}
-use borrow.Author.Tests.{ltb-true, ltb-false, lt-ltb, le-ltb, eqb-true, eq-eqb, ne-eqb}
+use borrow.Author.Tests.{ltb-true, ltb-false, eqb-true, eq-eqb, ne-eqb}
 use Rattle.base.specs.Seek.{flag, seek, highest, count}
 use Rattle.base.proofs.Numbers.{eq-or-ne, lt-or-le}
 
@@ -139,13 +139,6 @@ highest-under f zero b h = omega (arith, highest-none f)
 highest-under f (suc n) b h =
     let g : highest f n ≤ b = highest-under f n b (λ i l. h i (omega arith)) in
     omega (arith, highest-suc f n, h n (omega arith))
-
--- the same loop, asking only whether there is a yes
-pub any-hit : (f : ℕ → ℕ) (n i : ℕ) → i < n → 1 ≤ f i → true ≡ ltb 0 (highest f n)
-any-hit f n i l h = sym (lt-ltb 0 (highest f n) (omega (arith, highest-over f n i l)))
-
-pub any-miss : (f : ℕ → ℕ) (n i : ℕ) → Scanned f n i → n ≤ i → false ≡ ltb 0 (highest f n)
-any-miss f n i w l = sym (le-ltb 0 (highest f n) (highest-under f n 0 (λ d h. omega (arith, w .none d (omega arith)))))
 
 pub highest-cong : (f g : ℕ → ℕ) (n : ℕ) → ((i : ℕ) → i < n → f i ≡ g i) → highest f n ≡ highest g n
 highest-cong f g zero h = highest-none f ∙ sym (highest-none g)

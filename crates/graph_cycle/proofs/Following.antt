@@ -14,7 +14,7 @@ use Rattle.base.specs.Tab.{tab}
 use Rattle.base.proofs.Tab.{length-tab, tab-cong}
 use Rattle.base.specs.Elimination.{Agree}
 use Rattle.graph_groups.specs.Closure.{Relation, closure}
-use Rattle.graph_groups.proofs.Sharing.{closure-returns}
+use Rattle.graph_groups.proofs.Sharing.{closure-grouped}
 use Rattle.graph_cycle.specs.Cycle.{next, walk, trail, sameRouter, metAgainAt, metFirstAt, repeatedPart, cycleIn, cycle, CycleAsked}
 use Rattle.graph_cycle.specs.Follow.{Stays, FollowAsked, Followed}
 use Rattle.graph_cycle.proofs.Walking.{Fresh, fresh-few, tour, Repeated, repeated-found, trail-cong, cycle-in-cong}
@@ -106,7 +106,7 @@ module _ (R D : Relation) (n : ℕ) (out : List ℕ) (a : CycleAsked R D n out) 
 
   pub follow-asked : (path : List ℕ) → length path ≡ 64 → FollowAsked R D n path
   follow-asked path e =
-      record { small = a .small; long = e; stays = stays; within = a .within; returns = closure-returns R n D (a .closed) }
+      record { small = a .small; long = e; stays = stays; within = a .within; loops = closure-grouped R D n (a .irreflexive) (a .closed) }
 
   pub followed-part : (path : List ℕ) (from upto : ℕ) → Followed (trail R D n) n path from upto → (from < upto) × (upto ≤ n)
   followed-part path from upto w =

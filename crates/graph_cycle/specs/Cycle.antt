@@ -8,7 +8,7 @@ use lib.ListN.{length, getD}
 use Rattle.base.specs.Tab.{tab}
 use Rattle.base.specs.Seek.{flag, seek, highest}
 use Rattle.base.specs.Elimination.{cell, Agree}
-use Rattle.graph_groups.specs.Closure.{Relation, closing, closure, Within}
+use Rattle.graph_groups.specs.Closure.{Relation, closing, closure, Within, Irreflexive}
 use Rattle.graph_groups.specs.Groups.{together, grouped, stable}
 
 -- "the ring is found from the lowest router in a group of two or more"
@@ -61,10 +61,11 @@ pub record IsCycle (R C : Relation) (n : ℕ) (l : List ℕ) : Type 0 where
   pub closes : 1 ≤ R (getD l (length l - 1) 0) (getD l 0 0)
   pub group : (i k : ℕ) → i < length l → k < length l → 1 ≤ together C (getD l i 0) (getD l k 0)
 
--- what writing the cycle asks: D is the closure of R, and R is not stable
+-- what writing the cycle asks: R relates no router to itself, D is its closure, and it is not stable
 pub record CycleAsked (R D : Relation) (n : ℕ) (out : List ℕ) : Type 0 where
   pub small : n ≤ 64
   pub long : n ≤ length out
   pub within : Within R n
+  pub irreflexive : Irreflexive R n
   pub closed : Agree D (closure R n) n
   pub suspect : stable (closure R n) n ≡ false

@@ -6,56 +6,25 @@ use base::bits::without_lowest;
 use base::wide;
 use graph_groups::groups::share;
 ghost use mathlib.Core.Path.{_≡_};
-ghost use mathlib.Core.Bool.{not};
 ghost use mathlib.Core.List.{_++_};
-ghost use Prim.Native.Nat.{_+_, _≤_, _<_, min};
-ghost use lib.Dec.{ltb, eqb};
+ghost use Prim.Native.Nat.{_+_, _≤_, _<_};
+ghost use lib.Dec.{eqb};
 ghost use lib.ListN.{length, getD, drop};
 ghost use Rattle.base.specs.Tab.{tab};
 ghost use Rattle.base.specs.Seek.{flag, seek};
 ghost use Rattle.base.specs.Bits.{bits};
-ghost use Rattle.graph_groups.specs.Closure.{Within, Returns, AllReturn};
-ghost use Rattle.graph_groups.specs.Groups.{together, grouped};
+ghost use Rattle.graph_groups.specs.Closure.{Within};
 ghost use Rattle.graph_cycle.specs.Cycle.{start, next, trail, cycle, CycleAsked};
-ghost use Rattle.graph_cycle.specs.Follow.{FollowAsked, Followed};
+ghost use Rattle.graph_cycle.specs.Follow.{LoopsGrouped, FollowAsked, Followed};
 
-// Whether i and j are two routers of one group: 1 or 0.
-fn share_apart(closed: &[u64; 64], i: usize, j: usize) -> u64
-    requires { ⌜ (i < 64) × (j < 64) ⌝ }
-    ensures { λ r. ⌜ r ≡ min (flag (not (eqb i j))) (together (bits (now (closed .entry))) i j) ⌝ }
-{
-    if i == j {
-        return 0;
-    }
-    share(closed, i, j)
-}
-
-// Whether i is in a group of two or more. A router that does not reach itself is in none.
-fn is_grouped(closed: &[u64; 64], n: usize, i: usize) -> bool
-    requires { ⌜ (n ≤ 64) × (i < 64) × Returns (bits (now closed)) n i ⌝ }
-    ensures { λ r. ⌜ r ≡ ltb 0 (grouped (bits (now (closed .entry))) n i) ⌝ }
-{
-    if bit(closed[i], i) == 0 {
-        return false;
-    }
-    let mut j = 0;
-    while j < n {
-        if 0 < share_apart(closed, i, j) {
-            return true;
-        }
-        j += 1;
-    }
-    false
-}
-
-// The lowest router in a group of two or more, n if there is none.
+// The lowest router in a group of two or more, n if there is none: those are the routers that reach themselves.
 fn first_grouped(closed: &[u64; 64], n: usize) -> usize
-    requires { ⌜ (n ≤ 64) × AllReturn (bits (now closed)) n ⌝ }
+    requires { ⌜ (n ≤ 64) × LoopsGrouped (bits (now closed)) n ⌝ }
     ensures { λ r. ⌜ r ≡ start (bits (now (closed .entry))) n ⌝ }
 {
     let mut i = 0;
     while i < n {
-        if is_grouped(closed, n, i) {
+        if bit(closed[i], i) == 1 {
             return i;
         }
         i += 1;

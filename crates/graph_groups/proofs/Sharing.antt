@@ -122,20 +122,32 @@ module _ (R : Relation) (n : ℕ) where
       (together-cases (closure R n) k j h))
       (together-cases (closure R n) i k g)
 
-  -- demand 2: stable exactly if no router reaches itself by a chain
-  loop-shares : Irreflexive R n → ((i j : ℕ) → i < n → j < n → 1 ≤ together (closure R n) i j → i ≡ j)
-      → (i : ℕ) → i < n → {j : ℕ} → j ≡ i → Chain R n i j → ⊥
-  loop-shares q f i l e (step h) = omega (arith, q i l, rw e at h)
-  loop-shares q f i l e (more {k = k} m h c) =
+  -- a router that reaches itself shares its group with another, and the other way round
+  loop-other : Irreflexive R n → (i : ℕ) → i < n → {j : ℕ} → j ≡ i → Chain R n i j → Other (closure R n) n i
+  loop-other q i l e (step h) = absurd (omega (arith, q i l, rw e at h))
+  loop-other q i l e (more {k = k} m h c) =
       let back : 1 ≤ closure R n k i = closure-is R n k i m l .1 (rw e at c) in
-      let g : i ≡ k = f i k l m (together-both (closure R n) i k (closure-related R n i k l m h) back) in
-      omega (arith, q i l, rw (sym g) at h)
+      record {
+        at = k;
+        below = m;
+        differs = λ g. omega (arith, q i l, rw (sym g) at h);
+        shares = together-both (closure R n) i k (closure-related R n i k l m h) back;
+      }
 
+  other-loop : (i : ℕ) → i < n → Other (closure R n) n i → 1 ≤ closure R n i i
+  other-loop i l o =
+      ⊎-elim (λ (e : i ≡ o .at). absurd (o .differs e))
+      (λ (b : (1 ≤ closure R n i (o .at)) × (1 ≤ closure R n (o .at) i)). closure-trans R n i (o .at) i l (o .below) l (b .0) (b .1))
+      (together-cases (closure R n) i (o .at) (o .shares))
+
+  -- demand 2: stable exactly if no router reaches itself by a chain
   pub stable-chains : Irreflexive R n → (stable (closure R n) n ≡ true) ↔ ((i : ℕ) → i < n → Chain R n i i → ⊥)
   stable-chains q = (none, all)
     where
       none : stable (closure R n) n ≡ true → (i : ℕ) → i < n → Chain R n i i → ⊥
-      none s i l c = loop-shares q (stable-groups (closure R n) n .0 s) i l refl c
+      none s i l c =
+          let o = loop-other q i l refl c in
+          o .differs (stable-groups (closure R n) n .0 s i (o .at) l (o .below) (o .shares))
 
       all : ((i : ℕ) → i < n → Chain R n i i → ⊥) → stable (closure R n) n ≡ true
       all f =
@@ -176,3 +188,15 @@ module _ (C D : Relation) (n : ℕ) (h : Agree C D n) where
   pub grouped-cong : (i : ℕ) → i < n → grouped C n i ≡ grouped D n i
   unfolding grouped
   grouped-cong i l = highest-cong _ _ n (λ j m. ap (min (flag (not (eqb i j)))) (together-cong i j l m))
+
+-- "in a group of two or more": exactly the routers that reach themselves
+pub closure-grouped : (R D : Relation) (n : ℕ) → Irreflexive R n → Agree D (closure R n) n → (i : ℕ) → i < n → (1 ≤ D i i) ↔ (1 ≤ grouped D n i)
+closure-grouped R D n q h i l = (there, back)
+  where
+    there : 1 ≤ D i i → 1 ≤ grouped D n i
+    there r =
+        let o = loop-other R n q i l refl (closure-is R n i i l l .0 (omega (arith, h i i l l))) in
+        omega (arith, grouped-by (closure R n) n i (o .at) (o .below) (o .differs) (o .shares), grouped-cong D (closure R n) n h i l)
+
+    back : 1 ≤ grouped D n i → 1 ≤ D i i
+    back g = omega (arith, h i i l l, other-loop R n i l (grouped-other (closure R n) n i (omega (arith, grouped-cong D (closure R n) n h i l))))

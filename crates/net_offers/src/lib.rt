@@ -1,8 +1,12 @@
-// Best clients and what routers offer, over a network read from a plan. A router is a byte here, NO_ROUTER for none.
+// Best clients, what routers offer and rule 3 on an offer, over a network read from a plan. A router is a byte here, NO_ROUTER for none.
 
 use net_rules::NO_ROUTER;
 use net_rules::Network;
+use route_explain_rules::explanation::Explanation;
+use route_explain_rules::explanation::Reason;
+use route_explain_rules::explanation::Rule;
 ghost use mathlib.Core.Path.{_≡_};
+ghost use mathlib.Core.Bool.{true};
 ghost use mathlib.Core.List.{List};
 ghost use Prim.Native.Nat.{ℕ, _*_, _≤_, _<_};
 ghost use lib.ListN.{length};
@@ -10,6 +14,7 @@ ghost use Rattle.base.specs.Best.{keepBest};
 ghost use Rattle.route_rules.specs.Instance.{Instance, RouterBelow};
 ghost use Rattle.route_rules.specs.Preference.{prefers};
 ghost use Rattle.route_rules.specs.Reliance.{bestClient, offer, betterOffer};
+ghost use Rattle.route_explain_rules.specs.Explained.{WayTo, againstOwn, byOffer};
 ghost use Rattle.net_offers.specs.OwnClient.{ListedClients, OwnClient, OwnClients};
 ghost use Rattle.net_rules.specs.Decoded.{decoded, instance};
 ghost use Rattle.net_rules.specs.RouterBytes.{asRouter};
@@ -95,21 +100,55 @@ pub fn offered(net: Network, v: usize, own: u8) -> u8
     own
 }
 
+// Rule 3 where w has a way to its neighbour's offer, and `own` is its own best client.
+fn against_own(distances: &[u8], n: usize, w: usize, offer: usize, own: u8) -> Explanation
+    requires { ⌜ (w < n) × (n ≤ 64) × (2 * (n * n) ≤ length (now distances)) × (offer < n) × RouterBelow n (asRouter own) ⌝ }
+    ensures { λ r. ⌜ ((I : Instance) → Measured I (now (distances .entry)) n → I .way w offer ≡ true → WayTo I w (asRouter own)
+        → r ≡ againstOwn I w offer (asRouter own)) ⌝ }
+{
+    if own == NO_ROUTER {
+        return Explanation::Yes(Rule::AnyOffer(offer));
+    }
+    let client = base::wide(own);
+    let to_offer = plan_distances::distance(distances, n, w, offer);
+    let to_client = plan_distances::distance(distances, n, w, client);
+    if net_prefer::nearer(to_offer, to_client, offer, client) {
+        return Explanation::Yes(Rule::BetterOffer(
+            offer,
+            client,
+            net_prefer::difference(to_offer, to_client),
+        ));
+    }
+    Explanation::No(Reason::OfferNotBetter)
+}
+
+// Rule 3 on the offer of a neighbouring reflector, where `own` is the own best client of w.
+pub fn by_offer(distances: &[u8], n: usize, w: usize, offer: u8, own: u8) -> Explanation
+    requires { ⌜ (w < n) × (n ≤ 64) × (2 * (n * n) ≤ length (now distances))
+        × RouterBelow n (asRouter offer) × RouterBelow n (asRouter own) ⌝ }
+    ensures { λ r. ⌜ ((I : Instance) → Measured I (now (distances .entry)) n → WayTo I w (asRouter own)
+        → r ≡ byOffer I w (asRouter offer) (asRouter own)) ⌝ }
+{
+    if offer == NO_ROUTER {
+        return Explanation::No(Reason::NoOffer);
+    }
+    let egress = base::wide(offer);
+    if !plan_distances::has_way(distances, n, w, egress) {
+        return Explanation::No(Reason::NoWayToTheOffer);
+    }
+    against_own(distances, n, w, egress, own)
+}
+
+// Whether rule 3 says yes to that offer.
 pub fn better_offer(distances: &[u8], n: usize, w: usize, offer: u8, own: u8) -> bool
     requires { ⌜ (w < n) × (n ≤ 64) × (2 * (n * n) ≤ length (now distances))
         × RouterBelow n (asRouter offer) × RouterBelow n (asRouter own) ⌝ }
-    ensures { λ r. ⌜ ((I : Instance) → Measured I (now (distances .entry)) n
+    ensures { λ r. ⌜ ((I : Instance) → Measured I (now (distances .entry)) n → WayTo I w (asRouter own)
         → r ≡ betterOffer I w (asRouter offer) (asRouter own)) ⌝ }
 {
-    if offer == NO_ROUTER {
-        return false;
+    match by_offer(distances, n, w, offer, own) {
+        Explanation::Refused(_) => false,
+        Explanation::Yes(_) => true,
+        Explanation::No(_) => false,
     }
-    let first = base::wide(offer);
-    if !plan_distances::has_way(distances, n, w, first) {
-        return false;
-    }
-    if own == NO_ROUTER {
-        return true;
-    }
-    net_prefer::prefers(distances, n, w, first, base::wide(own))
 }

@@ -92,7 +92,15 @@ module _ (I : Instance) (before relied : List ℕ) (h : RelianceRows I before re
       suspect = ap (λ C. stable C (I .n)) same-closure ∙ s
 
       pub cycle-asked : (shown : List ℕ) → I .n ≤ 64 → I .n ≤ length shown → CycleAsked (bits relied) (bits closed) (I .n) shown
-      cycle-asked shown small long = record { small = small; long = long; within = rows-within; closed = c; suspect = suspect }
+      cycle-asked shown small long =
+          record {
+            small = small;
+            long = long;
+            within = rows-within;
+            irreflexive = λ w l. related w w l l ∙ irreflexive w l;
+            closed = c;
+            suspect = suspect;
+          }
 
       cycle-is : cycle (bits relied) (I .n) ≡ cycleOf I
       cycle-is = cycle-cong (bits relied) (reliance I) (I .n) related suspect

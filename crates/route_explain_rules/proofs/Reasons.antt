@@ -44,6 +44,22 @@ values-say (Yes (AnyOffer e)) = refl
 values-say (Yes (BetterOffer e c m)) = refl
 values-say (No reason) = refl
 
+-- rule 3 on an offer says yes exactly if the offer is better
+pub by-offer-says : (I : Instance) (w : ℕ) (o own : Option ℕ) → isYes (byOffer I w o own) ≡ betterOffer I w o own
+unfolding byOffer againstOwn betterOffer
+by-offer-says I w none own = refl
+by-offer-says I w (some e) none = go (I .way w e) refl
+  where
+    go : (a : Bool) → I .way w e ≡ a → isYes (byOffer I w (some e) none) ≡ betterOffer I w (some e) none
+    go true p = cc
+    go false p = cc
+by-offer-says I w (some e) (some c) = go (I .way w e) refl (prefers I w e c) refl
+  where
+    go : (a : Bool) → I .way w e ≡ a → (b : Bool) → prefers I w e c ≡ b → isYes (byOffer I w (some e) (some c)) ≡ betterOffer I w (some e) (some c)
+    go true p true q = cc
+    go true p false q = cc
+    go false p b q = cc
+
 -- w has a way to its best client, if it has one
 pub own-way-to : (I : Instance) (w : ℕ) → WayTo I w (bestClient I w)
 own-way-to I w = go (bestClient I w) (bestClient-is I w)

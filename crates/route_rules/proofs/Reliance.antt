@@ -99,10 +99,6 @@ module _ (I : Instance) where
       go false p true q = relies-offer w w p q q ∙ cc (offer-unlisted w p, own-no-better w (bestClient I w), and-false (I .neighbour w w))
       go false p false q = relies-client w w p q ∙ cc (and-false (I .neighbour w w))
 
-  pub better-none : (w : ℕ) (b : Option ℕ) → betterOffer I w none b ≡ false
-  unfolding betterOffer
-  better-none w b = refl
-
   pub better-no-way : (w e : ℕ) (b : Option ℕ) → I .way w e ≡ false → betterOffer I w (some e) b ≡ false
   unfolding betterOffer
   better-no-way w e none h = h

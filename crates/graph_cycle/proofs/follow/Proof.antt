@@ -15,7 +15,7 @@ abbrev μ-loop : tie.MeasureT-loop
 μ-loop rows closed n path₀ w₀ k₀ met₀ path w k met = n - k
 
 first-grouped-requires : tie.Need-first-grouped-requires Inv-loop μ-loop
-first-grouped-requires c κs = (c .pre .small, c .pre .returns)
+first-grouped-requires c κs = (c .pre .small, c .pre .loops)
 
 loop-holds : tie.Need-loop-holds Inv-loop μ-loop
 unfolding walk

@@ -10,6 +10,7 @@ use Rattle.route_rules.specs.Reliance.{offer, betterOffer}
 use Rattle.net_rules.specs.RouterBytes.{asRouter}
 use Rattle.net_rules.proofs.RouterBytes.{router-is}
 use Rattle.route_rules.proofs.Reliance.{bestClient-below, offer-below, relies-own, offer-stranger, offer-neighbour}
+use Rattle.route_explain_rules.proofs.Reasons.{own-way-to}
 use Rattle.net_reliance.proofs.reflector_relies.Statement.{statement}
 use Rattle.net_reliance.proofs.reflector_relies.Tie as tie
 
@@ -56,7 +57,7 @@ returns-3 c =
     let g = c .before .before in
     let e = g .before .before .before in
     let d = e .before .before .before in
-    c .better-offer .ensures (instance d) (record { dist = refl; way = refl })
+    c .better-offer .ensures (instance d) (record { dist = refl; way = refl }) (rw (d .pre .3 .client) (own-way-to (instance d) _))
     ∙ ap₂ (betterOffer (instance d) (d .args .w)) (offer-is (c .before)) (d .pre .3 .client)
     ∙ sym (offer-neighbour (instance d) _ _ (d .pre .3 .unlisted) (d .pre .3 .reflector) (yes _ (e .before .has-bit .ensures) (e .if1 .left)) (yes _ (g .before .has-bit2 .ensures) (g .if2 .left)))
 

@@ -15,9 +15,9 @@ use Rattle.net_prefer.proofs.Measured.{read-as}
 use Rattle.route_explain_rules.specs.Explained.{WayTo, againstOwn}
 use Rattle.route_explain_rules.specs.declared.explanation.Explanation.the-variants.{Yes}
 use Rattle.route_explain_rules.specs.declared.explanation.Rule.the-variants.{BetterOffer}
-use Rattle.net_explain.proofs.Cases.{against-none, against-preferred, against-other, margin-held}
-use Rattle.net_explain.proofs.against_own.Statement.{statement}
-use Rattle.net_explain.proofs.against_own.Tie as tie
+use Rattle.net_offers.proofs.OnOffer.{against-none, against-preferred, against-other, margin-held}
+use Rattle.net_offers.proofs.against_own.Statement.{statement}
+use Rattle.net_offers.proofs.against_own.Tie as tie
 
 returns : tie.Need-returns
 returns c I q there own =

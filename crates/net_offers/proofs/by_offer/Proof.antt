@@ -10,9 +10,9 @@ use Rattle.net_rules.proofs.RouterBytes.{router-none, router-some, router-below
 use Rattle.net_prefer.specs.Measured.{Measured}
 use Rattle.net_prefer.proofs.Measured.{some-way, no-way}
 use Rattle.route_explain_rules.specs.Explained.{byOffer}
-use Rattle.net_explain.proofs.Cases.{offer-none, offer-no-way, offer-way}
-use Rattle.net_explain.proofs.by_offer.Statement.{statement}
-use Rattle.net_explain.proofs.by_offer.Tie as tie
+use Rattle.net_offers.proofs.OnOffer.{offer-none, offer-no-way, offer-way}
+use Rattle.net_offers.proofs.by_offer.Statement.{statement}
+use Rattle.net_offers.proofs.by_offer.Tie as tie
 
 returns : tie.Need-returns
 returns c I q own =
