@@ -2,7 +2,6 @@
 
 use base::bits::with_bit_if;
 use base::bits::without;
-use base::wide;
 ghost use mathlib.Core.Path.{_≡_};
 ghost use mathlib.Core.Bool.{true};
 ghost use mathlib.Core.List.{_++_};
@@ -84,8 +83,9 @@ fn links_within(links: &[u8], near: &[u64; 64]) -> bool
     let count = links.len() / 4;
     let mut k = 0;
     while k < count {
-        let from = wide(links[4 * k]);
-        let to = wide(links[4 * k + 1]);
+        let link = links_read::link_at(links, k);
+        let from = link.from;
+        let to = link.to;
         if !is_within(near[from], near[to]) {
             return false;
         }

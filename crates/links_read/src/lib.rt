@@ -5,6 +5,26 @@ ghost use Prim.Native.Nat.{_+_, _*_, _≤_};
 ghost use lib.ListN.{length};
 ghost use Rattle.plan_rules.specs.Rising.{risesAt};
 ghost use Rattle.links_rules.specs.Sheet.{linkBefore, linkOk, sheetOk};
+ghost use Rattle.links_read.specs.Link.{LinkIs};
+
+// A link: where it leads from and to, and its weight.
+pub struct Link {
+    pub from: usize,
+    pub to: usize,
+    pub weight: u16,
+}
+
+// Link k of a sheet.
+pub fn link_at(s: &[u8], k: usize) -> Link
+    requires { ⌜ 4 * k + 4 ≤ length (now s) ⌝ }
+    ensures { λ r. ⌜ LinkIs (now (s .entry)) k r ⌝ }
+{
+    Link {
+        from: base::wide(s[4 * k]),
+        to: base::wide(s[4 * k + 1]),
+        weight: base::read2(s, 4 * k + 2) as u16,
+    }
+}
 
 // Whether link k stands after the link before it, if there is one.
 fn rises(s: &[u8], k: usize) -> bool

@@ -12,11 +12,13 @@ use lib.Dec.{eqb}
 use lib.ListN.{set, replicate, length-set, length-replicate, getD-replicate}
 use lib.Seq.{getD-set-same, getD-set-other}
 use Rattle.base.proofs.Numbers.{both-left, both-right, eq-or-ne}
-use Rattle.links_rules.specs.Sheet.{linkCount, linkFrom, linkTo, linkWeight}
+use Rattle.links_rules.specs.Sheet.{linkCount}
 use Rattle.base.specs.Elimination.{through, cell, Agree}
 use Rattle.base.proofs.Elimination.{stage-none, stage-more}
 use Rattle.links_rules.specs.Sums.{Sums, lesser, plus, nowhere, staying, linked, leastOf, direct, summing}
 use Rattle.links_rules.specs.SheetFacts.{Sheet}
+use Rattle.links_read.specs.Link.{LinkIs}
+use Rattle.links_read.specs.declared.Link.{Link}
 use Rattle.links_words.specs.Lowered.{capped, wordAt, RowsLowered}
 use Rattle.links_sums.specs.Words.{word, HoldsSums}
 
@@ -118,16 +120,15 @@ module _ (n : ℕ) (small : n ≤ 64) where
 
   module _ (s : List ℕ) where
     pub direct-more :
-        Sheet s n → (t after : List ℕ) (k f g w : ℕ) → k < linkCount s → f ≡ linkFrom s k → g ≡ linkTo s k →
-        w ≡ linkWeight s k →
-        w < 65536 →
+        Sheet s n → (t after : List ℕ) (k : ℕ) (link : Link) → k < linkCount s → LinkIs s k link → link .weight < 65536 →
         HoldsSums (direct s k) n t →
-        after ≡ set t (64 * f + g) (min (wordAt t f g) w) →
+        after ≡ set t (64 * link .from + link .to) (min (wordAt t (link .from) (link .to)) (link .weight)) →
         HoldsSums (direct s (k + 1)) n after
     unfolding direct
-    direct-more sheet t after k f g w l a b c u h e =
-        rw (add-one, e, ← a, ← b, ← c)
-        (holds-linked n small (direct s k) t f g w (omega (arith, sheet .froms k l)) (omega (arith, sheet .tos k l)) (omega arith) h)
+    direct-more sheet t after k link l is u h e =
+        rw (add-one, e, ← is .from, ← is .to, ← is .weight)
+        (holds-linked n small (direct s k) t (link .from) (link .to) (link .weight)
+        (omega (arith, is .from, sheet .froms k l)) (omega (arith, is .to, sheet .tos k l)) (omega arith) h)
 
 -- the word of the lesser of a sum and of two sums' sum
 word-plus : (x y : Option ℕ) → capped (word x + word y) ≡ word (plus x y)

@@ -1,6 +1,5 @@
 // The least sums of a sheet, in a table of 64 words a router. A sum above 65,534 is held as 65,535, and so is no walk.
 
-use base::wide;
 use links_words::lower;
 use links_words::pass_through;
 ghost use mathlib.Core.Path.{_≡_};
@@ -30,10 +29,8 @@ fn add_links(links: &[u8], n: usize, words: &mut [u16])
     let count = links.len() / 4;
     let mut k = 0;
     while k < count {
-        let from = wide(links[4 * k]);
-        let to = wide(links[4 * k + 1]);
-        let weight = base::read2(links, 4 * k + 2) as u16;
-        lower(words, from, to, weight);
+        let link = links_read::link_at(links, k);
+        lower(words, link.from, link.to, link.weight);
         k += 1;
     }
 }

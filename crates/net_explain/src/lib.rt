@@ -1,9 +1,9 @@
 // The rule by which one router relies on another, or the first reason why it does not, over a network read from a plan.
 
+use net_rules::Network;
 use route_explain_rules::explanation::Explanation;
 use route_explain_rules::explanation::Reason;
 use route_explain_rules::explanation::Rule;
-use net_rules::Network;
 ghost use mathlib.Core.Path.{_≡_};
 ghost use Prim.Native.Nat.{_<_};
 ghost use Rattle.net_rules.specs.Decoded.{instance};

@@ -13,8 +13,9 @@ ghost use lib.ListN.{length};
 ghost use Rattle.base.specs.Best.{keepBest};
 ghost use Rattle.route_rules.specs.Instance.{Instance, RouterBelow};
 ghost use Rattle.route_rules.specs.Preference.{prefers};
-ghost use Rattle.route_rules.specs.Reliance.{bestClient, offer, betterOffer};
+ghost use Rattle.route_rules.specs.Reliance.{bestClient, offer};
 ghost use Rattle.route_explain_rules.specs.Explained.{WayTo, againstOwn, byOffer};
+ghost use Rattle.route_explain_rules.specs.Reasons.{isYes};
 ghost use Rattle.net_offers.specs.OwnClient.{ListedClients, OwnClient, OwnClients};
 ghost use Rattle.net_rules.specs.Decoded.{decoded, instance};
 ghost use Rattle.net_rules.specs.RouterBytes.{asRouter};
@@ -139,14 +140,11 @@ pub fn by_offer(distances: &[u8], n: usize, w: usize, offer: u8, own: u8) -> Exp
     against_own(distances, n, w, egress, own)
 }
 
-// Whether rule 3 says yes to that offer.
-pub fn better_offer(distances: &[u8], n: usize, w: usize, offer: u8, own: u8) -> bool
-    requires { ⌜ (w < n) × (n ≤ 64) × (2 * (n * n) ≤ length (now distances))
-        × RouterBelow n (asRouter offer) × RouterBelow n (asRouter own) ⌝ }
-    ensures { λ r. ⌜ ((I : Instance) → Measured I (now (distances .entry)) n → WayTo I w (asRouter own)
-        → r ≡ betterOffer I w (asRouter offer) (asRouter own)) ⌝ }
+// Whether an answer is yes.
+pub fn says_yes(answer: Explanation) -> bool
+    ensures { λ r. ⌜ r ≡ isYes answer ⌝ }
 {
-    match by_offer(distances, n, w, offer, own) {
+    match answer {
         Explanation::Refused(_) => false,
         Explanation::Yes(_) => true,
         Explanation::No(_) => false,

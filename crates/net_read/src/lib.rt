@@ -1,9 +1,9 @@
 // From the bytes of a plan that is not refused to the network, read once.
 
+use net_rules::Network;
 use plan_contents::entries::ROUTERS;
 use plan_contents::entries::SESSIONS;
 use plan_contents::header::ROUTER_COUNT;
-use net_rules::Network;
 use plan_routers::CLIENT;
 ghost use mathlib.Core.Path.{_≡_};
 ghost use Prim.Native.Nat.{ℕ, _*_, _≤_, _<_};

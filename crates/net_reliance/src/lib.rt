@@ -33,7 +33,8 @@ fn reflector_relies(
     if !base::bits::has_bit(rows[w], v) {
         return false;
     }
-    net_offers::better_offer(distances, net.n, w, net_offers::offered(net, v, other), own)
+    let offer = net_offers::offered(net, v, other);
+    net_offers::says_yes(net_offers::by_offer(distances, net.n, w, offer, own))
 }
 
 // Whether w relies on v, where `own` and `other` are the best clients of those that are reflectors.

@@ -16,20 +16,8 @@ abbrev μ-loop : tie.MeasureT-loop
 loop-holds : tie.Need-loop-holds Inv-loop μ-loop
 loop-holds c = write-start _ _ _ (c .pre .1)
 
-add-out : tie.Need-add-out Inv-loop μ-loop
-add-out c = search needs
-
-element-copy-out-out : tie.Need-element-copy-out-out Inv-loop μ-loop
-element-copy-out-out c = search needs
-
 slice-write-out : tie.Need-slice-write-out Inv-loop μ-loop
 slice-write-out c = write-room _ _ _ _ _ (c .before .before .loop .inv) (c .before .loop-test .taken)
-
-add-d : tie.Need-add-d Inv-loop μ-loop
-add-d c = search needs
-
-loop-less : tie.Need-loop-less Inv-loop μ-loop
-loop-less c = search needs
 
 loop-again : tie.Need-loop-again Inv-loop μ-loop
 loop-again c = write-more _ _ _ 0 _ _ _ (c .before .before .loop .inv) (c .before .loop-test .taken) refl
@@ -47,11 +35,11 @@ copy-part-spec =
     Inv-loop
     μ-loop
     loop-holds
-    add-out
-    element-copy-out-out
+    (λ c. search needs)
+    (λ c. search needs)
     slice-write-out
-    add-d
-    loop-less
+    (λ c. search needs)
+    (λ c. search needs)
     loop-again
     same-length
     returns)

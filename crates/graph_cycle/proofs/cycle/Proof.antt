@@ -20,13 +20,10 @@ copy-part-requires c κs =
     let a = f .before .before .before .pre in
     omega (arith, followed-part _ _ _ _ a _ _ _ (f .follow .ensures), a .small, a .long)
 
-same-length : tie.Need-same-length
-same-length c = search needs
-
 returns : tie.Need-returns
 returns c =
     let f = c .before .before .before .before .before .before in
     followed-written _ _ _ _ (f .before .before .before .pre) _ _ _ _ (f .follow .ensures) (c .before .before .copy-part .ensures)
 
 pub cycle-spec : {M : Type 1} → statement M
-cycle-spec = tie.close (tie.spec follow-requires sub-count copy-part-requires same-length returns)
+cycle-spec = tie.close (tie.spec follow-requires sub-count copy-part-requires (λ c. search needs) returns)

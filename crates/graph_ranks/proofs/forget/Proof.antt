@@ -18,12 +18,6 @@ loop-holds c = write-start _ _ _ (c .pre)
 slice-write-out : tie.Need-slice-write-out Inv-loop μ-loop
 slice-write-out c = write-room _ _ _ _ _ (c .before .loop .inv) (c .loop-test .taken)
 
-add-v : tie.Need-add-v Inv-loop μ-loop
-add-v c = search needs
-
-loop-less : tie.Need-loop-less Inv-loop μ-loop
-loop-less c = search needs
-
 loop-again : tie.Need-loop-again Inv-loop μ-loop
 loop-again c = write-more _ _ _ 0 _ _ _ (c .before .loop .inv) (c .loop-test .taken) refl
 
@@ -41,8 +35,8 @@ forget-spec =
     μ-loop
     loop-holds
     slice-write-out
-    add-v
-    loop-less
+    (λ c. search needs)
+    (λ c. search needs)
     loop-again
     same-length
     returns)

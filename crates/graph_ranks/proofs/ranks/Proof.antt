@@ -13,9 +13,6 @@ Inv-loop rows n out₀ high₀ w₀ out high w = Ranks (bits rows) n out₀ out 
 abbrev μ-loop : tie.MeasureT-loop
 μ-loop rows n out₀ high₀ w₀ out high w = n - w
 
-forget-requires : tie.Need-forget-requires Inv-loop μ-loop
-forget-requires c κs = search needs
-
 loop-holds : tie.Need-loop-holds Inv-loop μ-loop
 loop-holds c =
     let f = c .before .before in
@@ -24,15 +21,6 @@ loop-holds c =
 
 rank-of-requires : tie.Need-rank-of-requires Inv-loop μ-loop
 rank-of-requires c κs = ranks-asks _ _ _ _ _ _ (c .before .before .loop .inv) (c .before .loop-test .taken)
-
-higher-requires : tie.Need-higher-requires Inv-loop μ-loop
-higher-requires c κs = search needs
-
-add-w : tie.Need-add-w Inv-loop μ-loop
-add-w c = search needs
-
-loop-less : tie.Need-loop-less Inv-loop μ-loop
-loop-less c = search needs
 
 loop-again : tie.Need-loop-again Inv-loop μ-loop
 loop-again c =
@@ -54,12 +42,12 @@ ranks-spec =
     (tie.spec
     Inv-loop
     μ-loop
-    forget-requires
+    (λ c κs. search needs)
     loop-holds
     rank-of-requires
-    higher-requires
-    add-w
-    loop-less
+    (λ c κs. search needs)
+    (λ c. search needs)
+    (λ c. search needs)
     loop-again
     same-length
     returns)

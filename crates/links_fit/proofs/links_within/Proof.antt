@@ -1,5 +1,5 @@
 -- `links_fit::links_within`: every link below k leads from what is near to what is near.
-use Prim.Native.Nat.{_-_}
+use Prim.Native.Nat.{_-_, _<_}
 use native.Mathlib.Omega.{arith}
 use mathlib.Core.Path.{_≡_, _∙_, ap₂}
 use borrow.Author.Needs.{needs}
@@ -18,7 +18,14 @@ abbrev μ-loop : tie.MeasureT-loop
 μ-loop links near count k₀ k = count - k
 
 abbrev turn : tie.After-is-within Inv-loop μ-loop → tie.At-loop Inv-loop μ-loop
-turn c = c .before .before .before .before .before .before .before .before
+turn c = c .before .before .before .before .before
+
+-- both routers have a word
+ends : (c : tie.After-link-at Inv-loop μ-loop) → (c .link-at .result .from < 64) × (c .link-at .result .to < 64)
+ends c =
+    let u = c .before .before in
+    let below = u .before .before .pre (u .loop .k) (search needs) in
+    (omega (arith, below .0, c .link-at .ensures .from), omega (arith, below .1, c .link-at .ensures .to))
 
 -- the callee's answer, by the link's own routers
 answer : (c : tie.After-is-within Inv-loop μ-loop) →
@@ -27,8 +34,8 @@ answer : (c : tie.After-is-within Inv-loop μ-loop) →
     c .is-within .result ≡ within (getD (a .near .now) (linkFrom (a .links .now) k) 0) (getD (a .near .now) (linkTo (a .links .now) k) 0)
 answer c =
     let near = turn c .before .before .args .near .now in
-    let b = c .before .before .before in
-    c .is-within .ensures ∙ ap₂ (λ f g. within (getD near f 0) (getD near g 0)) (b .before .before .wide .ensures .0) (b .wide2 .ensures .0)
+    let link = c .before .before .before .link-at .ensures in
+    c .is-within .ensures ∙ ap₂ (λ f g. within (getD near f 0) (getD near g 0)) (link .from) (link .to)
 
 pub links-within-spec : {M : Type 1} → statement M
 unfolding linksWithin
@@ -38,21 +45,11 @@ links-within-spec =
     Inv-loop
     μ-loop
     (λ c. held-start _ _)
-    (λ c. search needs)
-    (λ c. search needs)
     (λ c κs. search needs)
-    (λ c. search needs)
-    (λ c. search needs)
-    (λ c. search needs)
-    (λ c κs. search needs)
-    (λ c. search needs)
-    (λ c.
-    let u = c .before .before .before .before .before in
-    omega (arith, u .before .before .pre (u .loop .k) (search needs), c .before .before .wide .ensures .0))
-    (λ c. search needs)
-    (λ c.
-    let u = c .before .before .before .before .before .before in
-    omega (arith, u .before .before .pre (u .loop .k) (search needs), c .before .wide2 .ensures .0))
+    (λ c. omega (arith, ends c))
+    (λ c. omega (arith, ends c))
+    (λ c. omega (arith, ends (c .before)))
+    (λ c. omega (arith, ends (c .before)))
     (λ c κs. search needs)
     (λ c.
     let u = turn (c .before) in

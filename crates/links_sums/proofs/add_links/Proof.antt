@@ -1,5 +1,5 @@
 -- `links_sums::add_links`: the words are those of the sums over no link and one of the first k.
-use Prim.Native.Nat.{_-_, _≤_}
+use Prim.Native.Nat.{_-_, _≤_, _<_}
 use native.Mathlib.Omega.{arith}
 use mathlib.Core.Path.{_≡_, refl}
 use borrow.Author.Needs.{needs}
@@ -18,28 +18,25 @@ Inv-loop links n words₀ count k₀ words k = HoldsSums (direct links k) n word
 abbrev μ-loop : tie.MeasureT-loop
 μ-loop links n words₀ count k₀ words k = count - k
 
-abbrev turn : tie.After-lower-arg Inv-loop μ-loop → tie.At-loop Inv-loop μ-loop
-turn c = c .before .before .before .before .before .before .before
+abbrev turn : tie.After-link-at Inv-loop μ-loop → tie.At-loop Inv-loop μ-loop
+turn c = c .before .before
 
 lower-requires : tie.Need-lower-requires Inv-loop μ-loop
 lower-requires c κs =
-    let sheet = sheet-facts _ _ (turn c .before .before .before .pre .1) in
-    let from = sheet .froms (turn c .loop .k) (search needs) in
-    let to = sheet .tos (turn c .loop .k) (search needs) in
-    let room = turn c .loop .inv .0 .room in
-    omega (arith, room, from, to, c .before .before .before .before .wide .ensures .0, c .before .before .wide2 .ensures .0)
+    let t = turn (c .before) in
+    let sheet = sheet-facts _ _ (t .before .before .before .pre .1) in
+    let link = c .before .link-at .ensures in
+    let l : t .loop .k < linkCount (t .before .before .before .args .links .now) = search needs in
+    omega (arith, t .loop .inv .0 .room, link .from, link .to, sheet .froms _ l, sheet .tos _ l)
 
 loop-again : tie.Need-loop-again Inv-loop μ-loop
 loop-again c =
-    let b = c .before .before .before in
-    let p = turn b .before .before .before .pre in (
-      direct-more _ (p .0) _ (sheet-facts _ _ (p .1)) _ _ (turn b .loop .k) _ _ _ (search needs)
-          (b .before .before .before .before .wide .ensures .0)
-          (b .before .before .wide2 .ensures .0)
-          (b .before .read2 .ensures .0)
-          (b .before .read2 .ensures .1)
-          (turn b .loop .inv .0)
-          (c .before .before .lower .ensures),
+    let b = c .before .before in
+    let t = turn (b .before .before) in
+    let p = t .before .before .before .pre in (
+      direct-more _ (p .0) _ (sheet-facts _ _ (p .1)) _ _ (t .loop .k) _ (search needs) (b .before .before .link-at .ensures) (search needs)
+          (t .loop .inv .0)
+          (b .lower .ensures),
       search needs,
       search needs,
     )
@@ -52,17 +49,7 @@ add-links-spec =
     Inv-loop
     μ-loop
     (λ c. (c .before .before .pre .2, search needs, refl))
-    (λ c. search needs)
-    (λ c. search needs)
     (λ c κs. search needs)
-    (λ c. search needs)
-    (λ c. search needs)
-    (λ c. search needs)
-    (λ c κs. search needs)
-    (λ c. search needs)
-    (λ c. search needs)
-    (λ c κs. search needs)
-    (λ c. search needs)
     lower-requires
     (λ c. search needs)
     (λ c. search needs)

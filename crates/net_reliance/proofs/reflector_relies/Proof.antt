@@ -10,7 +10,8 @@ use Rattle.route_rules.specs.Reliance.{offer, betterOffer}
 use Rattle.net_rules.specs.RouterBytes.{asRouter}
 use Rattle.net_rules.proofs.RouterBytes.{router-is}
 use Rattle.route_rules.proofs.Reliance.{bestClient-below, offer-below, relies-own, offer-stranger, offer-neighbour}
-use Rattle.route_explain_rules.proofs.Reasons.{own-way-to}
+use Rattle.route_explain_rules.specs.Reasons.{isYes}
+use Rattle.route_explain_rules.proofs.Reasons.{own-way-to, by-offer-says}
 use Rattle.net_reliance.proofs.reflector_relies.Statement.{statement}
 use Rattle.net_reliance.proofs.reflector_relies.Tie as tie
 
@@ -41,8 +42,8 @@ offer-is c =
     let d = e .before .before .before in
     c .offered .ensures (d .args .rows .now) (d .args .distances .now) (d .pre .4 (yes _ (e .before .has-bit .ensures) (e .if1 .left)))
 
-better-offer-requires : tie.Need-better-offer-requires
-better-offer-requires c κs =
+by-offer-requires : tie.Need-by-offer-requires
+by-offer-requires c κs =
     let d = c .before .before .before .before .before .before .before in
     let p = d .pre in (
       p .1,
@@ -54,11 +55,14 @@ better-offer-requires c κs =
 
 returns-3 : tie.Need-returns-3
 returns-3 c =
-    let g = c .before .before in
+    let said = c .before in
+    let g = said .before .before in
     let e = g .before .before .before in
     let d = e .before .before .before in
-    c .better-offer .ensures (instance d) (record { dist = refl; way = refl }) (rw (d .pre .3 .client) (own-way-to (instance d) _))
-    ∙ ap₂ (betterOffer (instance d) (d .args .w)) (offer-is (c .before)) (d .pre .3 .client)
+    c .says-yes .ensures
+    ∙ ap isYes (said .by-offer .ensures (instance d) (record { dist = refl; way = refl }) (rw (d .pre .3 .client) (own-way-to (instance d) _)))
+    ∙ by-offer-says (instance d) _ _ _
+    ∙ ap₂ (betterOffer (instance d) (d .args .w)) (offer-is (said .before)) (d .pre .3 .client)
     ∙ sym (offer-neighbour (instance d) _ _ (d .pre .3 .unlisted) (d .pre .3 .reflector) (yes _ (e .before .has-bit .ensures) (e .if1 .left)) (yes _ (g .before .has-bit2 .ensures) (g .if2 .left)))
 
 pub reflector-relies-spec : {M : Type 1} → statement M
@@ -73,5 +77,6 @@ reflector-relies-spec =
     (λ c κs. search needs)
     returns-2
     (λ c κs. search needs)
-    better-offer-requires
+    by-offer-requires
+    (λ c κs. search needs)
     returns-3)

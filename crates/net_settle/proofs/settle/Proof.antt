@@ -67,9 +67,6 @@ loop-again c =
     let d = l .before .before .before .before .before .before .before .before in
     (search needs, search needs, below-onward _ _ (d .pre .0 .falls) _ _ _ (l .loop .inv .2) _ _ (c .before .before .settle-rank .ensures))
 
-same-length : tie.Need-same-length Inv-loop μ-loop
-same-length c = search needs
-
 returns : tie.Need-returns Inv-loop μ-loop
 returns c =
     let l = c .before in
@@ -95,5 +92,5 @@ settle-spec =
     add-r
     (λ c. search needs)
     loop-again
-    same-length
+    (λ c. search needs)
     returns)

@@ -22,9 +22,6 @@ loop-holds c =
     let p = c .before .before .before .pre in
     (search needs, search needs, turn-start _ _ (p .0 .falls) _ _ (p .1))
 
-shared-slice-read-wide : tie.Need-shared-slice-read-wide Inv-loop μ-loop
-shared-slice-read-wide c = search needs
-
 activate-requires : tie.Need-activate-requires Inv-loop μ-loop
 activate-requires c κs =
     let l = c .before .before .before .before .before in
@@ -74,7 +71,7 @@ settle-rank-spec =
     Inv-loop
     μ-loop
     loop-holds
-    shared-slice-read-wide
+    (λ c. search needs)
     (λ c κs. search needs)
     activate-requires
     (λ c. search needs)

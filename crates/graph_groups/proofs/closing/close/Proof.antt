@@ -17,15 +17,6 @@ abbrev μ-loop : tie.MeasureT-loop
 loop-holds : tie.Need-loop-holds Inv-loop μ-loop
 loop-holds c = (search needs, closing-start _ _)
 
-pass-through-requires : tie.Need-pass-through-requires Inv-loop μ-loop
-pass-through-requires c κs = search needs
-
-add-k : tie.Need-add-k Inv-loop μ-loop
-add-k c = search needs
-
-loop-less : tie.Need-loop-less Inv-loop μ-loop
-loop-less c = search needs
-
 loop-again : tie.Need-loop-again Inv-loop μ-loop
 loop-again c = (search needs, closing-more _ _ _ _ (c .before .before .before .loop .k) (search needs) (c .before .before .before .loop .inv .1) (c .pass-through .ensures))
 
@@ -35,4 +26,4 @@ returns c = closing-done _ _ _ (c .before .loop .k) (c .before .loop .inv .0) (c
 pub close-spec : {M : Type 1} → statement M
 close-spec =
     tie.close
-    (tie.spec Inv-loop μ-loop loop-holds pass-through-requires add-k loop-less loop-again returns)
+    (tie.spec Inv-loop μ-loop loop-holds (λ c κs. search needs) (λ c. search needs) (λ c. search needs) loop-again returns)

@@ -32,12 +32,6 @@ cast-out c =
 slice-write-out : tie.Need-slice-write-out Inv-loop μ-loop
 slice-write-out c = omega (arith, write-room _ _ _ _ _ (c .before .before .loop .inv) (c .before .loop-test .taken))
 
-add-i : tie.Need-add-i Inv-loop μ-loop
-add-i c = search needs
-
-loop-less : tie.Need-loop-less Inv-loop μ-loop
-loop-less c = search needs
-
 loop-again : tie.Need-loop-again Inv-loop μ-loop
 loop-again c = write-more _ _ _ 0 _ _ _ (c .before .before .loop .inv) (c .before .loop-test .taken) (c .label-of .ensures)
 
@@ -57,8 +51,8 @@ labels-spec =
     label-of-requires
     cast-out
     slice-write-out
-    add-i
-    loop-less
+    (λ c. search needs)
+    (λ c. search needs)
     loop-again
     same-length
     returns)

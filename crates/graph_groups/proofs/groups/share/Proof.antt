@@ -8,28 +8,10 @@ use Rattle.graph_groups.proofs.groups.share.Tie as tie
 returns : tie.Need-returns
 returns c = share-self (c .before .args .closed .now) _ _ (c .if1 .taken)
 
-mul-bit : tie.Need-mul-bit
-mul-bit c = search needs
-
-element-copy-out-bit : tie.Need-element-copy-out-bit
-element-copy-out-bit c = search needs
-
-bit-requires : tie.Need-bit-requires
-bit-requires c κs = search needs
-
 returns-2 : tie.Need-returns-2
 returns-2 c =
     share-none (c .before .before .before .before .args .closed .now) _ _ (c .before .before .before .if1 .left)
     (sym (c .before .bit .ensures) ∙ c .if2 .taken)
-
-mul-bit-2 : tie.Need-mul-bit-2
-mul-bit-2 c = search needs
-
-element-copy-out-bit-2 : tie.Need-element-copy-out-bit-2
-element-copy-out-bit-2 c = search needs
-
-bit-requires-2 : tie.Need-bit-requires-2
-bit-requires-2 c κs = search needs
 
 returns-3 : tie.Need-returns-3
 returns-3 c =
@@ -43,11 +25,11 @@ share-spec =
     tie.close
     (tie.spec
     returns
-    mul-bit
-    element-copy-out-bit
-    bit-requires
+    (λ c. search needs)
+    (λ c. search needs)
+    (λ c κs. search needs)
     returns-2
-    mul-bit-2
-    element-copy-out-bit-2
-    bit-requires-2
+    (λ c. search needs)
+    (λ c. search needs)
+    (λ c κs. search needs)
     returns-3)
