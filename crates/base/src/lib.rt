@@ -19,7 +19,9 @@ pub fn read2(s: &[u8], at: usize) -> usize
     requires { ⌜ at + 2 ≤ length (now s) ⌝ }
     ensures { λ r. ⌜ (r ≡ littleEndian 2 (now (s .entry)) at) × (r < 65536) ⌝ }
 {
-    wide(s[at]) + 256 * wide(s[at + 1])
+    let low = wide(s[at]);
+    let high = wide(s[at + 1]);
+    low + 256 * high
 }
 
 // The four-byte number at `at`.
