@@ -6,11 +6,11 @@ use Rattle.route_rules.specs.Preference.{prefers, better, marginOf}
 use Rattle.route_rules.specs.Activation.{reflects, advertises, hears, senderOf, routeTo, choice, choose, entryOk, tableOk, activate, runActs}
 use Rattle.route_rules.specs.Rounds.{acted, roundsFrom, rounds, tallyAct, tallyActs}
 use Rattle.route_rules.specs.Reliance.{listedClientOf, bestClient, offer, betterOffer, relies}
-use Rattle.route_rules.specs.Examples.{among, neighbours, distances, sixWith, start, RoutingExamples}
+use Rattle.route_rules.specs.Examples.{among, network, neighbours, distances, sixWith, start, RoutingExamples}
 
 pub routing-examples : RoutingExamples
 unfolding
-    among neighbours distances sixWith start
+    among network neighbours distances sixWith start
     prefers better marginOf reflects advertises hears senderOf routeTo choice choose entryOk tableOk activate runActs
     acted roundsFrom rounds tallyAct tallyActs listedClientOf bestClient offer betterOffer relies
     allBelow anyBelow keepBest best
@@ -43,6 +43,8 @@ routing-examples =
       role3FromAReflector = refl;
       role3NotFromAThird = refl;
       role3AsTheSender = refl;
+      role3ToRole3 = refl;
+      role3FromRole3 = refl;
       role3AsTheHearer = refl;
       listedRole3AnnouncesItself = refl;
       listedAdvertisesItself = refl;
@@ -52,6 +54,10 @@ routing-examples =
       wayBackIsNotAsked = refl;
       listedReflectorNotHeard = refl;
       listedClientNotHeard = refl;
+      noWayToTheSender = refl;
+      clientsNoWayToTheSender = refl;
+      noWayToTheHearer = refl;
+      noWayToTheClient = refl;
       egressItselfIsTheSender = refl;
       lowestIsTheSender = refl;
       listedHoldsItsOwn = refl;
@@ -102,6 +108,8 @@ routing-examples =
       rule3ListedReflector = refl;
       rule3WithoutAWay = refl;
       rule3ListedReflectorWithoutAWay = refl;
+      rule3WithoutAWayToTheReflector = refl;
+      rule3BetterWithoutAWayToIt = refl;
       role3IsNoClient = refl;
       role3HasABestClient = refl;
       role3OffersItsClient = refl;

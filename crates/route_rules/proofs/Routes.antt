@@ -17,7 +17,7 @@ use Rattle.base.specs.Best.{best}
 use Rattle.base.proofs.Best.{StrictOrder, BestIs, IsBest, best-is, order-same, ltb-order}
 use Rattle.route_rules.specs.Instance.{Instance, Route, nothing, via, isRouter}
 use Rattle.route_rules.specs.Preference.{prefers}
-use Rattle.route_rules.specs.Activation.{reflects, advertises, Advertising, hears, senderOf, routeFrom, routeTo, choice, choose, held, entryOk, tableOk, activate, runActs}
+use Rattle.route_rules.specs.Activation.{reflects, advertises, Advertising, hears, Hearing, senderOf, routeFrom, routeTo, choice, choose, held, entryOk, tableOk, activate, runActs}
 use Rattle.route_rules.proofs.Preference.{prefers-order}
 
 pub isRouter-same : (v : ℕ) (o : Option ℕ) → isRouter v o ≡ true → o ≡ some v
@@ -129,6 +129,9 @@ module _ (I : Instance) where
     pub hears-intro : I .neighbour w v ≡ true → advertises I v (view v) w ≡ some e → I .way w e ≡ true → hears I view w v e ≡ true
     unfolding hears
     hears-intro h q m = cc (isRouter-some e)
+
+    pub hearing : Hearing I view w v e
+    hearing = record { heard = hears-intro; near = hears-neighbour; advertised = hears-told; way = hears-way }
 
 -- `tells v e`: the router v tells e. All routers are below n.
 module _ (prefer : ℕ → ℕ → Bool) (tells : ℕ → ℕ → Bool) (n : ℕ) where

@@ -65,6 +65,15 @@ pub record Advertising (I : Instance) (v : ℕ) : Type 0 where
 unfoldable pub hears : Instance → (ℕ → Route) → ℕ → ℕ → ℕ → Bool
 hears I view w v e = I .neighbour w v && isRouter e (advertises I v (view v) w) && I .way w e
 
+-- The same in plain facts: true exactly if v is a neighbour, advertises e to w, and w has a way to e. No way to v is asked for, and none
+-- from v. The theorem `hearing` says that they hold.
+pub record Hearing (I : Instance) (view : ℕ → Route) (w v e : ℕ) : Type 0 where
+  pub heard :
+      I .neighbour w v ≡ true → advertises I v (view v) w ≡ some e → I .way w e ≡ true → hears I view w v e ≡ true
+  pub near : hears I view w v e ≡ true → I .neighbour w v ≡ true
+  pub advertised : hears I view w v e ≡ true → advertises I v (view v) w ≡ some e
+  pub way : hears I view w v e ≡ true → I .way w e ≡ true
+
 -- "If one egress is heard from several neighbours, the egress router itself is the sender if it is one of them, else the lowest number."
 -- `tells v e` says that v tells e.
 unfoldable pub senderOf : (ℕ → ℕ → Bool) → ℕ → ℕ → Option ℕ

@@ -19,6 +19,20 @@ unfoldable pub among : List ℕ → ℕ → Bool
 among [] v = false
 among (x ∷ numbers) v = eqb x v || among numbers v
 
+-- a network given by literal lists: its reflectors, those of role 3 and the listed routers, and for each router its neighbours, its
+-- distances and the routers that it has no way to
+unfoldable pub network : (n : ℕ) (reflectors skipping listed : List ℕ) (neighbours distances cut : List (List ℕ)) → Instance
+network n reflectors skipping listed neighbours distances cut =
+    record {
+      n = n;
+      reflector = among reflectors;
+      skips = among skipping;
+      neighbour = λ w v. among (getD neighbours w []) v;
+      dist = λ w e. getD (getD distances w []) e 0;
+      way = λ w e. not (among (getD cut w []) e);
+      listed = among listed;
+    }
+
 -- the neighbours of each router
 unfoldable pub neighbours : List (List ℕ)
 neighbours =
@@ -44,16 +58,7 @@ distances =
 -- reflectors 0, 1, 2 and clients 3, 4, 5, with the given routers listed; `cut` has for each router those that it has no way to, and
 -- `skipping` the reflectors of role 3
 unfoldable pub sixWith : (cut : List (List ℕ)) (skipping listed : List ℕ) → Instance
-sixWith cut skipping listed =
-    record {
-      n = 6;
-      reflector = among (0 ∷ 1 ∷ 2 ∷ []);
-      skips = among skipping;
-      neighbour = λ w v. among (getD neighbours w []) v;
-      dist = λ w e. getD (getD distances w []) e 0;
-      way = λ w e. not (among (getD cut w []) e);
-      listed = among listed;
-    }
+sixWith cut skipping listed = network 6 (0 ∷ 1 ∷ 2 ∷ []) skipping listed neighbours distances cut
 
 abbrev pub six : (listed : List ℕ) → Instance
 six = sixWith [] []
@@ -66,6 +71,10 @@ cutSix = sixWith ((4 ∷ []) ∷ (5 ∷ []) ∷ (0 ∷ []) ∷ [] ∷ (2 ∷ [])
 -- reflector 1 has role 3: its clients are 4 and 5, of which 5 has a session with client 3 too
 abbrev pub skipSix : (listed : List ℕ) → Instance
 skipSix = sixWith [] (1 ∷ [])
+
+-- .. and so has reflector 0
+abbrev pub skipTwo : (listed : List ℕ) → Instance
+skipTwo = sixWith [] (0 ∷ 1 ∷ [])
 
 -- its lists
 abbrev pub clients34 : Instance
@@ -124,6 +133,8 @@ pub record RoutingExamples : Type 0 where
   pub role3FromAReflector : reflects (skipSix (4 ∷ [])) 1 (via 4 2) 5 ≡ some 4  -- to reflectors only, whoever told it: none
   pub role3NotFromAThird : reflects (skipSix (4 ∷ [])) 1 (via 4 2) 0 ≡ none  -- to reflectors, whoever told it: some 4
   pub role3AsTheSender : reflects (skipSix (4 ∷ [])) 2 (via 4 1) 0 ≡ none  -- role 3 taken for a client: some 4
+  pub role3ToRole3 : reflects (skipTwo (4 ∷ [])) 1 (via 4 4) 0 ≡ some 4  -- to reflectors of role 1 alone: none
+  pub role3FromRole3 : reflects (skipTwo (3 ∷ [])) 0 (via 3 3) 1 ≡ some 3  -- .. the other way
   pub role3AsTheHearer : reflects (skipSix (4 ∷ [])) 0 (via 4 2) 1 ≡ none  -- role 3 taken for a client: some 4
   pub listedRole3AnnouncesItself : advertises (skipSix (1 ∷ [])) 1 (via 1 1) 5 ≡ some 1  -- to reflectors only: none
   -- "A listed router holds its own route always and announces it to every neighbour. An unlisted client announces nothing."
@@ -136,6 +147,11 @@ pub record RoutingExamples : Type 0 where
   pub wayBackIsNotAsked : hears (cutSix (5 ∷ [])) (held start) 3 5 5 ≡ true  -- by the sender's ways: false
   pub listedReflectorNotHeard : hears (cutSix (0 ∷ [])) (held start) 2 0 0 ≡ false  -- a listed router always heard: true
   pub listedClientNotHeard : hears (cutSix (3 ∷ [])) (held start) 5 3 3 ≡ false  -- a listed router always heard: true
+  -- .. and that is all: reflector 2 has no way to 0, nor client 4 to 2, and each has one to 3
+  pub noWayToTheSender : hears (cutSix (3 ∷ [])) (held (via 3 3 ∷ [])) 2 0 3 ≡ true  -- a way to the sender asked for too: false
+  pub clientsNoWayToTheSender : hears (cutSix (3 ∷ [])) (held (nothing ∷ nothing ∷ via 3 0 ∷ [])) 4 2 3 ≡ true  -- .. by a client: false
+  pub noWayToTheHearer : advertises (cutSix (4 ∷ [])) 2 (via 4 4) 0 ≡ some 4  -- a way to the hearer asked for: none
+  pub noWayToTheClient : advertises (cutSix (4 ∷ [])) 1 (via 4 4) 5 ≡ some 4  -- .. to its client: none
   -- "the egress router itself is the sender if it is one of them, else the lowest number"
   pub egressItselfIsTheSender : senderOf (λ v e. among (1 ∷ 2 ∷ 4 ∷ []) v) 6 4 ≡ some 4  -- the lowest always: some 1
   pub lowestIsTheSender : senderOf (λ v e. among (1 ∷ 2 ∷ []) v) 6 4 ≡ some 1  -- the highest: some 2
@@ -205,6 +221,9 @@ pub record RoutingExamples : Type 0 where
   pub rule3ListedReflector : relies reflector1And34 0 1 ≡ false  -- the client of 1 as its offer: true
   pub rule3WithoutAWay : relies (cutSix (3 ∷ 4 ∷ [])) 0 1 ≡ false  -- no way as a distance: true
   pub rule3ListedReflectorWithoutAWay : relies (cutSix (0 ∷ [])) 2 0 ≡ false  -- a listed reflector's offer always counts: true
+  -- .. a way to the offer counts, and none to the reflector that offers is asked for: 2 has none to 0, which offers 3
+  pub rule3WithoutAWayToTheReflector : relies (cutSix (3 ∷ [])) 2 0 ≡ true  -- a way to the reflector asked for: false
+  pub rule3BetterWithoutAWayToIt : relies (cutSix (3 ∷ 4 ∷ [])) 2 0 ≡ true  -- .. beside an own best client: false
   -- "It is otherwise a reflector in every rule, and rule 2 of the reliances is unchanged for its clients."
   pub role3IsNoClient : bestClient (skipSix (1 ∷ [])) 0 ≡ none  -- role 3 taken for a client: some 1
   pub role3HasABestClient : bestClient (skipSix (4 ∷ 5 ∷ [])) 1 ≡ some 5  -- a client has none: none
