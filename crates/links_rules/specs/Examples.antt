@@ -45,6 +45,7 @@ pub record LinksExamples : Type 0 where
   pub loopBesides : Gives 2 (0 ∷ 0 ∷ 5 ∷ 0 ∷ 0 ∷ 1 ∷ 7 ∷ 0 ∷ 1 ∷ 0 ∷ 9 ∷ 0 ∷ []) eight 0 (0 ∷ 0 ∷ 7 ∷ 0 ∷ 9 ∷ 0 ∷ 0 ∷ 0 ∷ [])
   -- "An n outside 1 to 64 gives refusal 2."
   pub noRouter : Gives 0 [] eight 2 eight  -- from 0: 0
+  pub sixtyFour : Gives 64 (0 ∷ 1 ∷ 7 ∷ []) eight 11 eight  -- below 64: 2
   pub sixtyFive : Gives 65 (0 ∷ 1 ∷ 7 ∷ []) eight 2 eight  -- to 65, or 2 after 11: 11
   -- "each from, to (a byte each, below n) and weight (two bytes, 1 to 65,535), rising strictly by from and then to"
   pub fromAtN : Gives 1 (1 ∷ 0 ∷ 7 ∷ 0 ∷ []) eight 11 eight  -- at most n: 0
@@ -65,6 +66,11 @@ pub record LinksExamples : Type 0 where
   -- "so 12 is left for sums that are too large": "a least sum above 65,534"
   pub greatest : Gives 2 (0 ∷ 1 ∷ 254 ∷ 255 ∷ 1 ∷ 0 ∷ 9 ∷ 0 ∷ []) eight 0 (0 ∷ 0 ∷ 254 ∷ 255 ∷ 9 ∷ 0 ∷ 0 ∷ 0 ∷ [])  -- below 65,534: 12
   pub oneMore : Gives 2 (0 ∷ 1 ∷ 255 ∷ 255 ∷ 1 ∷ 0 ∷ 9 ∷ 0 ∷ []) eight 12 eight  -- any two bytes, or as no walk: 0
+  pub oneMoreBack : Gives 2 (0 ∷ 1 ∷ 9 ∷ 0 ∷ 1 ∷ 0 ∷ 255 ∷ 255 ∷ []) eight 12 eight  -- asked from the lower router alone: 0
+  -- 0 to 1 by 65,535, 0 to 2 by 1, 2 to 1 by 2
+  pub shorterWalk :
+      Gives 3 (0 ∷ 1 ∷ 255 ∷ 255 ∷ 0 ∷ 2 ∷ 1 ∷ 0 ∷ 2 ∷ 1 ∷ 2 ∷ 0 ∷ []) eighteen 0
+      (0 ∷ 0 ∷ 3 ∷ 0 ∷ 1 ∷ 0 ∷ 255 ∷ 255 ∷ 0 ∷ 0 ∷ 255 ∷ 255 ∷ 255 ∷ 255 ∷ 2 ∷ 0 ∷ 0 ∷ 0 ∷ [])  -- asked of each link's weight: 12
   -- 32,768 and 32,768
   pub sumAbove : Gives 3 (0 ∷ 1 ∷ 0 ∷ 128 ∷ 1 ∷ 2 ∷ 0 ∷ 128 ∷ 2 ∷ 0 ∷ 1 ∷ 0 ∷ []) eighteen 12 eighteen  -- in two bytes, as 0: 0
   -- beside pairs with no walk: a walk of 65,534, one of 65,535, and 32,768 and 32,768

@@ -38,6 +38,7 @@ bodies-examples =
       fiveOfRole3 = refl;
       fourAndAClient = refl;
       fiveOfAReflector = refl;
+      fiveOfARole3Reflector = refl;
       threeEach = refl;
       highByte = refl;
       rowThenColumn = refl;

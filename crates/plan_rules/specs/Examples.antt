@@ -55,6 +55,7 @@ pub record BodiesExamples : Type 0 where
   pub fiveOfRole3 : parentsOk (set aroundClient2 25 3) allWith2 6 ≡ false  -- reflectors of role 1 alone: true
   pub fourAndAClient : parentsOk (set aroundClient2 25 2) allWith2 6 ≡ true  -- clients counted too: false
   pub fiveOfAReflector : parentsOk (set aroundClient2 10 1) allWith2 6 ≡ true  -- reflectors held to it too: false
+  pub fiveOfARole3Reflector : parentsOk (set aroundClient2 10 3) allWith2 6 ≡ true  -- role 3 held to it too: false
   pub threeEach : parentsOk (set aroundClient2 15 2) (0 ∷ 2 ∷ 0 ∷ 3 ∷ 1 ∷ 2 ∷ 1 ∷ 3 ∷ 2 ∷ 4 ∷ 3 ∷ 5 ∷ []) 6 ≡ true  -- of all clients: false
   -- "row u, column e is the distance from u to e", two bytes, low byte first
   pub highByte : distanceIn (0 ∷ 0 ∷ 2 ∷ 1 ∷ 7 ∷ 0 ∷ 0 ∷ 0 ∷ []) 2 0 1 ≡ 258  -- by the low byte: 2
