@@ -3,6 +3,7 @@ use Rattle.base.specs.Below.{allBelow, anyBelow}
 use Rattle.base.specs.Best.{keepBest, best}
 use Rattle.base.specs.Seek.{seek, highest, count}
 use Rattle.base.specs.Tab.{tab, joined}
+use Rattle.plan_examples.specs.Plans.{fourRouters, smallPlan, M3Plan}
 use Rattle.plan_contents.specs.Header.{headerOk, routerCountOk}
 use Rattle.plan_contents.specs.Contents.{kindsOk, placesOk, sizesOk, contentsOk}
 use Rattle.plan_rules.specs.Routers.{routerOk, routersOk}
@@ -33,11 +34,11 @@ use Rattle.route_explain_rules.specs.Explained.{againstOwn, byOffer, onReflecto
 use Rattle.call_verdict.specs.Verdict.{isStable, labelsOf, ranksOf, highestOf, settledBytes, cycleOf, sizeOf}
 use Rattle.call_verdict.specs.Verdict.{labelsAfter, ranksAfter, tableAfter, cycleAfter}
 use Rattle.call_run.specs.Run.{runApplied, runRounds, runExhausted, runTable}
-use Rattle.c_rules.specs.Examples.{plan, twoRouters, ExportExamples}
+use Rattle.c_rules.specs.Examples.{twoRouters, ExportExamples}
 
 pub export-examples : ExportExamples
 unfolding
-    plan twoRouters egressListRefusal compareRefusal reliesRefusal whichBetter hasMargin marginNumber
+    fourRouters smallPlan M3Plan twoRouters egressListRefusal compareRefusal reliesRefusal whichBetter hasMargin marginNumber
     againstOwn byOffer onReflector onClient explained
     isStable labelsOf ranksOf highestOf settledBytes cycleOf sizeOf buffersOk verdictRefusal labelsAfter ranksAfter tableAfter cycleAfter
     tableChecks sequenceOk activateRefusal activateTable runRefusal runApplied runRounds runExhausted runTable

@@ -1,33 +1,14 @@
 -- The results that C sees, by example: whatever a call does that satisfies its export has these results, in literal bytes and numbers.
+-- `M3Plan` is that of document 01, "Small plans"; its lists are 2,3 and 3 and 0.
 use Prim.Native.Nat.{ℕ}
 use mathlib.Core.Path.{_≡_}
 use mathlib.Core.List.{List, [], _∷_}
 use lib.IntN.{ℤ, pos, negℤ}
 use Rattle.base.specs.Lent.{Lent}
+use Rattle.plan_examples.specs.Plans.{M3Plan}
 use Rattle.links_rules.specs.Distances.{DistancesCall}
 use Rattle.call_run.specs.Activate.{Activates}
 use Rattle.c_rules.specs.Exports.{SizeExport, ListExport, CompareExport, ReliesExport, ExplainExport, VerdictExport, RunExport}
-
--- Document 01, "Small plans", M3's distances: "Routers 0, 1 reflectors; 2, 3 clients; sessions 0-1, 0-2, 1-3; identifiers 10, 20, 30, 40.
--- Distances 0 to 2 and 1 to 3 are 10, p is 0 to 3, q is 1 to 2, other off-diagonal ones 30."; "p = q = 6". The lists are 2,3 and 3 and 0.
-unfoldable pub plan : List ℕ
-plan =
-    82 ∷ 82 ∷ 80 ∷ 49 ∷ 4 ∷ 4  -- the letters RRP1, n, the number of contents entries
-    ∷ 1 ∷ 26 ∷ 0 ∷ 20 ∷ 0  -- contents: kind, offset, length of the routers
-    ∷ 2 ∷ 46 ∷ 0 ∷ 6 ∷ 0  -- .. of the sessions
-    ∷ 3 ∷ 52 ∷ 0 ∷ 32 ∷ 0  -- .. of the distances
-    ∷ 4 ∷ 84 ∷ 0 ∷ 8 ∷ 0  -- .. of the lists
-    ∷ 1 ∷ 10 ∷ 0 ∷ 0 ∷ 0  -- router 0: role, identifier
-    ∷ 1 ∷ 20 ∷ 0 ∷ 0 ∷ 0
-    ∷ 2 ∷ 30 ∷ 0 ∷ 0 ∷ 0
-    ∷ 2 ∷ 40 ∷ 0 ∷ 0 ∷ 0
-    ∷ 0 ∷ 1 ∷ 0 ∷ 2 ∷ 1 ∷ 3  -- sessions
-    ∷ 0 ∷ 0 ∷ 30 ∷ 0 ∷ 10 ∷ 0 ∷ 6 ∷ 0  -- distances from 0
-    ∷ 30 ∷ 0 ∷ 0 ∷ 0 ∷ 6 ∷ 0 ∷ 10 ∷ 0
-    ∷ 30 ∷ 0 ∷ 30 ∷ 0 ∷ 0 ∷ 0 ∷ 30 ∷ 0
-    ∷ 30 ∷ 0 ∷ 30 ∷ 0 ∷ 30 ∷ 0 ∷ 0 ∷ 0
-    ∷ 3 ∷ 2 ∷ 2 ∷ 3 ∷ 1 ∷ 3 ∷ 1 ∷ 0  -- m; count and numbers of each list
-    ∷ []
 
 -- two clients without a session; no way from 0 to 1, and back it is 7
 unfoldable pub twoRouters : List ℕ
@@ -73,33 +54,33 @@ nineteen = 9 ∷ 9 ∷ 9 ∷ 9 ∷ 9 ∷ 9 ∷ 9 ∷ 9 ∷ 9 ∷ 9 ∷ 9 ∷ 9 �
 abbrev pub Explained : (k w v r : ℕ) (a b c d e : ℕ) (m : ℤ) → Type 0
 Explained k w v r a b c d e m =
     (returned : ℕ) (relied code offered hasOwn own : Lent ℕ) (margin : Lent ℤ)
-    → ExplainExport plan k w v returned relied code offered hasOwn own margin
+    → ExplainExport M3Plan k w v returned relied code offered hasOwn own margin
     → (returned ≡ r) × (relied .after ≡ a) × (code .after ≡ b) × (offered .after ≡ c) × (hasOwn .after ≡ d) × (own .after ≡ e)
     × (margin .after ≡ m)
 
 -- r is the number returned
 pub record ExportExamples : Type 0 where
   -- four routers, three lists
-  pub sized : (r : ℕ) (routers lists : Lent ℕ) → SizeExport plan r routers lists
+  pub sized : (r : ℕ) (routers lists : Lent ℕ) → SizeExport M3Plan r routers lists
       → (r ≡ 0) × (routers .after ≡ 4) × (lists .after ≡ 3)
   -- list 0 is bytes 86 and 87 of the plan, list 1 byte 89
-  pub firstList : (r : ℕ) (start count : Lent ℕ) → ListExport plan 0 r start count
+  pub firstList : (r : ℕ) (start count : Lent ℕ) → ListExport M3Plan 0 r start count
       → (r ≡ 0) × (start .after ≡ 86) × (count .after ≡ 2)
-  pub secondList : (r : ℕ) (start count : Lent ℕ) → ListExport plan 1 r start count
+  pub secondList : (r : ℕ) (start count : Lent ℕ) → ListExport M3Plan 1 r start count
       → (r ≡ 0) × (start .after ≡ 89) × (count .after ≡ 1)
   -- from router 0 it is 6 to router 3 and 10 to router 2
-  pub firstBetter : (r : ℕ) (better present : Lent ℕ) (margin : Lent ℤ) → CompareExport plan 0 3 2 r better present margin
+  pub firstBetter : (r : ℕ) (better present : Lent ℕ) (margin : Lent ℤ) → CompareExport M3Plan 0 3 2 r better present margin
       → (r ≡ 0) × (better .after ≡ 1) × (present .after ≡ 1) × (margin .after ≡ negℤ (pos 4))
-  pub secondBetter : (r : ℕ) (better present : Lent ℕ) (margin : Lent ℤ) → CompareExport plan 0 2 3 r better present margin
+  pub secondBetter : (r : ℕ) (better present : Lent ℕ) (margin : Lent ℤ) → CompareExport M3Plan 0 2 3 r better present margin
       → (r ≡ 0) × (better .after ≡ 2) × (present .after ≡ 1) × (margin .after ≡ pos 4)
-  pub neitherBetter : (r : ℕ) (better present : Lent ℕ) (margin : Lent ℤ) → CompareExport plan 0 3 3 r better present margin
+  pub neitherBetter : (r : ℕ) (better present : Lent ℕ) (margin : Lent ℤ) → CompareExport M3Plan 0 3 3 r better present margin
       → (r ≡ 0) × (better .after ≡ 0) × (present .after ≡ 1) × (margin .after ≡ pos 0)
   -- router 0 has a way to itself and none to router 1
   pub noMargin : (r : ℕ) (better present : Lent ℕ) (margin : Lent ℤ) → CompareExport twoRouters 0 0 1 r better present margin
       → (r ≡ 0) × (better .after ≡ 1) × (present .after ≡ 0) × (margin .after ≡ pos 0)
   -- for list 2,3 reflector 0 relies on its client 2, and 2, which is listed, on no one
-  pub relies : (r : ℕ) (relied : Lent ℕ) → ReliesExport plan 0 0 2 r relied → (r ≡ 0) × (relied .after ≡ 1)
-  pub reliesNot : (r : ℕ) (relied : Lent ℕ) → ReliesExport plan 0 2 0 r relied → (r ≡ 0) × (relied .after ≡ 0)
+  pub relies : (r : ℕ) (relied : Lent ℕ) → ReliesExport M3Plan 0 0 2 r relied → (r ≡ 0) × (relied .after ≡ 1)
+  pub reliesNot : (r : ℕ) (relied : Lent ℕ) → ReliesExport M3Plan 0 2 0 r relied → (r ≡ 0) × (relied .after ≡ 0)
   -- for list 2,3 reflector 0 relies on 1, whose offer 3 is better than its own best client 2 by 4, and on that client; 2 is listed
   pub betterOffer : Explained 0 0 1 0 1 4 3 1 2 (negℤ (pos 4))
   pub ownBestClient : Explained 0 0 2 0 1 3 0 0 0 (pos 0)
@@ -109,49 +90,49 @@ pub record ExportExamples : Type 0 where
   pub unlistedClient : Explained 1 0 2 0 0 4 0 0 0 (pos 0)
   -- there is no router 4
   pub refusedExplain : (r : ℕ) (relied code offered hasOwn own : Lent ℕ) (margin : Lent ℤ)
-      → ExplainExport plan 0 0 4 r relied code offered hasOwn own margin
+      → ExplainExport M3Plan 0 0 4 r relied code offered hasOwn own margin
       → (r ≡ 8) × (relied .after ≡ relied .before) × (code .after ≡ code .before) × (offered .after ≡ offered .before)
       × (hasOwn .after ≡ hasOwn .before) × (own .after ≡ own .before) × (margin .after ≡ margin .before)
   -- no bytes are no plan, there is no list 3 and no router 4: numbers 1 and 8, and each result variable is left as it was
   pub refusedSize : (r : ℕ) (routers lists : Lent ℕ) → SizeExport [] r routers lists
       → (r ≡ 1) × (routers .after ≡ routers .before) × (lists .after ≡ lists .before)
-  pub refusedList : (r : ℕ) (start count : Lent ℕ) → ListExport plan 3 r start count
+  pub refusedList : (r : ℕ) (start count : Lent ℕ) → ListExport M3Plan 3 r start count
       → (r ≡ 8) × (start .after ≡ start .before) × (count .after ≡ count .before)
-  pub refusedCompare : (r : ℕ) (better present : Lent ℕ) (margin : Lent ℤ) → CompareExport plan 0 2 4 r better present margin
+  pub refusedCompare : (r : ℕ) (better present : Lent ℕ) (margin : Lent ℤ) → CompareExport M3Plan 0 2 4 r better present margin
       → (r ≡ 8) × (better .after ≡ better .before) × (present .after ≡ present .before) × (margin .after ≡ margin .before)
-  pub refusedRelies : (r : ℕ) (relied : Lent ℕ) → ReliesExport plan 0 0 4 r relied → (r ≡ 8) × (relied .after ≡ relied .before)
+  pub refusedRelies : (r : ℕ) (relied : Lent ℕ) → ReliesExport M3Plan 0 0 4 r relied → (r ≡ 8) × (relied .after ≡ relied .before)
   -- list 2,3: suspect, a cycle of two routers, 0 and 1
   pub suspect : (r : ℕ) (labels ranks table cycle : List ℕ) (stable size : Lent ℕ)
-      → VerdictExport plan 0 r (from five labels) (from five ranks) (from nine table) (from five cycle) stable size
+      → VerdictExport M3Plan 0 r (from five labels) (from five ranks) (from nine table) (from five cycle) stable size
       → (r ≡ 0) × (stable .after ≡ 0) × (size .after ≡ 2)
       × (labels ≡ 0 ∷ 0 ∷ 2 ∷ 3 ∷ 9 ∷ []) × (ranks ≡ five) × (table ≡ nine) × (cycle ≡ 0 ∷ 1 ∷ 9 ∷ 9 ∷ 9 ∷ [])
   -- list 3: stable, highest rank 3
   pub stable : (r : ℕ) (labels ranks table cycle : List ℕ) (stable size : Lent ℕ)
-      → VerdictExport plan 1 r (from five labels) (from five ranks) (from nine table) (from five cycle) stable size
+      → VerdictExport M3Plan 1 r (from five labels) (from five ranks) (from nine table) (from five cycle) stable size
       → (r ≡ 0) × (stable .after ≡ 1) × (size .after ≡ 3)
       × (labels ≡ 0 ∷ 1 ∷ 2 ∷ 3 ∷ 9 ∷ []) × (ranks ≡ 2 ∷ 1 ∷ 3 ∷ 0 ∷ 9 ∷ [])
       × (table ≡ 3 ∷ 1 ∷ 3 ∷ 3 ∷ 3 ∷ 0 ∷ 3 ∷ 3 ∷ 9 ∷ []) × (cycle ≡ five)
   -- there is no list 3: number 8, and everything is left as it was
   pub refusedVerdict : (r : ℕ) (labels ranks table cycle : List ℕ) (stable size : Lent ℕ)
-      → VerdictExport plan 3 r (from five labels) (from five ranks) (from nine table) (from five cycle) stable size
+      → VerdictExport M3Plan 3 r (from five labels) (from five ranks) (from nine table) (from five cycle) stable size
       → (r ≡ 8) × (stable .after ≡ stable .before) × (size .after ≡ size .before)
       × (labels ≡ five) × (ranks ≡ five) × (table ≡ nine) × (cycle ≡ five)
   -- list 3: router 1 takes the route of its client 3
-  pub activated : (r : ℕ) (table : List ℕ) → Activates plan 1 1 fromNothing r table
+  pub activated : (r : ℕ) (table : List ℕ) → Activates M3Plan 1 1 fromNothing r table
       → (r ≡ 0) × (table ≡ 255 ∷ 255 ∷ 3 ∷ 3 ∷ 255 ∷ 255 ∷ 3 ∷ 3 ∷ 9 ∷ [])
   -- five activations of eight: one round ends among them, router 2 is not activated again, and the limit cuts the sequence short
   pub limited : (r : ℕ) (table : List ℕ) (applied rounds exhausted : Lent ℕ)
-      → RunExport plan 1 sequence 5 r (from fromNothing table) applied rounds exhausted
+      → RunExport M3Plan 1 sequence 5 r (from fromNothing table) applied rounds exhausted
       → (r ≡ 0) × (table ≡ 3 ∷ 1 ∷ 3 ∷ 3 ∷ 255 ∷ 255 ∷ 3 ∷ 3 ∷ 9 ∷ [])
       × (applied .after ≡ 5) × (rounds .after ≡ 1) × (exhausted .after ≡ 1)
   -- a limit above the sequence's length: all eight activations, two rounds
   pub unlimited : (r : ℕ) (table : List ℕ) (applied rounds exhausted : Lent ℕ)
-      → RunExport plan 1 sequence 9 r (from fromNothing table) applied rounds exhausted
+      → RunExport M3Plan 1 sequence 9 r (from fromNothing table) applied rounds exhausted
       → (r ≡ 0) × (table ≡ 3 ∷ 1 ∷ 3 ∷ 3 ∷ 3 ∷ 0 ∷ 3 ∷ 3 ∷ 9 ∷ [])
       × (applied .after ≡ 8) × (rounds .after ≡ 2) × (exhausted .after ≡ 0)
   -- for list 2,3 router 2 does not hold its own route in that table: number 10, and everything is left as it was
   pub refusedRun : (r : ℕ) (table : List ℕ) (applied rounds exhausted : Lent ℕ)
-      → RunExport plan 0 sequence 5 r (from fromNothing table) applied rounds exhausted
+      → RunExport M3Plan 0 sequence 5 r (from fromNothing table) applied rounds exhausted
       → (r ≡ 10) × (table ≡ fromNothing)
       × (applied .after ≡ applied .before) × (rounds .after ≡ rounds .before) × (exhausted .after ≡ exhausted .before)
   -- distances 0 1 3, 262 0 2 and 260 261 0, in two bytes each

@@ -1,6 +1,6 @@
 -- The examples, worked out from the definitions that the contracts cite.
 use mathlib.Core.Path.{refl}
-use Rattle.net_rules.specs.Examples.{threeRouters}
+use Rattle.plan_examples.specs.Plans.{threeRouters}
 use Rattle.route_rules.specs.Preference.{prefers, better, marginOf}
 use Rattle.call_compare.specs.Compare.{whichBetter, hasMargin, marginNumber, preferredOf, compared}
 use Rattle.call_compare.specs.Examples.{CompareExamples}

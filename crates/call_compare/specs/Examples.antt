@@ -1,9 +1,9 @@
--- Examples that tell what a comparison returns from a misreading of it, on the plan of three routers and two lists that network's
--- examples give in literal bytes. Beside each stands what a misreading gives.
+-- Examples that tell what a comparison returns from a misreading of it, on the plan of three routers and two lists that crate
+-- plan_examples gives in literal bytes. Beside each stands what a misreading gives.
 use mathlib.Core.Path.{_≡_}
 use mathlib.Core.Bool.{true, false}
 use lib.IntN.{pos, negℤ}
-use Rattle.net_rules.specs.Examples.{threeRouters}
+use Rattle.plan_examples.specs.Plans.{threeRouters}
 use Rattle.call_compare.specs.declared.compare.Preferred.the-variants.{First, Second, Neither}
 use Rattle.call_compare.specs.declared.compare.Margin.the-variants.{Absent, Of}
 use Rattle.call_compare.specs.declared.compare.CompareAnswer.the-variants.{Compared}

@@ -1,8 +1,8 @@
--- Examples that tell what the calls return from a misreading of it, on the plan of three routers and two lists that network's
--- examples give in literal bytes. Beside each stands what a misreading gives.
+-- Examples that tell what the calls return from a misreading of it, on the plan of three routers and two lists that crate plan_examples
+-- gives in literal bytes. Beside each stands what a misreading gives.
 use mathlib.Core.Path.{_≡_}
 use mathlib.Core.Bool.{true}
-use Rattle.net_rules.specs.Examples.{threeRouters}
+use Rattle.plan_examples.specs.Plans.{threeRouters}
 use Rattle.call_query.specs.declared.relies.ReliesAnswer.the-variants.{Yes, No}
 use Rattle.call_query.specs.Size.{sizeRouters, sizeLists}
 use Rattle.call_query.specs.EgressList.{egressListStart, egressListSize}

@@ -12,7 +12,7 @@ use Rattle.plan_rules.specs.Distances.{distancesOk}
 use Rattle.plan_rules.specs.Lists.{listPlace, memberOk, listAtOk, listOk, eachListOk, listsOk}
 use Rattle.plan_rules.specs.Refusal.{refuse, bodyChecks, planChecks}
 use Rattle.net_rules.specs.FromPlan.{named}
-use Rattle.net_rules.specs.Examples.{threeRouters}
+use Rattle.plan_examples.specs.Plans.{threeRouters}
 use Rattle.route_rules.specs.Activation.{entryOk, tableOk}
 use Rattle.net_tables.specs.TableBytes.{readRoute, tableOf}
 use Rattle.call_rules.specs.Refusals.{sequenceOk, egressListRefusal, compareRefusal, reliesRefusal, buffersOk, verdictRefusal, tableChecks, activateRefusal, runRefusal}

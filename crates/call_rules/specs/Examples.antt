@@ -1,9 +1,9 @@
 -- Examples that tell rows 8 to 10 of the refusal table from a misreading of them, on the plan of three routers and two lists that
--- network's examples give in literal bytes. Beside each stands what a misreading gives.
+-- crate plan_examples gives in literal bytes. Beside each stands what a misreading gives.
 use Prim.Native.Nat.{ℕ}
 use mathlib.Core.Path.{_≡_}
 use mathlib.Core.List.{List, [], _∷_}
-use Rattle.net_rules.specs.Examples.{threeRouters}
+use Rattle.plan_examples.specs.Plans.{threeRouters}
 use Rattle.call_rules.specs.Refusals.{egressListRefusal, compareRefusal, reliesRefusal, verdictRefusal, activateRefusal, runRefusal}
 
 -- tables for list 0: one that obeys its rule, one in which 2 holds a route from 0, which is not its neighbour, and one of 5 bytes

@@ -1,10 +1,10 @@
 -- Examples that tell what an activation and a run return and leave from a misreading of it, on the plan of three routers and two lists
--- that network's examples give in literal bytes. Beside each stands what a misreading gives.
+-- that crate plan_examples gives in literal bytes. Beside each stands what a misreading gives.
 use Prim.Native.Nat.{ℕ}
 use mathlib.Core.Path.{_≡_}
 use mathlib.Core.Bool.{true, false}
 use mathlib.Core.List.{List, [], _∷_}
-use Rattle.net_rules.specs.Examples.{threeRouters}
+use Rattle.plan_examples.specs.Plans.{threeRouters}
 use Rattle.call_run.specs.Activate.{activateTable}
 use Rattle.call_run.specs.Run.{runApplied, runRounds, runExhausted, runTable}
 

@@ -1,3 +1,4 @@
+pub mod Answered
 pub mod Questions
 pub mod SmallPlans
 pub mod TellingExamples
@@ -5,3 +6,4 @@ pub mod CutOffExamples
 pub mod MarginExamples
 pub mod SkippingExamples
 pub mod ParentsExamples
+pub mod ExplainExamples

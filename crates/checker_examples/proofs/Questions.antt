@@ -25,6 +25,7 @@ use Rattle.graph_cycle.specs.Cycle.{start, next, walk, metAgainAt, metFirstAt, 
 use Rattle.route_theorems.specs.Settled.{chooseAll, chosenAfter, settledTable}
 use Rattle.net_tables.specs.TableBytes.{readRoute, tableOf, tableBytes, activateBytes, runBytes}
 use Rattle.call_rules.specs.Refusals.{sequenceOk, egressListRefusal, compareRefusal, reliesRefusal, buffersOk, verdictRefusal, tableChecks, activateRefusal, runRefusal}
+use Rattle.route_explain_rules.specs.Explained.{againstOwn, byOffer, onReflector, onClient, explained}
 use Rattle.call_query.specs.Size.{sizeRouters, sizeLists}
 use Rattle.call_query.specs.EgressList.{egressListStart, egressListSize}
 use Rattle.call_compare.specs.Compare.{whichBetter, hasMargin, marginNumber, preferredOf, compared}
@@ -37,7 +38,7 @@ use Rattle.checker_examples.specs.Questions.{Question, Answer, answerTo}
 -- to unfold this is to unfold them all
 unfoldable pub allRules : List ℕ → Question → Answer
 unfolding
-    answerTo
+    answerTo againstOwn byOffer onReflector onClient explained
     planRefusal egressListRefusal compareRefusal reliesRefusal verdictRefusal activateRefusal runRefusal
     sizeRouters sizeLists egressListStart egressListSize whichBetter hasMargin marginNumber preferredOf compared relied
     isStable labelsOf ranksOf highestOf settledBytes cycleOf verdictOf verdictAnswer labelsAfter ranksAfter tableAfter cycleAfter

@@ -1,66 +1,46 @@
 -- Examples that tell the rules of document 02, "Cut-off routers", from a misreading of them, in literal bytes and numbers: M3's plan of
--- document 01 with a distance or two of 65,535, which is no way. After "Misread" stands the answer that a misreading gives.
+-- document 01 with a distance or two of 65,535, which is no way; its lists are 2,3 and 3 and 0. After "Misread" stands the answer that a
+-- misreading gives.
 use Prim.Native.Nat.{ℕ}
 use mathlib.Core.Bool.{false}
-use mathlib.Core.List.{List, [], _∷_, _++_}
+use mathlib.Core.List.{List, [], _∷_}
 use lib.IntN.{pos}
+use Rattle.plan_examples.specs.Plans.{fourRouters, smallFrom0, smallFrom1, smallFrom2, smallFrom3, smallLists}
 use Rattle.call_compare.specs.declared.compare.Preferred.the-variants.{First, Second, Neither}
 use Rattle.call_compare.specs.declared.compare.Margin.the-variants.{Absent}
 use Rattle.call_compare.specs.declared.compare.CompareAnswer.the-variants.{Compared}
 use Rattle.call_query.specs.declared.relies.ReliesAnswer.the-variants.{Yes, No}
 use Rattle.checker_examples.specs.Questions.{checkAsked, compareAsked, reliesAsked, activateAsked}
 use Rattle.checker_examples.specs.Questions.{Answer, checkIs, compareIs, reliesIs, activateIs, Example, example, Hold}
-use Rattle.checker_examples.specs.SmallPlans.{verdictOn, stableIs}
-
--- Routers 0, 1 reflectors; 2, 3 clients; sessions 0-1, 0-2, 1-3; the given distances from each. The lists are 2,3 and 3 and 0.
-unfoldable pub fourRouters : (from0 from1 from2 from3 : List ℕ) → List ℕ
-fourRouters from0 from1 from2 from3 =
-    (82 ∷ 82 ∷ 80 ∷ 49 ∷ 4 ∷ 4
-    ∷ 1 ∷ 26 ∷ 0 ∷ 20 ∷ 0
-    ∷ 2 ∷ 46 ∷ 0 ∷ 6 ∷ 0
-    ∷ 3 ∷ 52 ∷ 0 ∷ 32 ∷ 0
-    ∷ 4 ∷ 84 ∷ 0 ∷ 8 ∷ 0
-    ∷ 1 ∷ 10 ∷ 0 ∷ 0 ∷ 0 ∷ 1 ∷ 20 ∷ 0 ∷ 0 ∷ 0 ∷ 2 ∷ 30 ∷ 0 ∷ 0 ∷ 0 ∷ 2 ∷ 40 ∷ 0 ∷ 0 ∷ 0
-    ∷ 0 ∷ 1 ∷ 0 ∷ 2 ∷ 1 ∷ 3
-    ∷ [])
-    ++ from0 ++ from1 ++ from2 ++ from3
-    ++ (3 ∷ 2 ∷ 2 ∷ 3 ∷ 1 ∷ 3 ∷ 1 ∷ 0 ∷ [])
-
--- M3's distances from each
-abbrev pub m3From0 : List ℕ
-m3From0 = 0 ∷ 0 ∷ 30 ∷ 0 ∷ 10 ∷ 0 ∷ 6 ∷ 0 ∷ []
-
-abbrev pub m3From1 : List ℕ
-m3From1 = 30 ∷ 0 ∷ 0 ∷ 0 ∷ 6 ∷ 0 ∷ 10 ∷ 0 ∷ []
-
-abbrev pub m3From2 : List ℕ
-m3From2 = 30 ∷ 0 ∷ 30 ∷ 0 ∷ 0 ∷ 0 ∷ 30 ∷ 0 ∷ []
-
-abbrev pub m3From3 : List ℕ
-m3From3 = 30 ∷ 0 ∷ 30 ∷ 0 ∷ 30 ∷ 0 ∷ 0 ∷ 0 ∷ []
+use Rattle.checker_examples.specs.SmallPlans.{verdictOn, stableIs, suspectIs}
 
 -- no way from 0 to 3
 unfoldable pub zeroCutOff : List ℕ
-zeroCutOff = fourRouters (0 ∷ 0 ∷ 30 ∷ 0 ∷ 10 ∷ 0 ∷ 255 ∷ 255 ∷ []) m3From1 m3From2 m3From3
+zeroCutOff = fourRouters (0 ∷ 0 ∷ 30 ∷ 0 ∷ 10 ∷ 0 ∷ 255 ∷ 255 ∷ []) (smallFrom1 6) smallFrom2 smallFrom3 smallLists
 
 -- no way from 1 to 3, its client
 unfoldable pub oneCutOff : List ℕ
-oneCutOff = fourRouters m3From0 (30 ∷ 0 ∷ 0 ∷ 0 ∷ 6 ∷ 0 ∷ 255 ∷ 255 ∷ []) m3From2 m3From3
+oneCutOff = fourRouters (smallFrom0 6) (30 ∷ 0 ∷ 0 ∷ 0 ∷ 6 ∷ 0 ∷ 255 ∷ 255 ∷ []) smallFrom2 smallFrom3 smallLists
 
 -- no way from 1 to 0, the other reflector
 unfoldable pub reflectorCutOff : List ℕ
-reflectorCutOff = fourRouters m3From0 (255 ∷ 255 ∷ 0 ∷ 0 ∷ 6 ∷ 0 ∷ 10 ∷ 0 ∷ []) m3From2 m3From3
+reflectorCutOff = fourRouters (smallFrom0 6) (255 ∷ 255 ∷ 0 ∷ 0 ∷ 6 ∷ 0 ∷ 10 ∷ 0 ∷ []) smallFrom2 smallFrom3 smallLists
+
+-- no way from 0 to 1, the other reflector
+unfoldable pub senderCutOff : List ℕ
+senderCutOff = fourRouters (0 ∷ 0 ∷ 255 ∷ 255 ∷ 10 ∷ 0 ∷ 6 ∷ 0 ∷ []) (smallFrom1 6) smallFrom2 smallFrom3 smallLists
 
 -- no way from 2 to any other router, and none from 3 to 0 and to 1
 unfoldable pub clientsCutOff : List ℕ
 clientsCutOff =
-    fourRouters m3From0 m3From1
+    fourRouters (smallFrom0 6) (smallFrom1 6)
     (255 ∷ 255 ∷ 255 ∷ 255 ∷ 0 ∷ 0 ∷ 255 ∷ 255 ∷ [])
     (255 ∷ 255 ∷ 255 ∷ 255 ∷ 30 ∷ 0 ∷ 0 ∷ 0 ∷ [])
+    smallLists
 
 -- 65,535 from 3 to itself
 unfoldable pub diagonalCutOff : List ℕ
-diagonalCutOff = fourRouters m3From0 m3From1 m3From2 (30 ∷ 0 ∷ 30 ∷ 0 ∷ 30 ∷ 0 ∷ 255 ∷ 255 ∷ [])
+diagonalCutOff = fourRouters (smallFrom0 6) (smallFrom1 6) smallFrom2 (30 ∷ 0 ∷ 30 ∷ 0 ∷ 30 ∷ 0 ∷ 255 ∷ 255 ∷ []) smallLists
 
 -- a comparison where there is a way to the first alone, to the second alone, to neither: there is no margin
 abbrev pub firstAlone : Answer
@@ -143,12 +123,50 @@ leftOverIsDropped =
     example oneCutOff (activateAsked 1 1 (255 ∷ 255 ∷ 3 ∷ 3 ∷ 255 ∷ 255 ∷ 3 ∷ 3 ∷ []))
     (activateIs 0 (255 ∷ 255 ∷ 255 ∷ 255 ∷ 255 ∷ 255 ∷ 3 ∷ 3 ∷ []))
 
+-- .. and no more is asked for: 1 tells 0 what it has from its client 3, and 0 has a way to 3 and none to 1. Misread with a way to the
+-- sender asked for too: 255 255.
+abbrev pub noWayToTheSender : Example
+noWayToTheSender =
+    example senderCutOff (activateAsked 1 0 (255 ∷ 255 ∷ 3 ∷ 3 ∷ 255 ∷ 255 ∷ 3 ∷ 3 ∷ []))
+    (activateIs 0 (3 ∷ 1 ∷ 3 ∷ 3 ∷ 255 ∷ 255 ∷ 3 ∷ 3 ∷ []))
+
+-- .. nor a way back: 1 has none to 0, nor, below, to its client 3, which it tells the route to 0 all the same. Misread with a way to the
+-- hearer asked for: 255 255.
+abbrev pub noWayToTheHearer : Example
+noWayToTheHearer =
+    example reflectorCutOff (activateAsked 1 0 (255 ∷ 255 ∷ 3 ∷ 3 ∷ 255 ∷ 255 ∷ 3 ∷ 3 ∷ []))
+    (activateIs 0 (3 ∷ 1 ∷ 3 ∷ 3 ∷ 255 ∷ 255 ∷ 3 ∷ 3 ∷ []))
+
+abbrev pub noWayToTheClient : Example
+noWayToTheClient =
+    example oneCutOff (activateAsked 2 3 (0 ∷ 0 ∷ 0 ∷ 0 ∷ 0 ∷ 0 ∷ 255 ∷ 255 ∷ []))
+    (activateIs 0 (0 ∷ 0 ∷ 0 ∷ 0 ∷ 0 ∷ 0 ∷ 0 ∷ 1 ∷ []))
+
+-- "does not make a reflector relied on" is said of the offered route alone: 1 offers 3. Misread with a way to the offering reflector asked
+-- for: No.
+abbrev pub noWayToTheReflector : Example
+noWayToTheReflector = example senderCutOff (reliesAsked 1 0 1) (reliesIs Yes)
+
+-- .. also where the offer is better than an own best client, 2. Misread: No.
+abbrev pub betterWithoutAWayToIt : Example
+betterWithoutAWayToIt = example senderCutOff (reliesAsked 0 0 1) (reliesIs Yes)
+
+-- so M3's cycle is there, and for list 3 all hold 3. Misread with a way to the sender or to the reflector asked for: stable; 0 and 2 hold
+-- nothing.
+abbrev pub cycleDespiteTheCut : Example
+cycleDespiteTheCut = example senderCutOff (verdictOn 0) suspectIs
+
+abbrev pub settledDespiteTheCut : Example
+settledDespiteTheCut =
+    example senderCutOff (verdictOn 1) (stableIs 3 (2 ∷ 1 ∷ 3 ∷ 0 ∷ []) (3 ∷ 1 ∷ 3 ∷ 3 ∷ 3 ∷ 0 ∷ 3 ∷ 3 ∷ []))
+
 unfoldable pub cutOffExamples : List Example
 cutOffExamples =
     cutIsRead ∷ cutFromItself ∷ wayBeatsNone ∷ neitherHasAWay ∷ offerWithoutAWay ∷ listedOfferWithoutAWay
     ∷ clientWithoutAWay ∷ rule2Unaffected ∷ rule2UnaffectedByTheList ∷ cycleCut ∷ nothingOffered ∷ clientEndsWithNothing
-    ∷ listedNeighbourNotHeard ∷ leftOverWithoutAWay ∷ leftOverIsDropped ∷ []
+    ∷ listedNeighbourNotHeard ∷ leftOverWithoutAWay ∷ leftOverIsDropped ∷ noWayToTheSender ∷ noWayToTheHearer ∷ noWayToTheClient
+    ∷ noWayToTheReflector ∷ betterWithoutAWayToIt ∷ cycleDespiteTheCut ∷ settledDespiteTheCut ∷ []
 
--- The definitions give each entry's answer.
+-- The calls give each entry's answer.
 abbrev pub CutOffExamplesHold : Type 0
 CutOffExamplesHold = Hold cutOffExamples

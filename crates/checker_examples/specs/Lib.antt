@@ -5,3 +5,4 @@ pub mod CutOffExamples
 pub mod MarginExamples
 pub mod SkippingExamples
 pub mod ParentsExamples
+pub mod ExplainExamples

@@ -136,6 +136,6 @@ marginExamples =
     least ∷ greatest ∷ zeroByTheNumber ∷ zeroByTheNumberExchanged ∷ zeroOfOneRoute ∷ noWayToTheFirst ∷ noWayToTheSecond ∷ noWayToEither
     ∷ noWayToOneTwice ∷ refusedComparison ∷ minusFour ∷ relianceByFour ∷ cycleOfFour ∷ zeroInTens ∷ stableInTens ∷ []
 
--- The definitions give each entry's answer.
+-- The calls give each entry's answer.
 abbrev pub MarginExamplesHold : Type 0
 MarginExamplesHold = Hold marginExamples

@@ -20,6 +20,10 @@ around role =
     ++ replicate 72 0
     ++ (1 ∷ 1 ∷ 2 ∷ [])  -- m; list 0: count, number
 
+-- .. with the given role for router 2
+unfoldable pub inTheMiddle : (role : ℕ) → List ℕ
+inTheMiddle role = set (around 1) 36 role
+
 -- .. with the first session 0-2 as 0-0; with the first distance, from 0 to itself, as 1; with 0 for m
 unfoldable pub sessionBroken : List ℕ
 sessionBroken = set (around 1) 57 0
@@ -41,6 +45,14 @@ fiveWithRole3 = example (around 3) checkAsked (checkIs 13)
 abbrev pub fourAreRead : Example
 fourAreRead = example (around 2) checkAsked (checkIs 0)
 
+-- "if a client has five or more": router 2 as a reflector, of role 3 and of role 1, has five such neighbours. Misread with role 3 held to
+-- it too: 13; with every router: 13.
+abbrev pub role3WithFive : Example
+role3WithFive = example (inTheMiddle 3) checkAsked (checkIs 0)
+
+abbrev pub role1WithFive : Example
+role1WithFive = example (inTheMiddle 1) checkAsked (checkIs 0)
+
 -- "after 5 and before 6". Misread with 13 before 5: 13; after 6: 6; after 7: 7.
 abbrev pub fiveBeforeThirteen : Example
 fiveBeforeThirteen = example sessionBroken checkAsked (checkIs 5)
@@ -58,8 +70,9 @@ thirteenBeforeEight = example (around 1) (activateAsked 0 6 (255 ∷ [])) (activ
 
 unfoldable pub parentsExamples : List Example
 parentsExamples =
-    fiveAreRefused ∷ fiveWithRole3 ∷ fourAreRead ∷ fiveBeforeThirteen ∷ thirteenBeforeSix ∷ thirteenBeforeSeven ∷ thirteenBeforeEight ∷ []
+    fiveAreRefused ∷ fiveWithRole3 ∷ fourAreRead ∷ role3WithFive ∷ role1WithFive ∷ fiveBeforeThirteen ∷ thirteenBeforeSix
+    ∷ thirteenBeforeSeven ∷ thirteenBeforeEight ∷ []
 
--- The definitions give each entry's answer.
+-- The calls give each entry's answer.
 abbrev pub ParentsExamplesHold : Type 0
 ParentsExamplesHold = Hold parentsExamples

@@ -8,17 +8,17 @@ use Rattle.call_verdict.specs.declared.verdict.VerdictAnswer.the-variants.{Stab
 use Rattle.checker_examples.specs.Questions.{Question, checkAsked, reliesAsked, verdictAsked, activateAsked, runAsked}
 use Rattle.checker_examples.specs.Questions.{Answer, checkIs, reliesIs, verdictIs, activateIs, runIs, Example, example, Hold}
 
--- Router 0 of the given role with clients 2, 3 and 4, and reflector 1 with client 5; the reflectors have a session, and so have clients 3
--- and 4. Client 2 is in no mesh. The lists are 3 and 5 and 0, then 0,5 and 3,5 and 2,3.
-unfoldable pub twoSites : (role : ℕ) → List ℕ
-twoSites role =
+-- Routers 0 and 1 of the given roles, 0 with clients 2, 3 and 4, and 1 with client 5; the two have a session, and so have clients 3 and 4.
+-- Client 2 is in no mesh. The lists are 3 and 5 and 0, then 0,5 and 3,5 and 2,3.
+unfoldable pub twoSites : (role₀ role₁ : ℕ) → List ℕ
+twoSites role₀ role₁ =
     82 ∷ 82 ∷ 80 ∷ 49 ∷ 6 ∷ 4  -- the letters RRP1, n, the number of contents entries
     ∷ 1 ∷ 26 ∷ 0 ∷ 30 ∷ 0  -- contents: kind, offset, length of the routers
     ∷ 2 ∷ 56 ∷ 0 ∷ 12 ∷ 0  -- .. of the sessions
     ∷ 3 ∷ 68 ∷ 0 ∷ 72 ∷ 0  -- .. of the distances
     ∷ 4 ∷ 140 ∷ 0 ∷ 16 ∷ 0  -- .. of the lists
-    ∷ role ∷ 10 ∷ 0 ∷ 0 ∷ 0  -- router 0: role, identifier
-    ∷ 1 ∷ 20 ∷ 0 ∷ 0 ∷ 0
+    ∷ role₀ ∷ 10 ∷ 0 ∷ 0 ∷ 0  -- router 0: role, identifier
+    ∷ role₁ ∷ 20 ∷ 0 ∷ 0 ∷ 0
     ∷ 2 ∷ 30 ∷ 0 ∷ 0 ∷ 0 ∷ 2 ∷ 40 ∷ 0 ∷ 0 ∷ 0 ∷ 2 ∷ 50 ∷ 0 ∷ 0 ∷ 0 ∷ 2 ∷ 60 ∷ 0 ∷ 0 ∷ 0
     ∷ 0 ∷ 1 ∷ 0 ∷ 2 ∷ 0 ∷ 3 ∷ 0 ∷ 4 ∷ 1 ∷ 5 ∷ 3 ∷ 4  -- sessions
     ∷ 0 ∷ 0 ∷ 30 ∷ 0 ∷ 5 ∷ 0 ∷ 10 ∷ 0 ∷ 30 ∷ 0 ∷ 6 ∷ 0  -- distances from 0
@@ -30,9 +30,12 @@ twoSites role =
     ∷ 6 ∷ 1 ∷ 3 ∷ 1 ∷ 5 ∷ 1 ∷ 0 ∷ 2 ∷ 0 ∷ 5 ∷ 2 ∷ 3 ∷ 5 ∷ 2 ∷ 2 ∷ 3  -- m; count and numbers of each list
     ∷ []
 
--- with role 3 for router 0
+-- with role 3 for router 0, and for both
 unfoldable pub skipping : List ℕ
-skipping = twoSites 3
+skipping = twoSites 3 1
+
+unfoldable pub bothSkipping : List ℕ
+bothSkipping = twoSites 3 3
 
 -- six bytes as they are lent, and twelve
 abbrev pub lent6 : List ℕ
@@ -54,7 +57,7 @@ abbrev pub role3IsRead : Example
 role3IsRead = example skipping checkAsked (checkIs 0)
 
 abbrev pub role4IsRefused : Example
-role4IsRefused = example (twoSites 4) checkAsked (checkIs 4)
+role4IsRefused = example (twoSites 4 1) checkAsked (checkIs 4)
 
 -- "what it hears from a client it announces to reflectors only": 3 is listed, 1 holds 3 from 0, and 5 from 1. "A client with no mesh
 -- around it may end with nothing; its entry in the settled table is then 255 255": that of 2. The mesh brings 4 the route from 3. Misread
@@ -67,7 +70,7 @@ endsWithNothing =
 -- .. and with role 1 instead: the ranks are the same, and 2 holds 3 from 0. Misread with every reflector as role 3: 255 255.
 abbrev pub role1TellsItsClients : Example
 role1TellsItsClients =
-    example (twoSites 1) (verdictOnSix 0)
+    example (twoSites 1 1) (verdictOnSix 0)
     (stableSix 3 (1 ∷ 2 ∷ 2 ∷ 0 ∷ 2 ∷ 3 ∷ []) (3 ∷ 3 ∷ 3 ∷ 0 ∷ 3 ∷ 0 ∷ 3 ∷ 3 ∷ 3 ∷ 3 ∷ 3 ∷ 1 ∷ []))
 
 -- "It is otherwise a reflector in every rule": 5 is listed, 0 has its route from reflector 1 and announces it to its clients. Misread with
@@ -130,6 +133,18 @@ leftOverFromAReflector =
     example skipping (activateAsked 1 2 (3 ∷ 1 ∷ 255 ∷ 255 ∷ 255 ∷ 255 ∷ 255 ∷ 255 ∷ 255 ∷ 255 ∷ 5 ∷ 5 ∷ []))
     (activateIs 0 (3 ∷ 1 ∷ 255 ∷ 255 ∷ 3 ∷ 0 ∷ 255 ∷ 255 ∷ 255 ∷ 255 ∷ 5 ∷ 5 ∷ []))
 
+-- .. and 1 has role 3 too: "to reflectors only" is to those of every role. Misread as to role 1 alone: 1 holds 5 from 5.
+abbrev pub role3ToRole3 : Example
+role3ToRole3 =
+    example bothSkipping (activateAsked 1 1 (3 ∷ 3 ∷ 255 ∷ 255 ∷ 255 ∷ 255 ∷ 255 ∷ 255 ∷ 255 ∷ 255 ∷ 5 ∷ 5 ∷ []))
+    (activateIs 0 (3 ∷ 3 ∷ 3 ∷ 0 ∷ 255 ∷ 255 ∷ 255 ∷ 255 ∷ 255 ∷ 255 ∷ 5 ∷ 5 ∷ []))
+
+-- .. and in the settled table, where 5 has 3 from 1, which has it from a reflector. Misread as to role 1 alone: 1 and 5 hold nothing.
+abbrev pub bothOfRole3 : Example
+bothOfRole3 =
+    example bothSkipping (verdictOnSix 0)
+    (stableSix 3 (1 ∷ 2 ∷ 2 ∷ 0 ∷ 2 ∷ 3 ∷ []) (3 ∷ 3 ∷ 3 ∷ 0 ∷ 255 ∷ 255 ∷ 3 ∷ 3 ∷ 3 ∷ 3 ∷ 3 ∷ 1 ∷ []))
+
 -- "plans with role 3 settle in the same count of rounds": the highest rank is 3, and five rounds flush what was left over from role 1.
 -- Misread with role 3 telling its clients: 2 holds 3 from 0.
 abbrev pub leftOverIsFlushed : Example
@@ -145,8 +160,8 @@ unfoldable pub skippingExamples : List Example
 skippingExamples =
     role3IsRead ∷ role4IsRefused ∷ endsWithNothing ∷ role1TellsItsClients ∷ toldByAReflector ∷ listedItself ∷ cycleThroughRole3
     ∷ rule2OnRole3 ∷ rule3OnRole3 ∷ rule3OfRole3 ∷ offerOfRole3 ∷ role3IsNoBestClient ∷ leftOverFromAClient ∷ leftOverToAReflector
-    ∷ leftOverFromAReflector ∷ leftOverIsFlushed ∷ []
+    ∷ leftOverFromAReflector ∷ role3ToRole3 ∷ bothOfRole3 ∷ leftOverIsFlushed ∷ []
 
--- The definitions give each entry's answer.
+-- The calls give each entry's answer.
 abbrev pub SkippingExamplesHold : Type 0
 SkippingExamplesHold = Hold skippingExamples

@@ -1,30 +1,10 @@
--- Document 01, "Small plans": the cases M1 to M9 as entries of one list, in literal bytes and numbers.
+-- Document 01, "Small plans": the cases M1 to M9 as entries of one list, in literal bytes and numbers. Crate plan_examples has the plans.
 use Prim.Native.Nat.{ℕ}
 use mathlib.Core.Bool.{false}
 use mathlib.Core.List.{List, [], _∷_}
+use Rattle.plan_examples.specs.Plans.{smallPlan, smallLists, M3Plan}
 use Rattle.call_verdict.specs.declared.verdict.VerdictAnswer.the-variants.{Stable, Suspect}
 use Rattle.checker_examples.specs.Questions.{Question, verdictAsked, runAsked, Answer, verdictIs, runIs, Example, example, Hold}
-
--- "Routers 0, 1 reflectors; 2, 3 clients; sessions 0-1, 0-2, 1-3; identifiers 10, 20, 30, 40. Distances 0 to 2 and 1 to 3 are 10,
--- p is 0 to 3, q is 1 to 2, other off-diagonal ones 30." Lists 0, 1, 2 of the plan are list 2,3, list 3 and list 0 of the cases.
-unfoldable pub smallPlan : (p q : ℕ) → List ℕ
-smallPlan p q =
-    82 ∷ 82 ∷ 80 ∷ 49 ∷ 4 ∷ 4  -- the letters RRP1, n, the number of contents entries
-    ∷ 1 ∷ 26 ∷ 0 ∷ 20 ∷ 0  -- contents: kind, offset, length of the routers
-    ∷ 2 ∷ 46 ∷ 0 ∷ 6 ∷ 0  -- .. of the sessions
-    ∷ 3 ∷ 52 ∷ 0 ∷ 32 ∷ 0  -- .. of the distances
-    ∷ 4 ∷ 84 ∷ 0 ∷ 8 ∷ 0  -- .. of the lists
-    ∷ 1 ∷ 10 ∷ 0 ∷ 0 ∷ 0  -- router 0: role, identifier
-    ∷ 1 ∷ 20 ∷ 0 ∷ 0 ∷ 0
-    ∷ 2 ∷ 30 ∷ 0 ∷ 0 ∷ 0
-    ∷ 2 ∷ 40 ∷ 0 ∷ 0 ∷ 0
-    ∷ 0 ∷ 1 ∷ 0 ∷ 2 ∷ 1 ∷ 3  -- sessions
-    ∷ 0 ∷ 0 ∷ 30 ∷ 0 ∷ 10 ∷ 0 ∷ p ∷ 0  -- distances from 0
-    ∷ 30 ∷ 0 ∷ 0 ∷ 0 ∷ q ∷ 0 ∷ 10 ∷ 0
-    ∷ 30 ∷ 0 ∷ 30 ∷ 0 ∷ 0 ∷ 0 ∷ 30 ∷ 0
-    ∷ 30 ∷ 0 ∷ 30 ∷ 0 ∷ 30 ∷ 0 ∷ 0 ∷ 0
-    ∷ 3 ∷ 2 ∷ 2 ∷ 3 ∷ 1 ∷ 3 ∷ 1 ∷ 0  -- m; count and numbers of each list
-    ∷ []
 
 -- the verdict of list k, with as many bytes lent as the call needs, all 255
 abbrev pub verdictOn : (k : ℕ) → Question
@@ -53,43 +33,43 @@ oneRound table = runIs 0 4 1 false table
 
 -- "M1 (M1 to M5 have list 2,3): p = q = 14: stable, ranks 1 1 0 0, each holds the near client."
 unfoldable pub M1 : Example
-M1 = example (smallPlan 14 14) (verdictOn 0) (stableIs 1 (1 ∷ 1 ∷ 0 ∷ 0 ∷ []) (2 ∷ 2 ∷ 3 ∷ 3 ∷ 2 ∷ 2 ∷ 3 ∷ 3 ∷ []))
+M1 = example (smallPlan 14 14 smallLists) (verdictOn 0) (stableIs 1 (1 ∷ 1 ∷ 0 ∷ 0 ∷ []) (2 ∷ 2 ∷ 3 ∷ 3 ∷ 2 ∷ 2 ∷ 3 ∷ 3 ∷ []))
 
 -- "M2: p = 6, q = 14: ranks 2 1 0 0; router 0 holds 3 from 1."
 unfoldable pub M2 : Example
-M2 = example (smallPlan 6 14) (verdictOn 0) (stableIs 2 (2 ∷ 1 ∷ 0 ∷ 0 ∷ []) (3 ∷ 1 ∷ 3 ∷ 3 ∷ 2 ∷ 2 ∷ 3 ∷ 3 ∷ []))
+M2 = example (smallPlan 6 14 smallLists) (verdictOn 0) (stableIs 2 (2 ∷ 1 ∷ 0 ∷ 0 ∷ []) (3 ∷ 1 ∷ 3 ∷ 3 ∷ 2 ∷ 2 ∷ 3 ∷ 3 ∷ []))
 
 -- "M3: p = q = 6: suspect, labels 0 0 2 3, ring 0 1."
 unfoldable pub M3 : Example
-M3 = example (smallPlan 6 6) (verdictOn 0) suspectIs
+M3 = example M3Plan (verdictOn 0) suspectIs
 
 -- "M4: p = q = 10: ranks 1 2 0 0; router 1 holds 2 from 0."
 unfoldable pub M4 : Example
-M4 = example (smallPlan 10 10) (verdictOn 0) (stableIs 2 (1 ∷ 2 ∷ 0 ∷ 0 ∷ []) (2 ∷ 2 ∷ 2 ∷ 0 ∷ 2 ∷ 2 ∷ 3 ∷ 3 ∷ []))
+M4 = example (smallPlan 10 10 smallLists) (verdictOn 0) (stableIs 2 (1 ∷ 2 ∷ 0 ∷ 0 ∷ []) (2 ∷ 2 ∷ 2 ∷ 0 ∷ 2 ∷ 2 ∷ 3 ∷ 3 ∷ []))
 
 -- "M5: p = 9, q = 10: suspect, ring 0 1."
 unfoldable pub M5 : Example
-M5 = example (smallPlan 9 10) (verdictOn 0) suspectIs
+M5 = example (smallPlan 9 10 smallLists) (verdictOn 0) suspectIs
 
 -- "M6: M3's distances, list 3: ranks 2 1 3 0; router 2 holds 3 from 0."
 unfoldable pub M6 : Example
-M6 = example (smallPlan 6 6) (verdictOn 1) (stableIs 3 (2 ∷ 1 ∷ 3 ∷ 0 ∷ []) (3 ∷ 1 ∷ 3 ∷ 3 ∷ 3 ∷ 0 ∷ 3 ∷ 3 ∷ []))
+M6 = example M3Plan (verdictOn 1) (stableIs 3 (2 ∷ 1 ∷ 3 ∷ 0 ∷ []) (3 ∷ 1 ∷ 3 ∷ 3 ∷ 3 ∷ 0 ∷ 3 ∷ 3 ∷ []))
 
 -- "M7: M3's distances, list 0: ranks 0 1 1 2; router 3 holds 0 from 1."
 unfoldable pub M7 : Example
-M7 = example (smallPlan 6 6) (verdictOn 2) (stableIs 2 (0 ∷ 1 ∷ 1 ∷ 2 ∷ []) (0 ∷ 0 ∷ 0 ∷ 0 ∷ 0 ∷ 0 ∷ 0 ∷ 1 ∷ []))
+M7 = example M3Plan (verdictOn 2) (stableIs 2 (0 ∷ 1 ∷ 1 ∷ 2 ∷ []) (0 ∷ 0 ∷ 0 ∷ 0 ∷ 0 ∷ 0 ∷ 0 ∷ 1 ∷ []))
 
 -- "M8: M3's plan, list 2,3, unlisted hold nothing, acts 0 1 2 3: router 0 holds 2 from 2, 1 holds 2 from 0; one round."
 unfoldable pub M8 : Example
-M8 = example (smallPlan 6 6) (runOf (0 ∷ 1 ∷ 2 ∷ 3 ∷ [])) (oneRound (2 ∷ 2 ∷ 2 ∷ 0 ∷ 2 ∷ 2 ∷ 3 ∷ 3 ∷ []))
+M8 = example M3Plan (runOf (0 ∷ 1 ∷ 2 ∷ 3 ∷ [])) (oneRound (2 ∷ 2 ∷ 2 ∷ 0 ∷ 2 ∷ 2 ∷ 3 ∷ 3 ∷ []))
 
 -- "M9: the same, acts 1 0 2 3: 1 holds 3 from 3, 0 holds 3 from 1."
 unfoldable pub M9 : Example
-M9 = example (smallPlan 6 6) (runOf (1 ∷ 0 ∷ 2 ∷ 3 ∷ [])) (oneRound (3 ∷ 1 ∷ 3 ∷ 3 ∷ 2 ∷ 2 ∷ 3 ∷ 3 ∷ []))
+M9 = example M3Plan (runOf (1 ∷ 0 ∷ 2 ∷ 3 ∷ [])) (oneRound (3 ∷ 1 ∷ 3 ∷ 3 ∷ 2 ∷ 2 ∷ 3 ∷ 3 ∷ []))
 
 unfoldable pub smallPlans : List Example
 smallPlans = M1 ∷ M2 ∷ M3 ∷ M4 ∷ M5 ∷ M6 ∷ M7 ∷ M8 ∷ M9 ∷ []
 
--- The definitions give each entry's answer.
+-- The calls give each entry's answer.
 abbrev pub SmallPlansHold : Type 0
 SmallPlansHold = Hold smallPlans

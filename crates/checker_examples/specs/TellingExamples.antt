@@ -5,6 +5,7 @@ use mathlib.Core.Bool.{true, false}
 use mathlib.Core.List.{List, [], _∷_, _++_}
 use lib.ListN.{replicate}
 use lib.IntN.{ℤ, pos, negℤ}
+use Rattle.plan_examples.specs.Plans.{firstOfTwelve}
 use Rattle.call_compare.specs.declared.compare.Preferred.the-variants.{First, Second, Neither}
 use Rattle.call_compare.specs.declared.compare.Margin.the-variants.{Of}
 use Rattle.call_compare.specs.declared.compare.CompareAnswer.the-variants.{Compared}
@@ -63,15 +64,11 @@ sixFalling =
     ∷ 2 ∷ 9 ∷ 0 ∷ 0 ∷ 0
     ∷ [])
 
--- Twelve clients, no session, every distance 0. The distances have 32 + 256 bytes, and the lists start at 118 + 256.
+-- Twelve clients, no session, every distance 0.
 unfoldable pub twelve : List ℕ
 twelve =
-    (82 ∷ 82 ∷ 80 ∷ 49 ∷ 12 ∷ 4
-    ∷ 1 ∷ 26 ∷ 0 ∷ 60 ∷ 0
-    ∷ 2 ∷ 86 ∷ 0 ∷ 0 ∷ 0
-    ∷ 3 ∷ 86 ∷ 0 ∷ 32 ∷ 1
-    ∷ 4 ∷ 118 ∷ 1 ∷ 3 ∷ 0
-    ∷ 2 ∷ 1 ∷ 0 ∷ 0 ∷ 0 ∷ 2 ∷ 2 ∷ 0 ∷ 0 ∷ 0 ∷ 2 ∷ 3 ∷ 0 ∷ 0 ∷ 0 ∷ 2 ∷ 4 ∷ 0 ∷ 0 ∷ 0
+    firstOfTwelve
+    ++ (2 ∷ 1 ∷ 0 ∷ 0 ∷ 0 ∷ 2 ∷ 2 ∷ 0 ∷ 0 ∷ 0 ∷ 2 ∷ 3 ∷ 0 ∷ 0 ∷ 0 ∷ 2 ∷ 4 ∷ 0 ∷ 0 ∷ 0
     ∷ 2 ∷ 5 ∷ 0 ∷ 0 ∷ 0 ∷ 2 ∷ 6 ∷ 0 ∷ 0 ∷ 0 ∷ 2 ∷ 7 ∷ 0 ∷ 0 ∷ 0 ∷ 2 ∷ 8 ∷ 0 ∷ 0 ∷ 0
     ∷ 2 ∷ 9 ∷ 0 ∷ 0 ∷ 0 ∷ 2 ∷ 10 ∷ 0 ∷ 0 ∷ 0 ∷ 2 ∷ 11 ∷ 0 ∷ 0 ∷ 0 ∷ 2 ∷ 12 ∷ 0 ∷ 0 ∷ 0
     ∷ [])
@@ -232,6 +229,6 @@ tellingExamples =
     ∷ sharedClientIsNotBetter ∷ listedReflectorOffersItself ∷ reliesOnAListedClient ∷ notBackToItsClient ∷ toAReflectorToo
     ∷ egressThenSender ∷ strangerAsSender ∷ routerAtN ∷ limitBelowTheLength ∷ limitAboveTheLength ∷ cycleByTheLowest ∷ []
 
--- The definitions give each entry's answer.
+-- The calls give each entry's answer.
 abbrev pub TellingExamplesHold : Type 0
 TellingExamplesHold = Hold tellingExamples

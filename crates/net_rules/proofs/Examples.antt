@@ -1,11 +1,12 @@
 -- The examples, worked out from the bytes.
 use mathlib.Core.Path.{refl}
 use Rattle.base.specs.Below.{anyBelow}
+use Rattle.plan_examples.specs.Plans.{threeRouters}
 use Rattle.plan_rules.specs.Sessions.{pairs, inSession}
 use Rattle.plan_rules.specs.Lists.{listPlace}
 use Rattle.net_rules.specs.FromPlan.{named}
 use Rattle.net_rules.specs.RouterBytes.{asRouter}
-use Rattle.net_rules.specs.Examples.{threeRouters, NetworkExamples}
+use Rattle.net_rules.specs.Examples.{NetworkExamples}
 
 pub network-examples : NetworkExamples
 unfolding threeRouters pairs inSession named listPlace anyBelow asRouter
@@ -22,6 +23,10 @@ network-examples =
       strangers = refl;
       distance = refl;
       distanceBack = refl;
+      noWay = refl;
+      wayBack = refl;
+      otherWays = refl;
+      longWay = refl;
       listed = refl;
       notByPosition = refl;
       ofTheListAsked = refl;

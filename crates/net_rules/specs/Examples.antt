@@ -1,34 +1,15 @@
--- Examples that tell the network of a plan from a misreading of its bytes, in literal bytes. Beside each stands what a misreading
--- gives.
+-- Examples that tell the network of a plan from a misreading of its bytes, on the plan of three routers and two lists that crate
+-- plan_examples gives in literal bytes. Beside each stands what a misreading gives.
 use Prim.Native.Nat.{ℕ}
 use mathlib.Core.Path.{_≡_}
 use mathlib.Core.Bool.{true, false}
 use mathlib.Core.Option.{none, some}
 use mathlib.Core.List.{List, [], _∷_}
 use lib.ListN.{set}
+use Rattle.plan_examples.specs.Plans.{threeRouters}
 use Rattle.route_rules.specs.Instance.{Instance}
 use Rattle.net_rules.specs.FromPlan.{instanceOf}
 use Rattle.net_rules.specs.RouterBytes.{asRouter}
-
--- reflector 0, clients 1 and 2
-unfoldable pub threeRouters : List ℕ
-threeRouters =
-    82 ∷ 82 ∷ 80 ∷ 49 ∷ 3 ∷ 4  -- the letters RRP1, n, the number of contents entries
-    ∷ 1 ∷ 26 ∷ 0 ∷ 15 ∷ 0  -- contents: kind, offset, length of the routers
-    ∷ 2 ∷ 41 ∷ 0 ∷ 4 ∷ 0  -- .. of the sessions
-    ∷ 3 ∷ 45 ∷ 0 ∷ 18 ∷ 0  -- .. of the distances
-    ∷ 4 ∷ 63 ∷ 0 ∷ 6 ∷ 0  -- .. of the lists
-    ∷ 1 ∷ 10 ∷ 0 ∷ 0 ∷ 0  -- router 0: role, identifier
-    ∷ 2 ∷ 20 ∷ 0 ∷ 0 ∷ 0
-    ∷ 2 ∷ 30 ∷ 0 ∷ 0 ∷ 0
-    ∷ 0 ∷ 1 ∷ 1 ∷ 2  -- sessions
-    ∷ 0 ∷ 0 ∷ 5 ∷ 0 ∷ 2 ∷ 1  -- distances from 0: that to 2 is 258
-    ∷ 7 ∷ 0 ∷ 0 ∷ 0 ∷ 9 ∷ 0
-    ∷ 3 ∷ 0 ∷ 4 ∷ 0 ∷ 0 ∷ 0
-    ∷ 2  -- m
-    ∷ 1 ∷ 1  -- list 0: count, number
-    ∷ 2 ∷ 1 ∷ 2  -- list 1
-    ∷ []
 
 -- the plan with each of its lists
 abbrev pub withList0 : Instance
@@ -40,6 +21,13 @@ withList1 = instanceOf threeRouters 1
 -- .. and with role 3 for router 0, in byte 26
 abbrev pub withRole3 : Instance
 withRole3 = instanceOf (set threeRouters 26 3) 0
+
+-- .. and with 65,535 from 0 to 2, in bytes 49 and 50; with 65,534
+abbrev pub withNoWay : Instance
+withNoWay = instanceOf (set (set threeRouters 49 255) 50 255) 0
+
+abbrev pub withALongWay : Instance
+withALongWay = instanceOf (set (set threeRouters 49 254) 50 255) 0
 
 pub record NetworkExamples : Type 0 where
   -- "n, the number of routers"
@@ -58,6 +46,11 @@ pub record NetworkExamples : Type 0 where
   -- "row u, column e is the distance from u to e", "It need not equal the distance back."
   pub distance : withList0 .dist 0 2 ≡ 258  -- the distance back: 3
   pub distanceBack : withList0 .dist 2 0 ≡ 3  -- the distance there: 258
+  -- "The distance 65,535 off the diagonal now means 'no way'"
+  pub noWay : withNoWay .way 0 2 ≡ false  -- a very long way: true
+  pub wayBack : withNoWay .way 2 0 ≡ true  -- by the distance back, or cut off both ways: false
+  pub otherWays : withNoWay .way 0 1 ≡ true  -- a router cut off from all: false
+  pub longWay : withALongWay .way 0 2 ≡ true  -- from 65,534 on: false
   -- "c router numbers", of the list asked for
   pub listed : withList0 .listed 1 ≡ true
   pub notByPosition : withList0 .listed 0 ≡ false  -- by its place in the list: true

@@ -1,11 +1,12 @@
 -- The examples, worked out from the rules.
 use mathlib.Core.Path.{refl}
+use Rattle.plan_examples.specs.Plans.{firstOfTwelve}
 use Rattle.plan_contents.specs.Header.{headerOk, routerCountOk}
 use Rattle.plan_contents.specs.Contents.{kindsOk, placesOk, sizesOk, contentsOk}
-use Rattle.plan_contents.specs.Examples.{firstBytes, otherCount, otherLetter, oneByteShort, entriesOf, fourEntries, ContentsExamples}
+use Rattle.plan_contents.specs.Examples.{otherCount, otherLetter, oneByteShort, entriesOf, fourEntries, ContentsExamples}
 
 pub contents-examples : ContentsExamples
-unfolding firstBytes otherCount otherLetter oneByteShort entriesOf fourEntries headerOk routerCountOk kindsOk placesOk sizesOk contentsOk
+unfolding firstOfTwelve otherCount otherLetter oneByteShort entriesOf fourEntries headerOk routerCountOk kindsOk placesOk sizesOk contentsOk
 contents-examples =
     record {
       header = refl;

@@ -5,21 +5,12 @@ use mathlib.Core.Path.{_≡_}
 use mathlib.Core.Bool.{true, false}
 use mathlib.Core.List.{List, [], _∷_}
 use lib.ListN.{replicate}
+use Rattle.plan_examples.specs.Plans.{firstOfTwelve}
 use Rattle.plan_contents.specs.declared.entries.Entry.{Entry}
 use Rattle.plan_contents.specs.Header.{headerOk, routerCount, routerCountOk}
 use Rattle.plan_contents.specs.Contents.{contentsOf, contentsOk, body}
 
--- the first 26 bytes of a plan of twelve routers with no session: "kind (1 byte), offset (2), length (2)"
-unfoldable pub firstBytes : List ℕ
-firstBytes =
-    82 ∷ 82 ∷ 80 ∷ 49 ∷ 12 ∷ 4
-    ∷ 1 ∷ 26 ∷ 0 ∷ 60 ∷ 0
-    ∷ 2 ∷ 86 ∷ 0 ∷ 0 ∷ 0
-    ∷ 3 ∷ 86 ∷ 0 ∷ 32 ∷ 1
-    ∷ 4 ∷ 118 ∷ 1 ∷ 3 ∷ 0
-    ∷ []
-
--- .. with another byte 5
+-- the first 26 bytes of a plan of twelve routers, `firstOfTwelve`, with another byte 5
 unfoldable pub otherCount : List ℕ
 otherCount = 82 ∷ 82 ∷ 80 ∷ 49 ∷ 12 ∷ 5 ∷ replicate 20 0
 
@@ -51,17 +42,17 @@ fourEntries distancesSize listsOffset =
 
 pub record ContentsExamples : Type 0 where
   -- "bytes 0 to 3: the letters RRP1", "byte 5: 4", "fewer than 26"
-  pub header : headerOk firstBytes ≡ true
+  pub header : headerOk firstOfTwelve ≡ true
   pub anotherCount : headerOk otherCount ≡ false  -- without byte 5: true
   pub anotherLetter : headerOk otherLetter ≡ false  -- without byte 3: true
   pub tooShort : headerOk oneByteShort ≡ false  -- from 25 bytes: true
   -- "byte 4: n, the number of routers, 1 to 64"
-  pub count : routerCount firstBytes ≡ 12  -- byte 5: 4
+  pub count : routerCount firstOfTwelve ≡ 12  -- byte 5: 4
   pub sixtyFour : routerCountOk 64 ≡ true  -- below 64: false
   pub sixtyFive : routerCountOk 65 ≡ false  -- at most 65: true
   pub noRouter : routerCountOk 0 ≡ false  -- from 0: true
   -- "bytes 6 to 25: four entries of kind (1 byte), offset (2), length (2)", "the low byte first": 118 + 256 and 32 + 256
-  pub highBytes : contentsOf firstBytes ≡ fourEntries 288 374  -- by the low bytes: 32, 118
+  pub highBytes : contentsOf firstOfTwelve ≡ fourEntries 288 374  -- by the low bytes: 32, 118
   -- "The first offset is 26, each next offset is the end of the body before, and the last body ends with the plan."
   pub accepted : contentsOk (fourEntries 288 374) 12 377 ≡ true
   pub byLowBytes : contentsOk (fourEntries 32 118) 12 377 ≡ false

@@ -1,20 +1,17 @@
--- The examples, worked out from the definitions that the contract cites.
+-- The examples, worked out from the rules.
 use mathlib.Core.Path.{refl}
-use Rattle.base.specs.Below.{anyBelow}
 use Rattle.base.specs.Best.{keepBest, best}
-use Rattle.plan_rules.specs.Sessions.{pairs, inSession}
-use Rattle.plan_rules.specs.Lists.{listPlace}
-use Rattle.net_rules.specs.FromPlan.{named}
 use Rattle.route_rules.specs.Preference.{prefers, marginOf}
 use Rattle.route_rules.specs.Reliance.{listedClientOf, bestClient, offer, betterOffer, relies}
+use Rattle.route_rules.specs.Examples.{among, network}
 use Rattle.route_explain_rules.specs.Explained.{againstOwn, byOffer, onReflector, onClient, explained}
 use Rattle.route_explain_rules.specs.Reasons.{reasons}
-use Rattle.route_explain_rules.specs.Examples.{plan, shared, ExplainingExamples}
+use Rattle.route_explain_rules.specs.Examples.{site, sharedSite, ExplainingExamples}
 
 pub explaining-examples : ExplainingExamples
 unfolding
-    plan shared reasons betterOffer relies againstOwn byOffer onReflector onClient explained listedClientOf bestClient offer prefers marginOf pairs inSession named listPlace
-    anyBelow keepBest best
+    among network site sharedSite reasons betterOffer relies againstOwn byOffer onReflector onClient explained
+    listedClientOf bestClient offer prefers marginOf keepBest best
 explaining-examples =
     record {
       parent = refl;

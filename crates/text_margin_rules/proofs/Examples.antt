@@ -2,6 +2,7 @@
 use mathlib.Core.Path.{refl}
 use Rattle.base.specs.Below.{allBelow, anyBelow}
 use Rattle.base.specs.Seek.{count}
+use Rattle.plan_examples.specs.Plans.{fourRouters}
 use Rattle.plan_contents.specs.Header.{headerOk, routerCountOk}
 use Rattle.plan_contents.specs.Contents.{kindsOk, placesOk, sizesOk, contentsOk}
 use Rattle.plan_rules.specs.Routers.{routerOk, routersOk}
@@ -15,11 +16,11 @@ use Rattle.call_rules.specs.Refusals.{compareRefusal}
 use Rattle.text_fields.specs.Fields.{digits, decimal, spaced}
 use Rattle.text_lines.specs.Text.{refusedLine, marginLine, noneLine}
 use Rattle.text_margin_rules.specs.Margin.{compareLine, marginText}
-use Rattle.text_margin_rules.specs.Examples.{fourRouters, MarginTextExamples}
+use Rattle.text_margin_rules.specs.Examples.{cutOff, MarginTextExamples}
 
 pub margin-text-examples : MarginTextExamples
 unfolding
-    fourRouters marginText compareLine marginOf refusedLine marginLine noneLine spaced digits decimal compareRefusal
+    fourRouters cutOff marginText compareLine marginOf refusedLine marginLine noneLine spaced digits decimal compareRefusal
     refuse bodyChecks planChecks
     headerOk routerCountOk kindsOk placesOk sizesOk contentsOk routerOk routersOk sessionOk sessionsOk
     pairs inSession parentCount fewParents parentsOk count distancesOk

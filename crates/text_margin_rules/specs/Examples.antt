@@ -3,28 +3,17 @@
 use Prim.Native.Nat.{ℕ}
 use mathlib.Core.Path.{_≡_}
 use mathlib.Core.List.{List, [], _∷_, _++_}
+use Rattle.plan_examples.specs.Plans.{fourRouters, smallFrom0, smallFrom2}
 use Rattle.text_margin_rules.specs.Margin.{marginText}
 
 -- M3's plan, but for the distances from 1 to 0 and from 3, which has no way to 0 and 2
-unfoldable pub fourRouters : List ℕ
-fourRouters =
-    82 ∷ 82 ∷ 80 ∷ 49 ∷ 4 ∷ 4  -- the letters RRP1, n, the number of contents entries
-    ∷ 1 ∷ 26 ∷ 0 ∷ 20 ∷ 0  -- contents: kind, offset, length of the routers
-    ∷ 2 ∷ 46 ∷ 0 ∷ 6 ∷ 0  -- .. of the sessions
-    ∷ 3 ∷ 52 ∷ 0 ∷ 32 ∷ 0  -- .. of the distances
-    ∷ 4 ∷ 84 ∷ 0 ∷ 4 ∷ 0  -- .. of the lists
-    ∷ 1 ∷ 10 ∷ 0 ∷ 0 ∷ 0  -- router 0: role, identifier
-    ∷ 1 ∷ 20 ∷ 0 ∷ 0 ∷ 0
-    ∷ 2 ∷ 30 ∷ 0 ∷ 0 ∷ 0
-    ∷ 2 ∷ 40 ∷ 0 ∷ 0 ∷ 0
-    ∷ 0 ∷ 1 ∷ 0 ∷ 2 ∷ 1 ∷ 3  -- sessions
-    ∷ 0 ∷ 0 ∷ 30 ∷ 0 ∷ 10 ∷ 0 ∷ 6 ∷ 0  -- distances from 0
-    ∷ 254 ∷ 255 ∷ 0 ∷ 0 ∷ 6 ∷ 0 ∷ 10 ∷ 0
-    ∷ 30 ∷ 0 ∷ 30 ∷ 0 ∷ 0 ∷ 0 ∷ 30 ∷ 0
-    ∷ 255 ∷ 255 ∷ 30 ∷ 0 ∷ 255 ∷ 255 ∷ 0 ∷ 0
-    ∷ 1  -- m
-    ∷ 2 ∷ 2 ∷ 3  -- list 0: count, numbers
-    ∷ []
+unfoldable pub cutOff : List ℕ
+cutOff =
+    fourRouters (smallFrom0 6)
+    (254 ∷ 255 ∷ 0 ∷ 0 ∷ 6 ∷ 0 ∷ 10 ∷ 0 ∷ [])
+    smallFrom2
+    (255 ∷ 255 ∷ 30 ∷ 0 ∷ 255 ∷ 255 ∷ 0 ∷ 0 ∷ [])
+    (1 ∷ 2 ∷ 2 ∷ 3 ∷ [])  -- m; list 0: count, numbers
 
 -- "none", and "refused" with a number of one digit, letter by letter
 abbrev pub noneText : List ℕ
@@ -35,22 +24,22 @@ refusedText digit = 114 ∷ 101 ∷ 102 ∷ 117 ∷ 115 ∷ 101 ∷ 100 ∷ 32 �
 
 pub record MarginTextExamples : Type 0 where
   -- "the margin, minus four as -4": from 0 it is 6 to 3 and 10 to 2
-  pub minusFour : marginText (0 ∷ 3 ∷ 2 ∷ fourRouters) ≡ 45 ∷ 52 ∷ 10 ∷ []  -- without its sign: "4"
-  pub four : marginText (0 ∷ 2 ∷ 3 ∷ fourRouters) ≡ 52 ∷ 10 ∷ []  -- the second minus the first: "-4"
-  pub sameRouter : marginText (0 ∷ 2 ∷ 2 ∷ fourRouters) ≡ 48 ∷ 10 ∷ []  -- as no margin: "none"
-  pub equalDistances : marginText (2 ∷ 0 ∷ 1 ∷ fourRouters) ≡ 48 ∷ 10 ∷ []
+  pub minusFour : marginText (0 ∷ 3 ∷ 2 ∷ cutOff) ≡ 45 ∷ 52 ∷ 10 ∷ []  -- without its sign: "4"
+  pub four : marginText (0 ∷ 2 ∷ 3 ∷ cutOff) ≡ 52 ∷ 10 ∷ []  -- the second minus the first: "-4"
+  pub sameRouter : marginText (0 ∷ 2 ∷ 2 ∷ cutOff) ≡ 48 ∷ 10 ∷ []  -- as no margin: "none"
+  pub equalDistances : marginText (2 ∷ 0 ∷ 1 ∷ cutOff) ≡ 48 ∷ 10 ∷ []
   -- the ends, -65534 and 65534
-  pub least : marginText (1 ∷ 1 ∷ 0 ∷ fourRouters) ≡ 45 ∷ 54 ∷ 53 ∷ 53 ∷ 51 ∷ 52 ∷ 10 ∷ []
-  pub greatest : marginText (1 ∷ 0 ∷ 1 ∷ fourRouters) ≡ 54 ∷ 53 ∷ 53 ∷ 51 ∷ 52 ∷ 10 ∷ []
+  pub least : marginText (1 ∷ 1 ∷ 0 ∷ cutOff) ≡ 45 ∷ 54 ∷ 53 ∷ 53 ∷ 51 ∷ 52 ∷ 10 ∷ []
+  pub greatest : marginText (1 ∷ 0 ∷ 1 ∷ cutOff) ≡ 54 ∷ 53 ∷ 53 ∷ 51 ∷ 52 ∷ 10 ∷ []
   -- "or `none`"
-  pub noWayToTheFirst : marginText (3 ∷ 0 ∷ 1 ∷ fourRouters) ≡ noneText  -- no way as a distance: "65505"
-  pub noWayToTheSecond : marginText (3 ∷ 1 ∷ 0 ∷ fourRouters) ≡ noneText
-  pub noWayToEither : marginText (3 ∷ 0 ∷ 2 ∷ fourRouters) ≡ noneText  -- as equal distances: "0"
+  pub noWayToTheFirst : marginText (3 ∷ 0 ∷ 1 ∷ cutOff) ≡ noneText  -- no way as a distance: "65505"
+  pub noWayToTheSecond : marginText (3 ∷ 1 ∷ 0 ∷ cutOff) ≡ noneText
+  pub noWayToEither : marginText (3 ∷ 0 ∷ 2 ∷ cutOff) ≡ noneText  -- as equal distances: "0"
   -- "or the verdict program's refusal line"
-  pub routerAtN : marginText (4 ∷ 0 ∷ 1 ∷ fourRouters) ≡ refusedText 56  -- "refused 8"
-  pub firstAtN : marginText (0 ∷ 4 ∷ 1 ∷ fourRouters) ≡ refusedText 56
-  pub secondAtN : marginText (0 ∷ 1 ∷ 4 ∷ fourRouters) ≡ refusedText 56
-  pub brokenPlan : marginText (4 ∷ 0 ∷ 1 ∷ fourRouters ++ (0 ∷ [])) ≡ refusedText 51  -- "refused 3"; the routers first: 8
+  pub routerAtN : marginText (4 ∷ 0 ∷ 1 ∷ cutOff) ≡ refusedText 56  -- "refused 8"
+  pub firstAtN : marginText (0 ∷ 4 ∷ 1 ∷ cutOff) ≡ refusedText 56
+  pub secondAtN : marginText (0 ∷ 1 ∷ 4 ∷ cutOff) ≡ refusedText 56
+  pub brokenPlan : marginText (4 ∷ 0 ∷ 1 ∷ cutOff ++ (0 ∷ [])) ≡ refusedText 51  -- "refused 3"; the routers first: 8
   -- "which fewer than three bytes get with 1"; three bytes are followed by no plan
   pub nothing : marginText [] ≡ refusedText 49  -- "refused 1"; with no line: ""
   pub oneByte : marginText (0 ∷ []) ≡ refusedText 49

@@ -4,6 +4,7 @@ use Rattle.base.specs.Below.{allBelow, anyBelow}
 use Rattle.base.specs.Best.{keepBest, best}
 use Rattle.base.specs.Seek.{seek, highest, count}
 use Rattle.base.specs.Tab.{tab}
+use Rattle.plan_examples.specs.Plans.{fourRouters, smallPlan}
 use Rattle.plan_contents.specs.Header.{headerOk, routerCountOk}
 use Rattle.plan_contents.specs.Contents.{kindsOk, placesOk, sizesOk, contentsOk}
 use Rattle.plan_rules.specs.Routers.{routerOk, routersOk}
@@ -27,7 +28,7 @@ use Rattle.text_verdict_rules.specs.Examples.{examplePlan, exampleText, 
 
 pub text-examples : TextExamplesHold
 unfolding
-    examplePlan exampleText refused1 refused3 examples
+    fourRouters smallPlan examplePlan exampleText refused1 refused3 examples
     planText listLines listLine headLine refusedLine stableLine suspectLine spaced digits decimal
     isStable highestOf cycleOf start next walk metAgainAt metFirstAt repeatedPart cycleIn cycle rankOver ranksByChains rank together label stable grouped closing
     listedClientOf bestClient offer betterOffer relies prefers pairs inSession named refuse bodyChecks planChecks planRefusal

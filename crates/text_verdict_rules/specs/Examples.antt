@@ -2,29 +2,12 @@
 use Prim.Native.Nat.{ℕ}
 use mathlib.Core.Path.{_≡_}
 use mathlib.Core.List.{List, [], _∷_, _++_, map}
+use Rattle.plan_examples.specs.Plans.{smallPlan}
 use Rattle.text_verdict_rules.specs.Listing.{planText}
 
 -- "M3's distances with lists 2,3 and 3"
 unfoldable pub examplePlan : List ℕ
-examplePlan =
-    82 ∷ 82 ∷ 80 ∷ 49 ∷ 4 ∷ 4  -- the letters RRP1, n, the number of contents entries
-    ∷ 1 ∷ 26 ∷ 0 ∷ 20 ∷ 0  -- contents: kind, offset, length of the routers
-    ∷ 2 ∷ 46 ∷ 0 ∷ 6 ∷ 0  -- .. of the sessions
-    ∷ 3 ∷ 52 ∷ 0 ∷ 32 ∷ 0  -- .. of the distances
-    ∷ 4 ∷ 84 ∷ 0 ∷ 6 ∷ 0  -- .. of the lists
-    ∷ 1 ∷ 10 ∷ 0 ∷ 0 ∷ 0  -- router 0: role, identifier
-    ∷ 1 ∷ 20 ∷ 0 ∷ 0 ∷ 0
-    ∷ 2 ∷ 30 ∷ 0 ∷ 0 ∷ 0
-    ∷ 2 ∷ 40 ∷ 0 ∷ 0 ∷ 0
-    ∷ 0 ∷ 1 ∷ 0 ∷ 2 ∷ 1 ∷ 3  -- sessions
-    ∷ 0 ∷ 0 ∷ 30 ∷ 0 ∷ 10 ∷ 0 ∷ 6 ∷ 0  -- distances from 0
-    ∷ 30 ∷ 0 ∷ 0 ∷ 0 ∷ 6 ∷ 0 ∷ 10 ∷ 0
-    ∷ 30 ∷ 0 ∷ 30 ∷ 0 ∷ 0 ∷ 0 ∷ 30 ∷ 0
-    ∷ 30 ∷ 0 ∷ 30 ∷ 0 ∷ 30 ∷ 0 ∷ 0 ∷ 0
-    ∷ 2  -- m
-    ∷ 2 ∷ 2 ∷ 3  -- list 0: count, numbers
-    ∷ 1 ∷ 3  -- list 1
-    ∷ []
+examplePlan = smallPlan 6 6 (2 ∷ 2 ∷ 2 ∷ 3 ∷ 1 ∷ 3 ∷ [])  -- m; count and numbers of each list
 
 -- "it prints all of this, each line ended by byte 10"
 unfoldable pub exampleText : List ℕ

@@ -1,0 +1,76 @@
+-- Plans in literal bytes, for the examples of more than one crate. Nothing is claimed of them here.
+use Prim.Native.Nat.{ℕ}
+use mathlib.Core.List.{List, [], _∷_, _++_}
+use lib.ListN.{length}
+
+-- Document 01, "Small plans": "Routers 0, 1 reflectors; 2, 3 clients; sessions 0-1, 0-2, 1-3; identifiers 10, 20, 30, 40." The distances
+-- from each router are given, two bytes each, and the body of kind 4: m, then count and numbers of each list.
+unfoldable pub fourRouters : (from0 from1 from2 from3 lists : List ℕ) → List ℕ
+fourRouters from0 from1 from2 from3 lists =
+    (82 ∷ 82 ∷ 80 ∷ 49 ∷ 4 ∷ 4  -- the letters RRP1, n, the number of contents entries
+    ∷ 1 ∷ 26 ∷ 0 ∷ 20 ∷ 0  -- contents: kind, offset, length of the routers
+    ∷ 2 ∷ 46 ∷ 0 ∷ 6 ∷ 0  -- .. of the sessions
+    ∷ 3 ∷ 52 ∷ 0 ∷ 32 ∷ 0  -- .. of the distances
+    ∷ 4 ∷ 84 ∷ 0 ∷ length lists ∷ 0  -- .. of the lists
+    ∷ 1 ∷ 10 ∷ 0 ∷ 0 ∷ 0  -- router 0: role, identifier
+    ∷ 1 ∷ 20 ∷ 0 ∷ 0 ∷ 0
+    ∷ 2 ∷ 30 ∷ 0 ∷ 0 ∷ 0
+    ∷ 2 ∷ 40 ∷ 0 ∷ 0 ∷ 0
+    ∷ 0 ∷ 1 ∷ 0 ∷ 2 ∷ 1 ∷ 3  -- sessions
+    ∷ [])
+    ++ from0 ++ from1 ++ from2 ++ from3
+    ++ lists
+
+-- "Distances 0 to 2 and 1 to 3 are 10, p is 0 to 3, q is 1 to 2, other off-diagonal ones 30."
+abbrev pub smallFrom0 : (p : ℕ) → List ℕ
+smallFrom0 p = 0 ∷ 0 ∷ 30 ∷ 0 ∷ 10 ∷ 0 ∷ p ∷ 0 ∷ []
+
+abbrev pub smallFrom1 : (q : ℕ) → List ℕ
+smallFrom1 q = 30 ∷ 0 ∷ 0 ∷ 0 ∷ q ∷ 0 ∷ 10 ∷ 0 ∷ []
+
+abbrev pub smallFrom2 : List ℕ
+smallFrom2 = 30 ∷ 0 ∷ 30 ∷ 0 ∷ 0 ∷ 0 ∷ 30 ∷ 0 ∷ []
+
+abbrev pub smallFrom3 : List ℕ
+smallFrom3 = 30 ∷ 0 ∷ 30 ∷ 0 ∷ 30 ∷ 0 ∷ 0 ∷ 0 ∷ []
+
+unfoldable pub smallPlan : (p q : ℕ) (lists : List ℕ) → List ℕ
+smallPlan p q lists = fourRouters (smallFrom0 p) (smallFrom1 q) smallFrom2 smallFrom3 lists
+
+-- lists 0, 1 and 2 of a plan, which the cases name by their numbers: list 2,3, list 3 and list 0
+abbrev pub smallLists : List ℕ
+smallLists = 3 ∷ 2 ∷ 2 ∷ 3 ∷ 1 ∷ 3 ∷ 1 ∷ 0 ∷ []
+
+-- "M3: p = q = 6"
+unfoldable pub M3Plan : List ℕ
+M3Plan = smallPlan 6 6 smallLists
+
+-- reflector 0, clients 1 and 2
+unfoldable pub threeRouters : List ℕ
+threeRouters =
+    82 ∷ 82 ∷ 80 ∷ 49 ∷ 3 ∷ 4
+    ∷ 1 ∷ 26 ∷ 0 ∷ 15 ∷ 0
+    ∷ 2 ∷ 41 ∷ 0 ∷ 4 ∷ 0
+    ∷ 3 ∷ 45 ∷ 0 ∷ 18 ∷ 0
+    ∷ 4 ∷ 63 ∷ 0 ∷ 6 ∷ 0
+    ∷ 1 ∷ 10 ∷ 0 ∷ 0 ∷ 0
+    ∷ 2 ∷ 20 ∷ 0 ∷ 0 ∷ 0
+    ∷ 2 ∷ 30 ∷ 0 ∷ 0 ∷ 0
+    ∷ 0 ∷ 1 ∷ 1 ∷ 2  -- sessions
+    ∷ 0 ∷ 0 ∷ 5 ∷ 0 ∷ 2 ∷ 1  -- distances from 0: that to 2 is 258
+    ∷ 7 ∷ 0 ∷ 0 ∷ 0 ∷ 9 ∷ 0
+    ∷ 3 ∷ 0 ∷ 4 ∷ 0 ∷ 0 ∷ 0
+    ∷ 2  -- m
+    ∷ 1 ∷ 1  -- list 0: count, number
+    ∷ 2 ∷ 1 ∷ 2  -- list 1
+    ∷ []
+
+-- The first 26 bytes of a plan of twelve routers with no session: the distances have 32 + 256 bytes, and the lists start at 118 + 256.
+unfoldable pub firstOfTwelve : List ℕ
+firstOfTwelve =
+    82 ∷ 82 ∷ 80 ∷ 49 ∷ 12 ∷ 4
+    ∷ 1 ∷ 26 ∷ 0 ∷ 60 ∷ 0
+    ∷ 2 ∷ 86 ∷ 0 ∷ 0 ∷ 0
+    ∷ 3 ∷ 86 ∷ 0 ∷ 32 ∷ 1
+    ∷ 4 ∷ 118 ∷ 1 ∷ 3 ∷ 0
+    ∷ []
