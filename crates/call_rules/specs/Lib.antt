@@ -1,3 +1,4 @@
 pub mod Refusals
 pub mod InOrder
 pub mod Examples
+pub mod RowsExactly
