@@ -1,14 +1,16 @@
 -- The answers of a comparison, case by case.
-use Prim.Native.Nat.{ℕ}
+use Prim.Native.Nat.{ℕ, _≤_, _<_}
+use native.Mathlib.Omega.{arith}
 use mathlib.Core.Path.{_≡_, refl, _∙_, sym, ap}
 use mathlib.Core.Bool.{Bool, true, false, cond, _&&_}
 use mathlib.Core.Option.{Option, none, some, Option·getD}
 use mathlib.Core.List.{List}
 use mathlib.Core.Logic.{_⊎_}
-use lib.IntN.{ℤ, pos, _-ℤ_}
+use lib.IntN.{ℤ, pos, natAbs, _-ℤ_}
+use borrow.Author.Tests.{eqb-false, not-true}
 use Rattle.route_rules.specs.Instance.{Instance}
 use Rattle.route_rules.specs.Preference.{better, marginOf}
-use Rattle.route_rules.proofs.Margins.{margin-both, margin-absent}
+use Rattle.route_rules.proofs.Margins.{margin-both, margin-absent, known, margins}
 use Rattle.net_rules.specs.FromPlan.{instanceOf}
 use Rattle.call_compare.specs.declared.compare.Preferred.{Preferred}
 use Rattle.call_compare.specs.declared.compare.Preferred.the-variants.{First, Second, Neither}
@@ -50,6 +52,7 @@ module _ (plan : List ℕ) (w e f : ℕ) where
         value = sym (when-refused _ _ _ k);
         present = sym (when-refused _ _ _ k);
         margin = sym (when-refused _ _ _ k);
+        range = omega arith;
       })
 
   -- the values of the cases found
@@ -78,11 +81,26 @@ module _ (plan : List ℕ) (w e f : ℕ) where
       go none = refl
       go (some m) = refl
 
+  -- a distance of two bytes that is one of a way
+  way-most : (u : ℕ) → instanceOf plan 0 .dist w u < 65536 → instanceOf plan 0 .way w u ≡ true → instanceOf plan 0 .dist w u ≤ 65534
+  way-most u l h = omega (arith, eqb-false (instanceOf plan 0 .dist w u) 65535 (not-true _ h))
+
+  margin-within : instanceOf plan 0 .dist w e < 65536 → instanceOf plan 0 .dist w f < 65536
+      → natAbs (marginValue (marginCase (marginOf (instanceOf plan 0) w e f))) ≤ 65534
+  margin-within p q = go (marginOf (instanceOf plan 0) w e f) refl
+    where
+      go : (m : Option ℤ) → marginOf (instanceOf plan 0) w e f ≡ m → natAbs (marginValue (marginCase m)) ≤ 65534
+      go none h = omega arith
+      go (some m) h =
+          let k = known (instanceOf plan 0) w e f m h in
+          margins (instanceOf plan 0) w e f .range 65534 (way-most e p (k .toFirst)) (way-most f q (k .toSecond)) m h
+
   pub compares-given : (preferred : Preferred) (margin : Margin) → compareRefusal plan w e f ≡ 0
       → preferred ≡ preferredOf (instanceOf plan 0) w e f → margin ≡ marginCase (marginOf (instanceOf plan 0) w e f)
+      → instanceOf plan 0 .dist w e < 65536 → instanceOf plan 0 .dist w f < 65536
       → Compares plan w e f (Compared preferred margin)
   unfolding compared
-  compares-given preferred margin given p m =
+  compares-given preferred margin given p m p₁ p₂ =
       rw (p, m)
       (record {
         answer = sym (when-given _ _ _ given);
@@ -90,4 +108,5 @@ module _ (plan : List ℕ) (w e f : ℕ) where
         value = better-is ∙ sym (when-given _ _ _ given);
         present = present-is ∙ sym (when-given _ _ _ given);
         margin = margin-is ∙ sym (when-given _ _ _ given);
+        range = margin-within p₁ p₂;
       })

@@ -1,20 +1,14 @@
 -- What the margin in an answer says, and that best client, offer, choice and reliance agree with the answer.
-use Prim.Native.Nat.{ℕ, _+_, _*_, _≤_, _<_}
-use native.Mathlib.Omega.{arith}
+use Prim.Native.Nat.{ℕ}
 use mathlib.Core.Path.{_≡_, refl, _∙_, sym, ap, subst}
 use mathlib.Core.Bool.{Bool, true, false, cond, _&&_, and-false}
 use mathlib.Core.Option.{Option, none, some, Option·getD}
 use mathlib.Core.List.{List}
-use mathlib.Core.Logic.{_⊎_, inl, inr, ⊎-elim}
+use mathlib.Core.Logic.{inl, ⊎-elim}
 use lib.Dec.{ltb, eqb}
-use lib.ListN.{getD, take, drop, length, length-take, List·getD-eq-default}
-use lib.Seq.{getD-take, getD-drop}
 use lib.IntN.{ℤ, pos}
 use lib.Signed.{_<ℤ_, <ℤ-irrefl}
-use borrow.Author.Tests.{eqb-false, not-true}
-use Rattle.base.proofs.Numbers.{lt-or-le, eq-or-ne, not-both}
-use Rattle.plan_contents.specs.Header.{routerCount}
-use Rattle.plan_contents.specs.Contents.{contentsOf, distancesEntry}
+use Rattle.base.proofs.Numbers.{eq-or-ne, not-both}
 use Rattle.route_rules.specs.Instance.{Instance}
 use Rattle.route_rules.specs.Preference.{prefers, better, marginOf}
 use Rattle.route_rules.specs.OneComparison.{OneComparison}
@@ -23,15 +17,16 @@ use Rattle.route_rules.proofs.Margins.{known, margins}
 use Rattle.route_rules.proofs.OneComparison.{one-comparison}
 use Rattle.net_rules.specs.FromPlan.{instanceOf}
 use Rattle.call_rules.specs.Refusals.{compareRefusal}
+use Rattle.call_rules.proofs.Granted.{compare-asked}
 use Rattle.call_compare.specs.declared.compare.CompareAnswer.{CompareAnswer}
 use Rattle.call_compare.specs.Compare.{whichBetter, hasMargin, marginNumber, compareBetter, compareHasMargin, compareMargin, Compares}
 use Rattle.plan_rules.proofs.Refused.{when-refused, when-given}
 use Rattle.checker_theorems.specs.Comparisons.{MarginSays, EveryMarginSays, EveryComparisonAgrees}
 
 -- 1 is answered exactly where the first is better, whatever the list: a comparison reads no list
-first-is : (plan : List ℕ) (k w : ℕ) → better (instanceOf plan k) w ≡ (λ e f. eqb (whichBetter plan w e f) 1)
+first-is : (plan : List ℕ) (k w e f : ℕ) → better (instanceOf plan k) w e f ≡ eqb (whichBetter plan w e f) 1
 unfolding whichBetter better prefers
-first-is plan k w = λ i e f. go (better (instanceOf plan k) w e f) (better (instanceOf plan k) w f e) i
+first-is plan k w e f = go (better (instanceOf plan k) w e f) (better (instanceOf plan k) w f e)
   where
     go : (a b : Bool) → a ≡ eqb (cond a 1 (cond b 2 0)) 1
     go true b = refl
@@ -39,26 +34,12 @@ first-is plan k w = λ i e f. go (better (instanceOf plan k) w e f) (better (ins
     go false false = refl
 
 pub every-comparison-agrees : EveryComparisonAgrees
-every-comparison-agrees plan k w = subst (OneComparison (instanceOf plan k) w) (first-is plan k w) (one-comparison (instanceOf plan k) w)
-
--- a part of bytes is bytes
-part-bytes : (s : List ℕ) → ((i : ℕ) → getD s i 0 < 256) → (start size i : ℕ) → getD (take size (drop start s)) i 0 < 256
-part-bytes s bytes start size i = go (lt-or-le i size)
-  where
-    go : (i < size) ⊎ (size ≤ i) → getD (take size (drop start s)) i 0 < 256
-    go (inl l) = rw (getD-take size (drop start s) i 0 l, getD-drop start s i 0) (bytes (start + i))
-    go (inr l) =
-        let past : length (take size (drop start s)) ≤ i = omega (arith, length-take size (drop start s)) in
-        rw (List·getD-eq-default (take size (drop start s)) 0 past) (omega arith)
-
--- a distance of a way has no more than 65,534
-way-most : (plan : List ℕ) → ((i : ℕ) → getD plan i 0 < 256) → (w e : ℕ) → instanceOf plan 0 .way w e ≡ true
-    → instanceOf plan 0 .dist w e ≤ 65534
-way-most plan bytes w e h =
-    let at = 2 * (w * routerCount plan + e) in
-    let there = distancesEntry (contentsOf plan) in
-    let known = part-bytes plan bytes (there .offset) (there .size) in
-    omega (arith, eqb-false (instanceOf plan 0 .dist w e) 65535 (not-true _ h), known at, known (at + 1))
+every-comparison-agrees plan k w e f r call z =
+    let given : compareRefusal plan w e f ≡ 0 = sym (call .number) ∙ z in
+    let is : better (instanceOf plan k) w e f ≡ eqb (compareBetter r) 1
+    = first-is plan k w e f ∙ ap (λ x. eqb x 1) (sym (call .value ∙ when-given _ _ _ given)) in
+    subst (OneComparison (instanceOf plan k) w e f) is
+    (one-comparison (instanceOf plan k) w e f (compare-asked _ _ _ _ given .second))
 
 module _ (plan : List ℕ) (w e f : ℕ) where
   abbrev I : Instance
@@ -86,7 +67,7 @@ module _ (plan : List ℕ) (w e f : ℕ) where
       ⊎-elim (λ (p : I .way w e ≡ false). cc) (λ (q : I .way w f ≡ false). ap (λ b. I .way w e && b) q ∙ and-false (I .way w e))
       (margins I w e f .absent .0 h)
 
-module _ (plan : List ℕ) (bytes : (i : ℕ) → getD plan i 0 < 256) (w e f : ℕ) (r : CompareAnswer) (call : Compares plan w e f r) where
+module _ (plan : List ℕ) (w e f : ℕ) (r : CompareAnswer) (call : Compares plan w e f r) where
   -- where there is no margin it is given as zero, and says nothing
   without : compareMargin r ≡ pos 0 → compareHasMargin r ≡ false → MarginSays e f r
   without m h =
@@ -94,7 +75,7 @@ module _ (plan : List ℕ) (bytes : (i : ℕ) → getD plan i 0 < 256) (w e f : 
         negative = λ l. absurd (<ℤ-irrefl (rw m at l));
         positive = λ l. absurd (<ℤ-irrefl (rw m at l));
         zero = λ there _. not-both (compareHasMargin r) there h;
-        range = rw m (omega arith);
+        range = call .range;
       }
 
   -- the margin m of two routes with a way
@@ -113,8 +94,7 @@ module _ (plan : List ℕ) (bytes : (i : ℕ) → getD plan i 0 < 256) (w e f : 
             value
             ∙ which-tie plan w e f (better-tie (instanceOf plan 0) w e f (k .toFirst) (k .toSecond) level)
             (better-tie (instanceOf plan 0) w f e (k .toSecond) (k .toFirst) (sym level));
-        range =
-            rw is (says .range 65534 (way-most plan bytes w e (k .toFirst)) (way-most plan bytes w f (k .toSecond)) m h);
+        range = call .range;
       }
 
   -- the call is not refused

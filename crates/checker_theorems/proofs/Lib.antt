@@ -2,5 +2,6 @@ pub mod VerdictMeaning
 pub mod Series
 pub mod Comparisons
 pub mod Explanations
+pub mod Occurring
 pub mod CallsExamples
 pub mod RefusedCalls

@@ -5,13 +5,15 @@ use denote.Ref.{ptr, now}
 use Rattle.base.specs.Bytes.{bytesOn}
 use Rattle.call_query.specs.EgressList.{egressListStart, egressListSize}
 use Rattle.call_query.specs.Size.{sizeRouters, sizeLists}
+use Rattle.call_verdict.specs.Verdict.{verdictAnswer, labelsAfter, ranksAfter, tableAfter, cycleAfter}
 use Rattle.call_run.specs.Activate.{activateTable}
 use Rattle.call_run.specs.Run.{runApplied, runRounds, runExhausted, runTable}
 use Rattle.plan_rules.proofs.Refused.{when-refused}
 use Rattle.checker_theorems.specs.RefusedCalls.{RefusedCalls}
 
 pub refused-calls : RefusedCalls
-unfolding egressListStart egressListSize sizeRouters sizeLists activateTable runApplied runRounds runExhausted runTable
+unfolding
+    egressListStart egressListSize sizeRouters sizeLists verdictAnswer labelsAfter ranksAfter tableAfter cycleAfter activateTable runApplied runRounds runExhausted runTable
 refused-calls =
     record {
       list = λ plan k part s ne. (
@@ -25,7 +27,17 @@ refused-calls =
         s .present ∙ when-refused _ _ _ ne,
         s .margin ∙ when-refused _ _ _ ne,
       );
+      relies = λ plan k w v r s ne. (s .answer ∙ when-refused _ _ _ ne, s .value ∙ when-refused _ _ _ ne);
       explain = λ plan k w v r s ne. (s .answer ∙ when-refused _ _ _ ne, s .values ∙ when-refused _ _ _ ne);
+      verdict = λ plan k r labels ranks table shown s ne. (
+        s .answer ∙ when-refused _ _ _ ne,
+        s .stable ∙ when-refused _ _ _ ne,
+        s .size ∙ when-refused _ _ _ ne,
+        s .labelled ∙ when-refused _ _ _ ne,
+        s .ranked ∙ when-refused _ _ _ ne,
+        s .settled ∙ when-refused _ _ _ ne,
+        s .cycled ∙ when-refused _ _ _ ne,
+      );
       activate = λ plan k w table r after s ne. (s .number, s .bytes ∙ when-refused _ _ _ ne);
       run = λ plan k acts limit table r after s ne. (
         s .number,

@@ -1,17 +1,16 @@
 -- Document 02, "The margin with its sign", of the call that compares: what its answer says, and that whatever else compares routes agrees
 -- with it.
-use Prim.Native.Nat.{ℕ, _≤_, _<_}
+use Prim.Native.Nat.{ℕ, _≤_}
 use mathlib.Core.Path.{_≡_}
 use mathlib.Core.Bool.{true, cond}
 use mathlib.Core.List.{List}
 use lib.Dec.{ltb, eqb}
-use lib.ListN.{getD}
 use lib.IntN.{pos, natAbs}
 use lib.Signed.{_<ℤ_}
 use Rattle.route_rules.specs.OneComparison.{OneComparison}
 use Rattle.net_rules.specs.FromPlan.{instanceOf}
 use Rattle.call_compare.specs.declared.compare.CompareAnswer.{CompareAnswer}
-use Rattle.call_compare.specs.Compare.{whichBetter, compareBetter, compareHasMargin, compareMargin, Compares}
+use Rattle.call_compare.specs.Compare.{compareNumber, compareBetter, compareHasMargin, compareMargin, Compares}
 
 -- what an answer r of the comparison of e and f says; 1 is the first, 2 the second, 0 neither
 pub record MarginSays (e f : ℕ) (r : CompareAnswer) : Type 0 where
@@ -24,12 +23,13 @@ pub record MarginSays (e f : ℕ) (r : CompareAnswer) : Type 0 where
   -- "from minus 65,534 to 65,534"
   pub range : natAbs (compareMargin r) ≤ 65534
 
--- .. of every comparison on a plan of bytes, refused or not
+-- .. of every comparison, refused or not
 abbrev pub EveryMarginSays : Type 0
-EveryMarginSays =
-    (plan : List ℕ) → ((i : ℕ) → getD plan i 0 < 256) →
-    (w e f : ℕ) (r : CompareAnswer) → Compares plan w e f r → MarginSays e f r
+EveryMarginSays = (plan : List ℕ) (w e f : ℕ) (r : CompareAnswer) → Compares plan w e f r → MarginSays e f r
 
--- "Whatever else compares routes agrees with this answer": for every list, with the call's number 1, that the first is better
+-- "Whatever else compares routes agrees with this answer": for every list, with an answer that is not refused, whose number is 1 where the
+-- first is better
 abbrev pub EveryComparisonAgrees : Type 0
-EveryComparisonAgrees = (plan : List ℕ) (k w : ℕ) → OneComparison (instanceOf plan k) w (λ e f. eqb (whichBetter plan w e f) 1)
+EveryComparisonAgrees =
+    (plan : List ℕ) (k w e f : ℕ) (r : CompareAnswer) → Compares plan w e f r → compareNumber r ≡ 0
+    → OneComparison (instanceOf plan k) w e f (eqb (compareBetter r) 1)

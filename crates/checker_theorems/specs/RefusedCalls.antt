@@ -1,5 +1,6 @@
 -- Document 01, "Refusal table": "beside a refusal number every other returned field is zero or no", and lent buffers are unchanged. What
--- the contracts of the calls that return more than a number, a yes or no, or a verdict say of a refused call.
+-- the contract of each call that returns or writes more than a number says of a refused call; that of the call for distances is
+-- `CallMeans` of crate links_rules.
 use Prim.Native.Nat.{ℕ}
 use mathlib.Core.Path.{_≡_}
 use mathlib.Core.Bool.{false}
@@ -7,14 +8,21 @@ use mathlib.Core.List.{List, []}
 use lib.IntN.{pos}
 use denote.Ref.{RefT, ptr, now}
 use Rattle.base.specs.Bytes.{bytesOn}
+use Rattle.base.specs.Lent.{Lent}
 use Rattle.plan_rules.specs.Refusal.{planRefusal}
-use Rattle.call_rules.specs.Refusals.{egressListRefusal, compareRefusal, reliesRefusal, activateRefusal, runRefusal}
+use Rattle.call_rules.specs.Refusals.{egressListRefusal, compareRefusal, reliesRefusal, verdictRefusal, activateRefusal, runRefusal}
 use Rattle.call_compare.specs.declared.compare.CompareAnswer.{CompareAnswer}
 use Rattle.call_compare.specs.declared.compare.CompareAnswer.the-variants.{Refused}
+use Rattle.call_query.specs.declared.relies.ReliesAnswer.{ReliesAnswer}
+use Rattle.call_query.specs.declared.relies.ReliesAnswer.the-variants as reliances
 use Rattle.call_query.specs.declared.size.SizeAnswer.{SizeAnswer}
+use Rattle.call_verdict.specs.declared.verdict.VerdictAnswer.{VerdictAnswer}
+use Rattle.call_verdict.specs.declared.verdict.VerdictAnswer.the-variants as verdicts
 use Rattle.call_run.specs.declared.run.RunAnswer.{RunAnswer}
 use Rattle.call_query.specs.EgressList.{ListPartOf}
 use Rattle.call_query.specs.Size.{Sizes}
+use Rattle.call_query.specs.Relies.{reliesFlag, Relied}
+use Rattle.call_verdict.specs.Verdict.{verdictIsStable, verdictSize, VerdictCall}
 use Rattle.call_compare.specs.Compare.{compareBetter, compareHasMargin, compareMargin, Compares}
 use Rattle.route_explain_rules.specs.declared.explanation.Explanation.{Explanation}
 use Rattle.route_explain_rules.specs.declared.explanation.Explanation.the-variants as explanations
@@ -31,8 +39,18 @@ pub record RefusedCalls : Type 0 where
       → (r .refused ≡ planRefusal plan) × (r .routers ≡ 0) × (r .lists ≡ 0)
   pub compare : (plan : List ℕ) (w e f : ℕ) (r : CompareAnswer) → Compares plan w e f r → (compareRefusal plan w e f ≡ 0 → ⊥)
       → (r ≡ Refused (compareRefusal plan w e f)) × (compareBetter r ≡ 0) × (compareHasMargin r ≡ false) × (compareMargin r ≡ pos 0)
+  pub relies : (plan : List ℕ) (k w v : ℕ) (r : ReliesAnswer) → Relied plan k w v r → (reliesRefusal plan k w v ≡ 0 → ⊥)
+      → (r ≡ reliances.Refused (reliesRefusal plan k w v)) × (reliesFlag r ≡ false)
   pub explain : (plan : List ℕ) (k w v : ℕ) (r : Explanation) → Explains plan k w v r → (reliesRefusal plan k w v ≡ 0 → ⊥)
       → (r ≡ explanations.Refused (reliesRefusal plan k w v)) × (valuesOf r ≡ bare false 0)
+  -- the four lent buffers too
+  pub verdict : (plan : List ℕ) (k : ℕ) (r : VerdictAnswer) (labels ranks table shown : Lent (List ℕ))
+      → VerdictCall plan k r labels ranks table shown
+      → (verdictRefusal plan k (labels .before) (ranks .before) (table .before) (shown .before) ≡ 0 → ⊥)
+      → (r ≡ verdicts.Refused (verdictRefusal plan k (labels .before) (ranks .before) (table .before) (shown .before)))
+      × (verdictIsStable r ≡ false) × (verdictSize r ≡ 0)
+      × (labels .after ≡ labels .before) × (ranks .after ≡ ranks .before) × (table .after ≡ table .before)
+      × (shown .after ≡ shown .before)
   pub activate : (plan : List ℕ) (k w : ℕ) (table : List ℕ) (r : ℕ) (after : List ℕ) → Activates plan k w table r after
       → (activateRefusal plan k w table ≡ 0 → ⊥) → (r ≡ activateRefusal plan k w table) × (after ≡ table)
   pub run : (plan : List ℕ) (k : ℕ) (acts : List ℕ) (limit : ℕ) (table : List ℕ) (r : RunAnswer) (after : List ℕ)

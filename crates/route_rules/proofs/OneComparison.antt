@@ -43,12 +43,12 @@ module _ (I : Instance) (w : ℕ) where
       unbeaten-better e f (hears-way I view w s e (c .told)) (hears-way I view w v f told) (c .unbeaten v f l m told) d
 
   -- "Whatever else compares routes agrees with this answer."
-  pub one-comparison : OneComparison I w (better I w)
-  one-comparison =
+  pub one-comparison : (e f : ℕ) → f < I .n → OneComparison I w e f (better I w e f)
+  one-comparison e f l =
       record {
-        client = best-client-better;
-        offered = offer-better;
-        chosen = chosen-better;
-        relied = λ unlisted role c h v o p q offers.
-            offer-neighbour I w v unlisted role q p ∙ ap (λ x. betterOffer I w x (bestClient I w)) offers ∙ offer-better c h o;
+        client = λ h m d. best-client-better e h f l m d;
+        offered = λ h. offer-better f h e;
+        chosen = λ unlisted view s h v b told d. chosen-better unlisted view e s h v f b l told d;
+        relied = λ unlisted role h v p q offers.
+            offer-neighbour I w v unlisted role q p ∙ ap (λ x. betterOffer I w x (bestClient I w)) offers ∙ offer-better f h e;
       }

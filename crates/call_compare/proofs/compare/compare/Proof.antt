@@ -55,6 +55,8 @@ returns-2 c =
     let to-second = read-as _ _ _ (measured part) _ _ _ (second .distance2 .ensures .0) in
     compares-given _ _ _ _ _ _ (given (part .before .before)) (c .before .which-better .ensures _ _ to-first to-second)
     (c .margin-of .ensures _ _ _ _ to-first to-second)
+    (omega (arith, to-first .dist, first .distance .ensures .1))
+    (omega (arith, to-second .dist, second .distance2 .ensures .1))
 
 pub compare-spec : {M : Type 1} → statement M
 compare-spec =
