@@ -5,12 +5,14 @@ An entry is `CRATE/FOLDER/FILE: NAME, NAME`, and of edits `CRATE/must-fail: NAME
 - definition: what that file of specs/ declares with `pub`, or a field of a record there, RECORD.FIELD;
 - contract or theorem: a function of that file of src/ with an `ensures`, TYPE::NAME for a method, or a lemma of
   that file of proofs/;
-- pinning example: what that file of specs/ or proofs/ declares, or a field of one of its records, FIELD, if of specs/
-  what a theorem in the file of that name in proofs/ works out; or an output that the gate compares, CRATE/stdout or
-  tests/FOLDER/NAME.expected; or a test that the gate runs, tests/NAME.py;
+- pinning example: what that file of specs/ or proofs/ declares, or a field of one of its records, FIELD; if of specs/
+  what a theorem in the file of that name in proofs/ is about: its statement names it, or a definition of that file of
+  specs/ that does, a list say; or an output that the gate compares, CRATE/stdout or tests/FOLDER/NAME.expected; or a
+  test that the gate runs, tests/NAME.py;
 - must-fail edit: an edit of that crate.
 A word in a comment declares nothing, nor does a name local to a proof. Each row has a contract, a theorem or an
 example, and where it has definitions a theorem or an example, but for inner definitions. No two edits have one name.
+No list of examples is empty.
 Each edit is named in some row, and so is each definition of specs/, but for those that the examples are made of, and
 each example: a field of a record called ..Examples, or what has type Example.
 """
@@ -28,8 +30,9 @@ COLUMNS = {
 }
 # the first column of the rows that need neither theorem nor example
 INNER = 'inner definition'
-EXAMPLE_FILES = re.compile(r'(Examples|SmallPlans)$')
+EXAMPLE_FILES = re.compile(r'(Examples|Plans)$')
 EXAMPLE = re.compile(r'^(?:abbrev|unfoldable) pub (\S+) : Example$', re.MULTILINE)
+EMPTY = re.compile(r'^(?:(?:abbrev|unfoldable|pub) )*(\S+) : List Example\n\1 =\s*\[\]\s*$', re.MULTILINE)
 DECLARATION = re.compile(r'''\s* (?P<marks> ((pub|abbrev|unfoldable)\s+)* ) (?P<kind> (record|data)\s+ )?
                              (?P<name> [^\s(){}]+ ) \s* (?P<rest> .* )''', re.VERBOSE)
 
@@ -67,6 +70,30 @@ def antt_declarations(text):
         if line.split()[-1] == 'where':
             blocks.append((indent, 'local', ''))
     return found
+
+
+def antt_blocks(text):
+    """The lines of each declaration of an antt file, its clauses or its fields among them: name → text."""
+    found = {}
+    owner = None
+    for line in text.split('\n'):
+        match = DECLARATION.match(line)
+        inside = owner is not None and line[:1].isspace()
+        if line.strip() and match and not inside and (match['kind'] or match['rest'].startswith(':')):
+            owner = match['name']
+            found[owner] = ''
+        elif line.strip() and not inside and line.lstrip().startswith(('use ', 'module ')):
+            owner = None
+        if owner is not None:
+            found[owner] += line + '\n'
+    return found
+
+
+def statement(name, block):
+    """What a lemma states: the lines up to its proof."""
+    lines = block.rstrip().split('\n')
+    end = [at for at, line in enumerate(lines) if at and line.split()[:1] in ([name], ['unfolding'])]
+    return '\n'.join(lines[:end[0]] if end else lines)
 
 
 def closing(text, at):
@@ -126,15 +153,27 @@ class Repository:
             return None
         return rattle_contracts(text) if folder == 'src' else antt_declarations(text)
 
-    def worked_out(self, crate, file, name):
-        """Whether a theorem works out an example of specs/FILE: proofs/FILE names it, or a list of specs/FILE does."""
+    @cache
+    def stated(self, crate, file):
+        """The names of specs/FILE that the theorems of proofs/FILE are about, by way of its definitions too."""
         specs, proofs = self.text(crate, 'specs', file), self.text(crate, 'proofs', file)
-        name = name.split('.')[-1]
-        if proofs is None or name in words(proofs):
-            return proofs is not None
-        # a line that starts with the name declares it, unless it goes on as a list does
-        lines = [words(re.sub(r'\b(pub|abbrev|unfoldable)\b', '', line)) for line in specs.split('\n')]
-        return any(name in line[1:] or line[:2] == [name, '∷'] for line in lines)
+        blocks = antt_blocks(specs or '')
+        named = {word for name, block in antt_blocks(proofs or '').items() for word in words(statement(name, block))}
+        found, left = set(), named & set(blocks)
+        while left:
+            found |= left
+            left = {word for name in left for word in words(blocks[name])} & set(blocks) - found
+        return found
+
+    def worked_out(self, crate, file, name):
+        """Whether a theorem works out an example of specs/FILE, or a field of a record of examples there."""
+        return name.split('.')[0] in self.stated(crate, file)
+
+    def empty_lists(self):
+        """CRATE/specs/FILE: NAME of each list of examples without one."""
+        for crate, file in self.specs():
+            for name in EMPTY.findall(self.text(crate, 'specs', file)):
+                yield f'{crate}/specs/{file}: {name}'
 
     def has_output(self, name):
         """Whether there is such an expected output, CRATE/stdout or tests/FOLDER/NAME.expected, or such a test."""
@@ -270,6 +309,7 @@ def check(root):
         crates[edit.stem] = crate
         if ('must-fail edit', f'{crate}/must-fail: {edit.stem}') not in named:
             problems.append(f'{crate}/must-fail: {edit.stem} is named in no row')
+    problems += [f'{name} is an empty list of examples' for name in repository.empty_lists()]
     for definition in repository.definitions():
         if ('definition', definition) not in named:
             problems.append(f'{definition} is named in no row')

@@ -34,10 +34,10 @@ twice x = next (next x)
     'crates/rules/specs/Examples.antt': '''
 pub record Shown : Type 0 where
   pub nextOf5 : next 5 ≡ 6
-  pub nextOf6 : next 6 ≡ 8
   pub twice : next (next 5) ≡ 7
 
-pub record ShownToo : Type 0 where
+pub record Unshown : Type 0 where
+  pub nextOf6 : next 6 ≡ 8
   pub twice : next (next 6) ≡ 8
 
 pub record RuleExamples : Type 0 where
@@ -52,19 +52,26 @@ seven = next 6
 abbrev pub eight : ℕ
 eight = next 7
 
-abbrev pub all : List ℕ
+abbrev pub all : List Example
 all =
     seven ∷ nextOf8 ∷ []
+
+abbrev pub AllHold : Type 0
+AllHold = Hold all
 ''',
     'crates/rules/proofs/Examples.antt': '''
 next-of-3 : next 3 ≡ 4
 next-of-3 = refl
 
 shown : Shown
-shown = record { nextOf5 = refl }
+shown = record { nextOf5 = refl; twice = refl }
 
 rule-examples : RuleExamples
 rule-examples = record { nextOf7 = refl }
+
+pub all-hold : AllHold
+unfolding next all
+all-hold = refl
 ''',
     'crates/rules/must-fail/next_adds_two.edit': '',
     'crates/code/src/step.rt': '''
@@ -182,6 +189,20 @@ CASES = [
      'no column is called "remark"'),
 ]
 
+# (what is wrong, the folder of the rules' Examples.antt, what is replaced there, by what, what is said of it)
+FILE_CASES = [
+    ('a theorem over an empty list', 'specs', 'all =\n    seven ∷ nextOf8 ∷ []', 'all = []',
+     'rules/specs/Examples: all is an empty list of examples'),
+    ('an example that the empty list had', 'specs', 'seven ∷ nextOf8 ∷ []', '[]',
+     'rules/specs/Examples: nextOf8 is worked out by no theorem'),
+    ('a theorem over another list', 'specs', 'Hold all', 'Hold []',
+     'rules/specs/Examples: nextOf8 is worked out by no theorem'),
+    ('a list that no theorem is about', 'proofs', 'pub all-hold : AllHold', 'pub all-hold : Unit',
+     'rules/specs/Examples: seven is worked out by no theorem'),
+    ('a record that no theorem is about', 'proofs', 'rule-examples : RuleExamples', 'rule-examples : Unit',
+     'rules/specs/Examples: nextOf7 is worked out by no theorem'),
+]
+
 
 def problems(table, more={}):
     """What tests/trace.py says of the small repository with this table and these files besides."""
@@ -208,9 +229,14 @@ def main():
         said = problems(TABLE.replace(old, new, 1))
         if not any(expected in problem for problem in said):
             failed.append(f'{wrong}: {said}')
+    for wrong, folder, old, new, expected in FILE_CASES:
+        name = f'crates/rules/{folder}/Examples.antt'
+        said = problems(TABLE, {name: FILES[name].replace(old, new, 1)})
+        if not any(expected in problem for problem in said):
+            failed.append(f'{wrong}: {said}')
     for failure in failed:
         print(failure)
-    print(f'trace_test: {len(CASES) + 3 - len(failed)} passed, {len(failed)} failed')
+    print(f'trace_test: {len(CASES) + len(FILE_CASES) + 3 - len(failed)} passed, {len(failed)} failed')
     sys.exit(1 if failed else 0)
 
 
