@@ -7,7 +7,7 @@ use denote.Ref.{RefT, ptr, now}
 use lib.ListN.{take, drop}
 use Rattle.base.specs.Bytes.{bytesOn}
 use Rattle.call_query.specs.EgressList.{egressListStart, egressListSize, ListPartOf}
-use Rattle.checker_examples.specs.Questions.{Question, Answer, listIs, Admitted, Example, example, Answered, Hold, answerTo, worked, stated, WorkedOut}
+use Rattle.checker_examples.specs.Questions.{Question, Answer, reliesIs, Admitted, Example, example, Answered, Hold, answerTo, worked, stated, WorkedOut}
 use Rattle.checker_examples.specs.Questions.{check, size, list, compare, relies, explain, verdict, activate, run}
 
 -- a stretch of a slice starts at one place alone
@@ -23,7 +23,7 @@ only-answer (list k r start slice part e n c a) =
     let bytes : now part ≡ take (egressListSize (now slice) k) (drop (egressListStart (now slice) k) (now slice)) = c .bytes in
     cc
 only-answer (compare w e f r c) = cc
-only-answer (relies k w v r c) = cc
+only-answer (relies k w v r c) = ap reliesIs (c .answer)
 only-answer (explain k w v r c) = cc
 only-answer (verdict k r labels ranks table cycle c) = cc
 only-answer (activate k w table r after c) = cc

@@ -7,7 +7,7 @@ use Rattle.plan_rules.specs.Refusal.{refuse}
 use Rattle.links_rules.specs.Sheet.{linkOk, sheetOk}
 use Rattle.links_rules.specs.Sums.{direct, summing}
 use Rattle.links_rules.specs.Distances.{sumsOk, distancesRefusal, rowOf, bodyOf, sheetBody, distancesAfter}
-use Rattle.links_rules.specs.Examples.{bothWays, eight, seven, eighteen, LinksExamples}
+use Rattle.links_rules.specs.Examples.{bothWays, eight, seven, eighteen, LinksExamples, RouterCountExamples}
 
 pub links-examples : LinksExamples
 unfolding
@@ -23,9 +23,6 @@ links-examples =
       threeLinks = (refl, refl);
       loop = (refl, refl);
       loopBesides = (refl, refl);
-      noRouter = (refl, refl);
-      sixtyFour = (refl, refl);
-      sixtyFive = (refl, refl);
       fromAtN = (refl, refl);
       toAtN = (refl, refl);
       noWeight = (refl, refl);
@@ -50,3 +47,10 @@ links-examples =
       short = (refl, refl);
       longer = (refl, refl);
     }
+
+-- by themselves: a rule that looks at sums before links would work out those of 64 routers
+pub router-count-examples : RouterCountExamples
+unfolding
+    bothWays eight seven eighteen distancesRefusal rowOf bodyOf sheetBody distancesAfter sumsOk direct summing linkOk sheetOk
+    refuse routerCountOk allBelow tab joined
+router-count-examples = record { noRouter = (refl, refl); sixtyFour = (refl, refl); sixtyFive = (refl, refl) }

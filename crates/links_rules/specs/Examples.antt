@@ -43,10 +43,6 @@ pub record LinksExamples : Type 0 where
   pub loop : Gives 1 (0 ∷ 0 ∷ 5 ∷ 0 ∷ []) (91 ∷ 92 ∷ []) 0 (0 ∷ 0 ∷ [])  -- the loop's weight: 5 0
   -- a loop forbidden: 11
   pub loopBesides : Gives 2 (0 ∷ 0 ∷ 5 ∷ 0 ∷ 0 ∷ 1 ∷ 7 ∷ 0 ∷ 1 ∷ 0 ∷ 9 ∷ 0 ∷ []) eight 0 (0 ∷ 0 ∷ 7 ∷ 0 ∷ 9 ∷ 0 ∷ 0 ∷ 0 ∷ [])
-  -- "An n outside 1 to 64 gives refusal 2."
-  pub noRouter : Gives 0 [] eight 2 eight  -- from 0: 0
-  pub sixtyFour : Gives 64 (0 ∷ 1 ∷ 7 ∷ []) eight 11 eight  -- below 64: 2
-  pub sixtyFive : Gives 65 (0 ∷ 1 ∷ 7 ∷ []) eight 2 eight  -- to 65, or 2 after 11: 11
   -- "each from, to (a byte each, below n) and weight (two bytes, 1 to 65,535), rising strictly by from and then to"
   pub fromAtN : Gives 1 (1 ∷ 0 ∷ 7 ∷ 0 ∷ []) eight 11 eight  -- at most n: 0
   pub toAtN : Gives 1 (0 ∷ 1 ∷ 7 ∷ 0 ∷ []) eight 11 eight  -- at most n: 0
@@ -84,3 +80,9 @@ pub record LinksExamples : Type 0 where
   -- "The buffer needs 2n² bytes, and later ones are untouched."
   pub short : Gives 2 bothWays seven 9 seven  -- n² bytes: 0
   pub longer : Gives 1 [] (91 ∷ 92 ∷ 93 ∷ 94 ∷ []) 0 (0 ∷ 0 ∷ 93 ∷ 94 ∷ [])  -- all cleared: 0 0 0 0
+
+pub record RouterCountExamples : Type 0 where
+  -- "An n outside 1 to 64 gives refusal 2."
+  pub noRouter : Gives 0 [] eight 2 eight  -- from 0: 0
+  pub sixtyFour : Gives 64 (0 ∷ 1 ∷ 7 ∷ []) eight 11 eight  -- below 64: 2
+  pub sixtyFive : Gives 65 (0 ∷ 1 ∷ 7 ∷ []) eight 2 eight  -- to 65, or 2 after 11: 11
