@@ -1,6 +1,6 @@
 -- Document 01, "Refusal table, in order of checking": "Checks 8, 9 and 10 stand only for calls that take such things": the others pass
 -- them. Document 02: "the first check in order that fails now decides, not the lowest number". The plan's own rows come first, in the order
--- that `RowExactly` of crate `plan_rules` is about.
+-- that `RowExactly` of crate `plan_rules` is about. Here by the calls' tests; `RowsExactly` has it in plain facts and in both directions.
 use Prim.Native.Nat.{ℕ}
 use mathlib.Core.Path.{_≡_}
 use mathlib.Core.Bool.{Bool, true, false}

@@ -2,13 +2,14 @@
 use Prim.Native.Nat.{ℕ, _+_}
 use native.Mathlib.Omega.{arith}
 use mathlib.Core.Path.{_≡_, refl, _∙_, sym, ap}
-use mathlib.Core.List.{List, [], _∷_}
+use mathlib.Core.List.{List, [], _∷_, map}
 use denote.Ref.{RefT, ptr, now}
 use lib.ListN.{take, drop}
 use Rattle.base.specs.Bytes.{bytesOn}
 use Rattle.call_query.specs.EgressList.{egressListStart, egressListSize, ListPartOf}
-use Rattle.checker_examples.specs.Questions.{Question, Answer, reliesIs, Admitted, Example, example, Answered, Hold, answerTo, worked, stated, WorkedOut}
+use Rattle.checker_examples.specs.Questions.{Question, Answer, reliesIs, Admitted, Example, example, Hold}
 use Rattle.checker_examples.specs.Questions.{check, size, list, compare, relies, explain, verdict, activate, run}
+use Rattle.checker_examples.proofs.Questions.{answerTo}
 
 -- a stretch of a slice starts at one place alone
 one-start : (slice part : RefT (List ℕ)) (a b : ℕ) → ptr part ≡ bytesOn (ptr slice) a → ptr part ≡ bytesOn (ptr slice) b → a ≡ b
@@ -29,6 +30,12 @@ only-answer (verdict k r labels ranks table cycle c) = cc
 only-answer (activate k w table r after c) = cc
 only-answer (run k acts limit table r after c) = cc
 
+abbrev pub worked : Example → Answer
+worked (example plan question answer) = answerTo plan question
+
+abbrev pub stated : Example → Answer
+stated (example plan question answer) = answer
+
 -- the first of two equal lists of answers, and the rest
 first-same : {a b : Answer} {xs ys : List Answer} → _≡_ {A = List Answer} (a ∷ xs) (b ∷ ys) → a ≡ b
 first-same h = cc
@@ -36,7 +43,7 @@ first-same h = cc
 rest-same : {a b : Answer} {xs ys : List Answer} → _≡_ {A = List Answer} (a ∷ xs) (b ∷ ys) → xs ≡ ys
 rest-same h = cc
 
-pub answered : (examples : List Example) → WorkedOut examples → Hold examples
+pub answered : (examples : List Example) → map worked examples ≡ map stated examples → Hold examples
 unfolding Hold
 answered [] h = tt
 answered (example plan question answer ∷ examples) h =

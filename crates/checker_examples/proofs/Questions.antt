@@ -1,6 +1,9 @@
 -- What an answer is worked out from: the definitions that the contracts of the public calls cite, down to the bytes.
 use Prim.Native.Nat.{ℕ}
+use mathlib.Core.Bool.{false}
 use mathlib.Core.List.{List}
+use lib.ListN.{take, drop}
+use lib.IntN.{pos}
 use Rattle.base.specs.Below.{allBelow, anyBelow}
 use Rattle.base.specs.Best.{keepBest, best}
 use Rattle.base.specs.Seek.{seek, highest, count}
@@ -13,7 +16,8 @@ use Rattle.plan_rules.specs.Parents.{parentCount, fewParents, parentsOk}
 use Rattle.plan_rules.specs.Distances.{distancesOk}
 use Rattle.plan_rules.specs.Lists.{listPlace, memberOk, listAtOk, listOk, eachListOk, listsOk}
 use Rattle.plan_rules.specs.Refusal.{refuse, bodyChecks, planChecks, planRefusal}
-use Rattle.net_rules.specs.FromPlan.{named}
+use Rattle.plan_rules.specs.Refused.{unlessRefused, field, flagField}
+use Rattle.net_rules.specs.FromPlan.{named, instanceOf}
 use Rattle.route_rules.specs.Preference.{prefers, better, marginOf}
 use Rattle.route_rules.specs.Reliance.{listedClientOf, bestClient, offer, betterOffer, relies}
 use Rattle.route_rules.specs.Activation.{reflects, advertises, hears, senderOf, routeTo, choice, choose, entryOk, tableOk}
@@ -26,6 +30,10 @@ use Rattle.route_theorems.specs.Settled.{chooseAll, chosenAfter, settledTable}
 use Rattle.net_tables.specs.TableBytes.{readRoute, tableOf, tableBytes, activateBytes, runBytes}
 use Rattle.call_rules.specs.Refusals.{sequenceOk, egressListRefusal, compareRefusal, reliesRefusal, buffersOk, verdictRefusal, tableChecks, activateRefusal, runRefusal}
 use Rattle.route_explain_rules.specs.Explained.{againstOwn, byOffer, onReflector, onClient, explained}
+use Rattle.route_explain_rules.specs.Values.{bare, valuesOf}
+use Rattle.route_explain_rules.specs.declared.explanation.Explanation.the-variants as explanations
+use Rattle.call_compare.specs.declared.compare.CompareAnswer.the-variants as compares
+use Rattle.call_query.specs.declared.relies.ReliesAnswer.the-variants as relying
 use Rattle.call_query.specs.Size.{sizeRouters, sizeLists}
 use Rattle.call_query.specs.EgressList.{egressListStart, egressListSize}
 use Rattle.call_compare.specs.Compare.{whichBetter, hasMargin, marginNumber, preferredOf, compared}
@@ -33,7 +41,37 @@ use Rattle.call_query.specs.Relies.{relied}
 use Rattle.call_verdict.specs.Verdict.{isStable, labelsOf, ranksOf, highestOf, settledBytes, cycleOf, verdictOf, verdictAnswer, labelsAfter, ranksAfter, tableAfter, cycleAfter}
 use Rattle.call_run.specs.Activate.{activateTable}
 use Rattle.call_run.specs.Run.{runApplied, runRounds, runExhausted, runTable}
-use Rattle.checker_examples.specs.Questions.{Question, Answer, answerTo}
+use Rattle.checker_examples.specs.Questions.{Question, checkAsked, sizeAsked, listAsked, compareAsked, reliesAsked, explainAsked, verdictAsked, activateAsked, runAsked}
+use Rattle.checker_examples.specs.Questions.{Answer, checkIs, sizeIs, listIs, compareIs, reliesIs, explainIs, verdictIs, activateIs, runIs}
+
+-- the answer, by those definitions
+unfoldable pub answerTo : List ℕ → Question → Answer
+answerTo plan checkAsked = checkIs (planRefusal plan)
+answerTo plan sizeAsked = sizeIs (planRefusal plan) (sizeRouters plan) (sizeLists plan)
+answerTo plan (listAsked k) =
+    listIs (egressListRefusal plan k) (egressListStart plan k) (take (egressListSize plan k) (drop (egressListStart plan k) plan))
+answerTo plan (compareAsked w e f) =
+    let number = compareRefusal plan w e f in
+    compareIs (unlessRefused number (compares.Refused number) (compared plan w e f)) (field number (whichBetter plan w e f))
+    (flagField number (hasMargin plan w e f))
+    (unlessRefused number (pos 0) (marginNumber plan w e f))
+answerTo plan (reliesAsked k w v) =
+    let number = reliesRefusal plan k w v in
+    reliesIs (unlessRefused number (relying.Refused number) (relied plan k w v))
+answerTo plan (explainAsked k w v) =
+    let number = reliesRefusal plan k w v in
+    let found = explained (instanceOf plan k) w v in
+    explainIs (unlessRefused number (explanations.Refused number) found) number (unlessRefused number (bare false 0) (valuesOf found))
+answerTo plan (verdictAsked k labels ranks table cycle) =
+    let number = verdictRefusal plan k labels ranks table cycle in
+    verdictIs (verdictAnswer number plan k) (labelsAfter number plan k labels) (ranksAfter number plan k ranks)
+    (tableAfter number plan k table)
+    (cycleAfter number plan k cycle)
+answerTo plan (activateAsked k w table) = activateIs (activateRefusal plan k w table) (activateTable plan k w table)
+answerTo plan (runAsked k acts limit table) =
+    let number = runRefusal plan k acts table in
+    runIs number (runApplied number acts limit) (runRounds number plan acts limit) (runExhausted number acts limit)
+    (runTable plan k acts limit table)
 
 -- to unfold this is to unfold them all
 unfoldable pub allRules : List ℕ → Question → Answer

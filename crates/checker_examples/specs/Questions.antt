@@ -1,38 +1,30 @@
 -- Examples of the public calls: a plan, what is asked of it, and the whole answer.
 use Prim.Native.Nat.{ℕ}
 use mathlib.Core.Path.{_≡_}
-use mathlib.Core.Bool.{Bool, false}
-use mathlib.Core.List.{List, [], _∷_, map}
+use mathlib.Core.Bool.{Bool}
+use mathlib.Core.List.{List, [], _∷_}
 use denote.Ref.{RefT, ptr, now}
-use lib.ListN.{take, drop}
-use lib.IntN.{ℤ, pos}
+use lib.IntN.{ℤ}
 use Rattle.base.specs.Bytes.{bytesOn}
 use Rattle.base.specs.Lent.{Lent}
 use Rattle.plan_rules.specs.Refusal.{planRefusal}
-use Rattle.plan_rules.specs.Refused.{unlessRefused, field, flagField}
-use Rattle.net_rules.specs.FromPlan.{instanceOf}
-use Rattle.route_explain_rules.specs.Explained.{explained}
-use Rattle.route_explain_rules.specs.Values.{bare, valuesOf}
+use Rattle.route_explain_rules.specs.Values.{valuesOf}
 use Rattle.route_explain_rules.specs.declared.explanation.Values.{Values}
 use Rattle.route_explain_rules.specs.declared.explanation.Explanation.{Explanation}
-use Rattle.route_explain_rules.specs.declared.explanation.Explanation.the-variants as explanations
-use Rattle.call_rules.specs.Refusals.{egressListRefusal, compareRefusal, reliesRefusal, verdictRefusal, activateRefusal, runRefusal}
+use Rattle.call_rules.specs.Refusals.{egressListRefusal}
 use Rattle.call_query.specs.declared.size.SizeAnswer.{SizeAnswer}
-use Rattle.call_query.specs.Size.{sizeRouters, sizeLists, Sizes}
-use Rattle.call_query.specs.EgressList.{egressListStart, egressListSize, ListPartOf}
+use Rattle.call_query.specs.Size.{Sizes}
+use Rattle.call_query.specs.EgressList.{ListPartOf}
 use Rattle.call_compare.specs.declared.compare.CompareAnswer.{CompareAnswer}
-use Rattle.call_compare.specs.declared.compare.CompareAnswer.the-variants as compares
-use Rattle.call_compare.specs.Compare.{whichBetter, hasMargin, marginNumber, compared}
 use Rattle.call_compare.specs.Compare.{compareBetter, compareHasMargin, compareMargin, Compares}
 use Rattle.call_query.specs.declared.relies.ReliesAnswer.{ReliesAnswer}
-use Rattle.call_query.specs.declared.relies.ReliesAnswer.the-variants as relying
-use Rattle.call_query.specs.Relies.{relied, Relied}
+use Rattle.call_query.specs.Relies.{Relied}
 use Rattle.call_explain.specs.Explain.{explainNumber, Explains}
 use Rattle.call_verdict.specs.declared.verdict.VerdictAnswer.{VerdictAnswer}
-use Rattle.call_verdict.specs.Verdict.{verdictAnswer, labelsAfter, ranksAfter, tableAfter, cycleAfter, VerdictCall}
-use Rattle.call_run.specs.Activate.{activateTable, Activates}
+use Rattle.call_verdict.specs.Verdict.{VerdictCall}
+use Rattle.call_run.specs.Activate.{Activates}
 use Rattle.call_run.specs.declared.run.RunAnswer.{RunAnswer}
-use Rattle.call_run.specs.Run.{runApplied, runRounds, runExhausted, runTable, Runs}
+use Rattle.call_run.specs.Run.{Runs}
 
 -- what a caller asks of a plan, with every byte of the buffers that the call is lent
 pub data Question : Type 0 where
@@ -89,42 +81,3 @@ Answered (example plan question answer) = (given : Answer) → Admitted plan que
 unfoldable pub Hold : List Example → Type 0
 Hold [] = Unit {0}
 Hold (first ∷ examples) = Answered first × Hold examples
-
--- What the examples are worked out from: the answer, by the definitions that the contracts cite. The theorem `only-answer` says that a
--- contract admits this answer alone.
-unfoldable pub answerTo : List ℕ → Question → Answer
-answerTo plan checkAsked = checkIs (planRefusal plan)
-answerTo plan sizeAsked = sizeIs (planRefusal plan) (sizeRouters plan) (sizeLists plan)
-answerTo plan (listAsked k) =
-    listIs (egressListRefusal plan k) (egressListStart plan k) (take (egressListSize plan k) (drop (egressListStart plan k) plan))
-answerTo plan (compareAsked w e f) =
-    let number = compareRefusal plan w e f in
-    compareIs (unlessRefused number (compares.Refused number) (compared plan w e f)) (field number (whichBetter plan w e f))
-    (flagField number (hasMargin plan w e f))
-    (unlessRefused number (pos 0) (marginNumber plan w e f))
-answerTo plan (reliesAsked k w v) =
-    let number = reliesRefusal plan k w v in
-    reliesIs (unlessRefused number (relying.Refused number) (relied plan k w v))
-answerTo plan (explainAsked k w v) =
-    let number = reliesRefusal plan k w v in
-    let found = explained (instanceOf plan k) w v in
-    explainIs (unlessRefused number (explanations.Refused number) found) number (unlessRefused number (bare false 0) (valuesOf found))
-answerTo plan (verdictAsked k labels ranks table cycle) =
-    let number = verdictRefusal plan k labels ranks table cycle in
-    verdictIs (verdictAnswer number plan k) (labelsAfter number plan k labels) (ranksAfter number plan k ranks)
-    (tableAfter number plan k table)
-    (cycleAfter number plan k cycle)
-answerTo plan (activateAsked k w table) = activateIs (activateRefusal plan k w table) (activateTable plan k w table)
-answerTo plan (runAsked k acts limit table) =
-    let number = runRefusal plan k acts table in
-    runIs number (runApplied number acts limit) (runRounds number plan acts limit) (runExhausted number acts limit)
-    (runTable plan k acts limit table)
-
-abbrev pub worked : Example → Answer
-worked (example plan question answer) = answerTo plan question
-
-abbrev pub stated : Example → Answer
-stated (example plan question answer) = answer
-
-abbrev pub WorkedOut : List Example → Type 0
-WorkedOut examples = map worked examples ≡ map stated examples
