@@ -31,7 +31,8 @@ use Rattle.call_rules.specs.Refusals.{tableChecks, sequenceOk, activateRefusal,
 use Rattle.call_compare.specs.Compare.{whichBetter, hasMargin, marginNumber}
 use Rattle.call_run.specs.Activate.{activateTable}
 use Rattle.route_explain_rules.specs.Explained.{againstOwn, byOffer, onReflector, onClient, explained}
-use Rattle.call_verdict.specs.Verdict.{isStable, labelsOf, ranksOf, highestOf, settledBytes, cycleOf, sizeOf}
+use Rattle.net_verdict.specs.Assessed.{labelsLeft, ranksLeft, tableLeft, cycleLeft, isStable, labelsOf, ranksOf, highestOf, settledBytes, cycleOf}
+use Rattle.call_verdict.specs.Verdict.{sizeOf}
 use Rattle.call_verdict.specs.Verdict.{labelsAfter, ranksAfter, tableAfter, cycleAfter}
 use Rattle.call_run.specs.Run.{runApplied, runRounds, runExhausted, runTable}
 use Rattle.c_rules.specs.Examples.{twoRouters, ExportExamples}
@@ -40,7 +41,7 @@ pub export-examples : ExportExamples
 unfolding
     fourRouters smallPlan M3Plan twoRouters egressListRefusal compareRefusal reliesRefusal whichBetter hasMargin marginNumber
     againstOwn byOffer onReflector onClient explained
-    isStable labelsOf ranksOf highestOf settledBytes cycleOf sizeOf buffersOk verdictRefusal labelsAfter ranksAfter tableAfter cycleAfter
+    isStable labelsOf ranksOf highestOf settledBytes cycleOf sizeOf buffersOk verdictRefusal labelsAfter ranksAfter tableAfter cycleAfter labelsLeft ranksLeft tableLeft cycleLeft
     tableChecks sequenceOk activateRefusal activateTable runRefusal runApplied runRounds runExhausted runTable
     readRoute tableOf tableBytes activateBytes runBytes chooseAll chosenAfter settledTable start next walk metAgainAt metFirstAt repeatedPart cycleIn cycle
     rankOver ranksByChains rank together label stable grouped closing acted roundsFrom rounds

@@ -10,6 +10,7 @@ use Rattle.plan_contents.specs.Header.{routerCount}
 use Rattle.plan_rules.specs.EgressLists.{listCount, listStart, listSize}
 use Rattle.plan_rules.specs.Refusal.{planRefusal}
 use Rattle.route_rules.specs.Reliance.{relies}
+use Rattle.route_rules.specs.Instance.{Instance}
 use Rattle.net_rules.specs.FromPlan.{instanceOf}
 use Rattle.plan_rules.specs.Refused.{unlessRefused}
 use Rattle.call_rules.specs.Refusals.{egressListRefusal, compareRefusal, reliesRefusal, verdictRefusal, runRefusal}
@@ -17,7 +18,8 @@ use Rattle.call_compare.specs.Compare.{whichBetter, hasMargin, marginNumber}
 use Rattle.route_explain_rules.specs.declared.explanation.Values.{Values}
 use Rattle.route_explain_rules.specs.Explained.{explained}
 use Rattle.route_explain_rules.specs.Values.{valuesOf}
-use Rattle.call_verdict.specs.Verdict.{isStable, sizeOf, labelsAfter, ranksAfter, tableAfter, cycleAfter}
+use Rattle.net_verdict.specs.Assessed.{isStable}
+use Rattle.call_verdict.specs.Verdict.{sizeOf, labelsAfter, ranksAfter, tableAfter, cycleAfter}
 use Rattle.call_run.specs.Run.{runApplied, runRounds, runExhausted, runTable}
 
 -- a result variable of a call whose refusal is `number`: "unchanged" if refused, else the value
@@ -72,20 +74,20 @@ SameReliance =
     → (r ≡ s) × (r ≡ 0 → relied .after ≡ plain .after)
 
 -- rrp_verdict: stable 1 or 0; the size is the highest rank if stable, else the cycle's length. `number` is the call's refusal.
-pub record VerdictWritten (number : ℕ) (plan : List ℕ) (k r : ℕ)
+pub record VerdictWritten (number : ℕ) (I : Instance) (r : ℕ)
     (labels ranks table shown : Lent (List ℕ)) (stable size : Lent ℕ) : Type 0 where
   pub numbered : r ≡ number
-  pub labelled : labels .after ≡ labelsAfter number plan k (labels .before)
-  pub ranked : ranks .after ≡ ranksAfter number plan k (ranks .before)
-  pub settled : table .after ≡ tableAfter number plan k (table .before)
-  pub cycled : shown .after ≡ cycleAfter number plan k (shown .before)
-  pub judged : VariableHolds number stable (flag (isStable plan k))
-  pub sized : VariableHolds number size (sizeOf plan k)
+  pub labelled : labels .after ≡ labelsAfter number I (labels .before)
+  pub ranked : ranks .after ≡ ranksAfter number I (ranks .before)
+  pub settled : table .after ≡ tableAfter number I (table .before)
+  pub cycled : shown .after ≡ cycleAfter number I (shown .before)
+  pub judged : VariableHolds number stable (flag (isStable I))
+  pub sized : VariableHolds number size (sizeOf I)
 
 abbrev pub VerdictExport : (plan : List ℕ) (k r : ℕ) (labels ranks table shown : Lent (List ℕ)) (stable size : Lent ℕ) → Type 0
 VerdictExport plan k r labels ranks table shown =
     VerdictWritten (verdictRefusal plan k (labels .before) (ranks .before) (table .before) (shown .before))
-    plan k r labels ranks table shown
+    (instanceOf plan k) r labels ranks table shown
 
 -- rrp_run: the activations applied, the whole rounds in them, and 1 if the sequence is longer than the limit, else 0.
 -- `number` is the call's refusal.

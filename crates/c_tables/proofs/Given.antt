@@ -9,30 +9,34 @@ use Rattle.call_verdict.specs.declared.verdict.VerdictAnswer.{VerdictAnswer}
 use Rattle.call_verdict.specs.declared.verdict.VerdictAnswer.the-variants as verdicts
 use Rattle.call_run.specs.declared.run.RunAnswer.{RunAnswer}
 use Rattle.call_rules.specs.Refusals.{verdictRefusal, runRefusal}
-use Rattle.call_verdict.specs.Verdict.{isStable, verdictOf, verdictAnswer, verdictNumber, verdictIsStable, verdictSize, VerdictCall}
+use Rattle.net_rules.specs.FromPlan.{instanceOf}
+use Rattle.net_verdict.specs.declared.Assessment.{Assessment}
+use Rattle.net_verdict.specs.declared.Assessment.the-variants as assessments
+use Rattle.net_verdict.specs.Assessed.{found}
+use Rattle.call_verdict.specs.Verdict.{answerOf, verdictAnswer, verdictNumber, verdictIsStable, verdictSize, VerdictCall}
 use Rattle.call_run.specs.Run.{Runs}
 use Rattle.plan_rules.proofs.Refused.{when-refused, when-given}
 use Rattle.call_verdict.proofs.Judging.{kept}
 use Rattle.c_rules.specs.Exports.{VerdictExport, RunExport}
-use Rattle.c_rules.proofs.Written.{wrote, written, refused-by, cond-answers}
+use Rattle.c_rules.proofs.Written.{wrote, written, refused-by}
 
 abbrev verdictRefuses : VerdictAnswer → ℕ
 verdictRefuses (verdicts.Refused number) = 1
 verdictRefuses (verdicts.Stable highest) = 0
 verdictRefuses (verdicts.Suspect count) = 0
 
+verdict-answers : (a : Assessment) → verdictRefuses (answerOf a) ≡ 0
+verdict-answers (assessments.Stable highest) = refl
+verdict-answers (assessments.Suspect count) = refl
+
 module _ (plan : List ℕ) (k : ℕ) (r : VerdictAnswer) (labels ranks table shown : Lent (List ℕ))
     (call : VerdictCall plan k r labels ranks table shown) (stable size : ℕ) where
-  verdict-answers : verdictRefuses (verdictOf plan k) ≡ 0
-  unfolding verdictOf
-  verdict-answers = cond-answers verdictRefuses (isStable plan k) _ _ refl refl
-
   abbrev number₀ : ℕ
   number₀ = verdictRefusal plan k (labels .before) (ranks .before) (table .before) (shown .before)
 
   refusal-not-0 : verdictRefuses r ≡ 1 → number₀ ≡ 0 → ⊥
   unfolding verdictAnswer
-  refusal-not-0 says = refused-by verdictRefuses _ r _ _ (call .answer) says verdict-answers
+  refusal-not-0 says = refused-by verdictRefuses _ r _ _ (call .answer) says (verdict-answers (found (instanceOf plan k)))
 
   pub verdict-refused : (number : ℕ) → r ≡ verdicts.Refused number
       → VerdictExport plan k number labels ranks table shown (kept stable) (kept size)

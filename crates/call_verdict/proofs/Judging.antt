@@ -5,14 +5,14 @@ use mathlib.Core.Bool.{Bool, true, false, cond}
 use mathlib.Core.List.{List}
 use lib.ListN.{length}
 use Rattle.base.specs.Lent.{Lent}
+use Rattle.route_rules.specs.Instance.{Instance}
 use Rattle.net_rules.specs.FromPlan.{instanceOf}
 use Rattle.net_verdict.specs.declared.Assessment.{Assessment}
 use Rattle.net_verdict.specs.declared.Assessment.the-variants.{Stable, Suspect}
-use Rattle.net_verdict.specs.Assessed.{Assessed}
+use Rattle.net_verdict.specs.Assessed.{isStable, highestOf, cycleOf, found, Assessed}
 use Rattle.call_rules.specs.Refusals.{verdictRefusal}
 use Rattle.call_verdict.specs.declared.verdict.VerdictAnswer.the-variants as answers
-use Rattle.call_verdict.specs.Verdict.{isStable, labelsOf, ranksOf, highestOf, settledBytes, cycleOf, verdictOf, verdictAnswer}
-use Rattle.call_verdict.specs.Verdict.{labelsAfter, ranksAfter, tableAfter, cycleAfter, verdictNumber, verdictIsStable, verdictSize, sizeOf, answerOf, VerdictCall}
+use Rattle.call_verdict.specs.Verdict.{verdictAnswer, labelsAfter, ranksAfter, tableAfter, cycleAfter, verdictNumber, verdictIsStable, verdictSize, sizeOf, answerOf, VerdictCall}
 use Rattle.plan_rules.proofs.Refused.{when-refused, when-given}
 
 not-refused : (a : Assessment) → verdictNumber (answerOf a) ≡ 0
@@ -53,22 +53,22 @@ module _ (plan : List ℕ) (k : ℕ) where
       → verdictRefusal plan k (labels .before) (ranks .before) (table .before) (shown .before) ≡ 0
       → Assessed (instanceOf plan k) a labels ranks table shown
       → VerdictCall plan k (answerOf a) labels ranks table shown
-  unfolding verdictAnswer verdictOf sizeOf isStable labelsOf ranksOf highestOf settledBytes cycleOf labelsAfter ranksAfter tableAfter cycleAfter
+  unfolding verdictAnswer found sizeOf labelsAfter ranksAfter tableAfter cycleAfter
   verdict-given labels ranks table shown a given f =
-      let s : Bool = isStable plan k in
-      let x : Assessment = Stable (highestOf plan k) in
-      let y : Assessment = Suspect (length (cycleOf plan k)) in
+      let I : Instance = instanceOf plan k in
+      let x : Assessment = Stable (highestOf I) in
+      let y : Assessment = Suspect (length (cycleOf I)) in
       record {
-        answer = ap answerOf (f .verdict) ∙ cond-case answerOf s x y ∙ sym (when-given _ _ _ given);
+        answer = ap answerOf (f .verdict) ∙ sym (when-given _ _ _ given);
         numbered = not-refused a ∙ sym given;
         stable =
             ap (λ x. verdictIsStable (answerOf x)) (f .verdict)
-            ∙ cond-case (λ x. verdictIsStable (answerOf x)) s x y
-            ∙ cond-itself s
+            ∙ cond-case (λ x. verdictIsStable (answerOf x)) (isStable I) x y
+            ∙ cond-itself (isStable I)
             ∙ sym (when-given _ _ _ given);
         size =
             ap (λ x. verdictSize (answerOf x)) (f .verdict)
-            ∙ cond-case (λ x. verdictSize (answerOf x)) s x y
+            ∙ cond-case (λ x. verdictSize (answerOf x)) (isStable I) x y
             ∙ sym (when-given _ _ _ given);
         labelled = f .labelled ∙ sym (when-given _ _ _ given);
         ranked = f .ranked ∙ sym (when-given _ _ _ given);

@@ -1,67 +1,43 @@
--- Document 01, "Reliance and verdict": the verdict call.
-use Prim.Native.Nat.{ℕ, _*_}
+-- Document 01, "Reliance and verdict": the verdict call. What it finds and writes for a plan's list is what the assessment of the plan's
+-- network with that list finds and leaves.
+use Prim.Native.Nat.{ℕ}
 use mathlib.Core.Path.{_≡_}
-use mathlib.Core.List.{List, _++_}
+use mathlib.Core.List.{List}
 use mathlib.Core.Bool.{Bool, true, false, cond}
-use lib.ListN.{length, drop}
+use lib.ListN.{length}
 use Rattle.base.specs.Lent.{Lent}
-use Rattle.plan_contents.specs.Header.{routerCount}
-use Rattle.graph_groups.specs.Closure.{Relation}
+use Rattle.route_rules.specs.Instance.{Instance}
 use Rattle.net_rules.specs.FromPlan.{instanceOf}
+use Rattle.net_verdict.specs.declared.Assessment.{Assessment}
+use Rattle.net_verdict.specs.declared.Assessment.the-variants as assessments
+use Rattle.net_verdict.specs.Assessed.{isStable, highestOf, cycleOf, found, labelsLeft, ranksLeft, tableLeft, cycleLeft}
 use Rattle.call_rules.specs.Refusals.{verdictRefusal}
 use Rattle.call_verdict.specs.declared.verdict.VerdictAnswer.{VerdictAnswer}
 use Rattle.call_verdict.specs.declared.verdict.VerdictAnswer.the-variants.{Refused, Stable, Suspect}
-use Rattle.net_verdict.specs.declared.Assessment.{Assessment}
-use Rattle.net_verdict.specs.declared.Assessment.the-variants as assessments
-use Rattle.net_verdict.specs.Assessed as assessed
 use Rattle.plan_rules.specs.Refused.{unlessRefused, field, flagField}
 
--- what the plan's network for list k is found to be
-abbrev pub reliance : List ℕ → ℕ → Relation
-reliance plan k = assessed.reliance (instanceOf plan k)
+-- the answer of a call that found this for the network
+abbrev pub answerOf : Assessment → VerdictAnswer
+answerOf (assessments.Stable highest) = Stable highest
+answerOf (assessments.Suspect count) = Suspect count
 
-unfoldable pub isStable : List ℕ → ℕ → Bool
-isStable plan k = assessed.isStable (instanceOf plan k)
-
-unfoldable pub labelsOf : List ℕ → ℕ → List ℕ
-labelsOf plan k = assessed.labelsOf (instanceOf plan k)
-
-unfoldable pub ranksOf : List ℕ → ℕ → List ℕ
-ranksOf plan k = assessed.ranksOf (instanceOf plan k)
-
-unfoldable pub highestOf : List ℕ → ℕ → ℕ
-highestOf plan k = assessed.highestOf (instanceOf plan k)
-
-unfoldable pub settledBytes : List ℕ → ℕ → List ℕ
-settledBytes plan k = assessed.settledBytes (instanceOf plan k)
-
-unfoldable pub cycleOf : List ℕ → ℕ → List ℕ
-cycleOf plan k = assessed.cycleOf (instanceOf plan k)
-
--- "Stable returns the highest rank .. suspect returns the ring's length"
-unfoldable pub verdictOf : List ℕ → ℕ → VerdictAnswer
-verdictOf plan k = cond (isStable plan k) (Stable (highestOf plan k)) (Suspect (length (cycleOf plan k)))
-
--- `number` is the refusal of the call
-unfoldable pub verdictAnswer : ℕ → List ℕ → ℕ → VerdictAnswer
-verdictAnswer number plan k = unlessRefused number (Refused number) (verdictOf plan k)
+-- `number` is the refusal of the call, and I the plan's network with the list
+unfoldable pub verdictAnswer : ℕ → Instance → VerdictAnswer
+verdictAnswer number I = unlessRefused number (Refused number) (answerOf (found I))
 
 -- "Labels are written with either verdict. Stable .. writes ranks and table; suspect .. writes that many ring bytes. Other bytes are
 -- untouched."
-unfoldable pub labelsAfter : ℕ → List ℕ → ℕ → List ℕ → List ℕ
-labelsAfter number plan k labels = unlessRefused number labels (labelsOf plan k ++ drop (routerCount plan) labels)
+unfoldable pub labelsAfter : ℕ → Instance → List ℕ → List ℕ
+labelsAfter number I labels = unlessRefused number labels (labelsLeft I labels)
 
-unfoldable pub ranksAfter : ℕ → List ℕ → ℕ → List ℕ → List ℕ
-ranksAfter number plan k ranks =
-    unlessRefused number ranks (cond (isStable plan k) (ranksOf plan k ++ drop (routerCount plan) ranks) ranks)
+unfoldable pub ranksAfter : ℕ → Instance → List ℕ → List ℕ
+ranksAfter number I ranks = unlessRefused number ranks (ranksLeft I ranks)
 
-unfoldable pub tableAfter : ℕ → List ℕ → ℕ → List ℕ → List ℕ
-tableAfter number plan k table =
-    unlessRefused number table (cond (isStable plan k) (settledBytes plan k ++ drop (2 * routerCount plan) table) table)
+unfoldable pub tableAfter : ℕ → Instance → List ℕ → List ℕ
+tableAfter number I table = unlessRefused number table (tableLeft I table)
 
-unfoldable pub cycleAfter : ℕ → List ℕ → ℕ → List ℕ → List ℕ
-cycleAfter number plan k shown =
-    unlessRefused number shown (cond (isStable plan k) shown (cycleOf plan k ++ drop (length (cycleOf plan k)) shown))
+unfoldable pub cycleAfter : ℕ → Instance → List ℕ → List ℕ
+cycleAfter number I shown = unlessRefused number shown (cycleLeft I shown)
 
 -- the paper's refusal number and values for each case of the answer
 abbrev pub verdictNumber : VerdictAnswer → ℕ
@@ -80,27 +56,22 @@ verdictSize (Refused number) = 0
 verdictSize (Stable highest) = highest
 verdictSize (Suspect count) = count
 
-unfoldable pub sizeOf : List ℕ → ℕ → ℕ
-sizeOf plan k = cond (isStable plan k) (highestOf plan k) (length (cycleOf plan k))
-
--- the answer of a call that found this for the network
-abbrev pub answerOf : Assessment → VerdictAnswer
-answerOf (assessments.Stable highest) = Stable highest
-answerOf (assessments.Suspect count) = Suspect count
+unfoldable pub sizeOf : Instance → ℕ
+sizeOf I = cond (isStable I) (highestOf I) (length (cycleOf I))
 
 -- the answer r of a call whose refusal is `number`, and each buffer before and after
-pub record VerdictGiven (number : ℕ) (plan : List ℕ) (k : ℕ) (r : VerdictAnswer) (labels ranks table shown : Lent (List ℕ)) : Type 0 where
-  pub answer : r ≡ verdictAnswer number plan k
+pub record VerdictGiven (number : ℕ) (I : Instance) (r : VerdictAnswer) (labels ranks table shown : Lent (List ℕ)) : Type 0 where
+  pub answer : r ≡ verdictAnswer number I
   pub numbered : verdictNumber r ≡ number
-  pub stable : verdictIsStable r ≡ flagField number (isStable plan k)
-  pub size : verdictSize r ≡ field number (sizeOf plan k)
-  pub labelled : labels .after ≡ labelsAfter number plan k (labels .before)
-  pub ranked : ranks .after ≡ ranksAfter number plan k (ranks .before)
-  pub settled : table .after ≡ tableAfter number plan k (table .before)
-  pub cycled : shown .after ≡ cycleAfter number plan k (shown .before)
+  pub stable : verdictIsStable r ≡ flagField number (isStable I)
+  pub size : verdictSize r ≡ field number (sizeOf I)
+  pub labelled : labels .after ≡ labelsAfter number I (labels .before)
+  pub ranked : ranks .after ≡ ranksAfter number I (ranks .before)
+  pub settled : table .after ≡ tableAfter number I (table .before)
+  pub cycled : shown .after ≡ cycleAfter number I (shown .before)
 
 -- the same of any call
 abbrev pub VerdictCall : (plan : List ℕ) (k : ℕ) (r : VerdictAnswer) (labels ranks table shown : Lent (List ℕ)) → Type 0
 VerdictCall plan k r labels ranks table shown =
     VerdictGiven (verdictRefusal plan k (labels .before) (ranks .before) (table .before) (shown .before))
-    plan k r labels ranks table shown
+    (instanceOf plan k) r labels ranks table shown

@@ -38,7 +38,8 @@ use Rattle.call_query.specs.Size.{sizeRouters, sizeLists}
 use Rattle.call_query.specs.EgressList.{egressListStart, egressListSize}
 use Rattle.call_compare.specs.Compare.{whichBetter, hasMargin, marginNumber, preferredOf, compared}
 use Rattle.call_query.specs.Relies.{relied}
-use Rattle.call_verdict.specs.Verdict.{isStable, labelsOf, ranksOf, highestOf, settledBytes, cycleOf, verdictOf, verdictAnswer, labelsAfter, ranksAfter, tableAfter, cycleAfter}
+use Rattle.net_verdict.specs.Assessed.{labelsLeft, ranksLeft, tableLeft, cycleLeft, isStable, labelsOf, ranksOf, highestOf, settledBytes, cycleOf, found}
+use Rattle.call_verdict.specs.Verdict.{verdictAnswer, labelsAfter, ranksAfter, tableAfter, cycleAfter}
 use Rattle.call_run.specs.Activate.{activateTable}
 use Rattle.call_run.specs.Run.{runApplied, runRounds, runExhausted, runTable}
 use Rattle.checker_examples.specs.Questions.{Question, checkAsked, sizeAsked, listAsked, compareAsked, reliesAsked, explainAsked, verdictAsked, activateAsked, runAsked}
@@ -64,9 +65,9 @@ answerTo plan (explainAsked k w v) =
     explainIs (unlessRefused number (explanations.Refused number) found) number (unlessRefused number (bare false 0) (valuesOf found))
 answerTo plan (verdictAsked k labels ranks table cycle) =
     let number = verdictRefusal plan k labels ranks table cycle in
-    verdictIs (verdictAnswer number plan k) (labelsAfter number plan k labels) (ranksAfter number plan k ranks)
-    (tableAfter number plan k table)
-    (cycleAfter number plan k cycle)
+    verdictIs (verdictAnswer number (instanceOf plan k)) (labelsAfter number (instanceOf plan k) labels) (ranksAfter number (instanceOf plan k) ranks)
+    (tableAfter number (instanceOf plan k) table)
+    (cycleAfter number (instanceOf plan k) cycle)
 answerTo plan (activateAsked k w table) = activateIs (activateRefusal plan k w table) (activateTable plan k w table)
 answerTo plan (runAsked k acts limit table) =
     let number = runRefusal plan k acts table in
@@ -79,7 +80,7 @@ unfolding
     answerTo againstOwn byOffer onReflector onClient explained
     planRefusal egressListRefusal compareRefusal reliesRefusal verdictRefusal activateRefusal runRefusal
     sizeRouters sizeLists egressListStart egressListSize whichBetter hasMargin marginNumber preferredOf compared relied
-    isStable labelsOf ranksOf highestOf settledBytes cycleOf verdictOf verdictAnswer labelsAfter ranksAfter tableAfter cycleAfter
+    isStable labelsOf ranksOf highestOf settledBytes cycleOf found verdictAnswer labelsAfter ranksAfter tableAfter cycleAfter labelsLeft ranksLeft tableLeft cycleLeft
     activateTable runApplied runRounds runExhausted runTable
     buffersOk tableChecks sequenceOk readRoute tableOf tableBytes activateBytes runBytes chooseAll chosenAfter settledTable
     start next walk metAgainAt metFirstAt repeatedPart cycleIn cycle rankOver ranksByChains rank together label stable grouped closing acted roundsFrom rounds

@@ -28,7 +28,7 @@ use Rattle.net_rules.specs.FromPlan.{instanceOf}
 use Rattle.net_tables.specs.TableBytes.{tableOf, tableBytes, activateBytes, runBytes}
 use Rattle.net_tables.proofs.TableBytes.{table-length, table-front, table-bytes, run-bytes-length, run-bytes-rest, run-table}
 use Rattle.plan_rules.specs.Refused.{unlessRefused}
-use Rattle.call_verdict.specs.Verdict.{highestOf, settledBytes}
+use Rattle.net_verdict.specs.Assessed.{highestOf, settledBytes}
 use Rattle.checker_theorems.specs.VerdictMeaning.{rankIn}
 use Rattle.call_rules.specs.Refusals.{tableChecks, activateRefusal, sequenceOk, runRefusal}
 use Rattle.call_run.specs.Activate.{activateTable}
@@ -181,12 +181,12 @@ every-series-settles plan k start s calls this =
     long = applied-long I small acts start after (s .long) applied
 
     settled : List Route
-    settled = settledTable I (highestOf plan k)
+    settled = settledTable I (highestOf (instanceOf plan k))
 
     reached : Enough plan k calls start → tableOf after n ≡ settled
     reached enough =
         applied-table I small acts start after (s .long) applied
-        ∙ settles I (rankIn plan k) (highestOf plan k) (ranked plan k (s .stableList)) (tableOf start n) (table-length start n) acts enough .reached
+        ∙ settles I (rankIn plan k) (highestOf (instanceOf plan k)) (ranked plan k (s .stableList)) (tableOf start n) (table-length start n) acts enough .reached
 
     stays : Enough plan k calls start → (more later : List ℕ) → Applied I more after later → later ≡ after
     stays enough more later a =

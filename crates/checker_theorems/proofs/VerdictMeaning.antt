@@ -19,8 +19,9 @@ use Rattle.route_rules.specs.Reliance.{relies}
 use Rattle.route_rules.proofs.Reliance.{relies-other}
 use Rattle.route_theorems.specs.Claims.{Ranked, OneSteadyTable}
 use Rattle.route_theorems.proofs.Uniqueness.{one-steady-table}
+use Rattle.route_theorems.proofs.Senders.{settles-by-any-sender}
 use Rattle.net_rules.specs.FromPlan.{instanceOf}
-use Rattle.call_verdict.specs.Verdict.{reliance, isStable, highestOf, cycleOf}
+use Rattle.net_verdict.specs.Assessed.{reliance, isStable, highestOf, cycleOf}
 use Rattle.checker_theorems.specs.VerdictMeaning.{Shares, labelIn, rankIn, HighestBelow, VerdictMeans}
 
 -- a test as a number, and back
@@ -32,45 +33,45 @@ yes-flag true h = refl
 yes-flag false h = absurd (omega arith)
 
 module _ (plan : List ℕ) (k : ℕ) where
-  relies-irreflexive : Irreflexive (reliance plan k) (routerCount plan)
+  relies-irreflexive : Irreflexive (reliance (instanceOf plan k)) (routerCount plan)
   relies-irreflexive i l = ap flag (relies-other (instanceOf plan k) i)
 
   module _ (w v : ℕ) (l : w < routerCount plan) (m : v < routerCount plan) where
-    shares-together : Shares plan k w v → 1 ≤ together (closure (reliance plan k) (routerCount plan)) w v
+    shares-together : Shares plan k w v → 1 ≤ together (closure (reliance (instanceOf plan k)) (routerCount plan)) w v
     shares-together (inl e) = together-self _ w v e
     shares-together (inr c) =
-        together-both _ w v (closure-is (reliance plan k) (routerCount plan) w v l m .1 (c .0))
-        (closure-is (reliance plan k) (routerCount plan) v w m l .1 (c .1))
+        together-both _ w v (closure-is (reliance (instanceOf plan k)) (routerCount plan) w v l m .1 (c .0))
+        (closure-is (reliance (instanceOf plan k)) (routerCount plan) v w m l .1 (c .1))
 
-    together-shares : 1 ≤ together (closure (reliance plan k) (routerCount plan)) w v → Shares plan k w v
+    together-shares : 1 ≤ together (closure (reliance (instanceOf plan k)) (routerCount plan)) w v → Shares plan k w v
     together-shares h =
         ⊎-elim (λ (e : w ≡ v). inl e)
-        (λ (c : (1 ≤ closure (reliance plan k) (routerCount plan) w v) × (1 ≤ closure (reliance plan k) (routerCount plan) v w)).
+        (λ (c : (1 ≤ closure (reliance (instanceOf plan k)) (routerCount plan) w v) × (1 ≤ closure (reliance (instanceOf plan k)) (routerCount plan) v w)).
         inr (
-          closure-is (reliance plan k) (routerCount plan) w v l m .0 (c .0),
-          closure-is (reliance plan k) (routerCount plan) v w m l .0 (c .1),
+          closure-is (reliance (instanceOf plan k)) (routerCount plan) w v l m .0 (c .0),
+          closure-is (reliance (instanceOf plan k)) (routerCount plan) v w m l .0 (c .1),
         ))
-        (together-cases (closure (reliance plan k) (routerCount plan)) w v h)
+        (together-cases (closure (reliance (instanceOf plan k)) (routerCount plan)) w v h)
 
-  module _ (stableList : isStable plan k ≡ true) where
-    acyclic : Acyclic (reliance plan k) (routerCount plan)
+  module _ (stableList : isStable (instanceOf plan k) ≡ true) where
+    acyclic : Acyclic (reliance (instanceOf plan k)) (routerCount plan)
     unfolding isStable
-    acyclic = stable-acyclic (reliance plan k) (routerCount plan) relies-irreflexive stableList
+    acyclic = stable-acyclic (reliance (instanceOf plan k)) (routerCount plan) relies-irreflexive stableList
 
     falls : (w v : ℕ) → w < routerCount plan → v < routerCount plan → relies (instanceOf plan k) w v ≡ true → rankIn plan k v < rankIn plan k w
-    falls w v l m h = rank-falls (reliance plan k) (routerCount plan) acyclic w v l m (flag-yes (relies (instanceOf plan k) w v) h)
+    falls w v l m h = rank-falls (reliance (instanceOf plan k)) (routerCount plan) acyclic w v l m (flag-yes (relies (instanceOf plan k) w v) h)
 
-    pub ranked : Ranked (instanceOf plan k) (rankIn plan k) (highestOf plan k)
+    pub ranked : Ranked (instanceOf plan k) (rankIn plan k) (highestOf (instanceOf plan k))
     unfolding highestOf
     ranked = record { falls = falls; highest = highest-over (rankIn plan k) (routerCount plan) }
 
-    pub settled-alone : OneSteadyTable (instanceOf plan k) (highestOf plan k)
-    settled-alone = one-steady-table (instanceOf plan k) (rankIn plan k) (highestOf plan k) ranked
+    pub settled-alone : OneSteadyTable (instanceOf plan k) (highestOf (instanceOf plan k))
+    settled-alone = one-steady-table (instanceOf plan k) (rankIn plan k) (highestOf (instanceOf plan k)) ranked
 
     highest-below : (w v : ℕ) → w < routerCount plan → v < routerCount plan → relies (instanceOf plan k) w v ≡ true → HighestBelow plan k w
     highest-below w v l m h =
-        let b : OneMore (reliance plan k) (routerCount plan) (rankIn plan k) w
-        = rank-means (reliance plan k) (routerCount plan) acyclic .onSome w v l m (flag-yes (relies (instanceOf plan k) w v) h) in
+        let b : OneMore (reliance (instanceOf plan k)) (routerCount plan) (rankIn plan k) w
+        = rank-means (reliance (instanceOf plan k)) (routerCount plan) acyclic .onSome w v l m (flag-yes (relies (instanceOf plan k) w v) h) in
         record {
           at = b .at;
           below = b .below;
@@ -85,17 +86,18 @@ module _ (plan : List ℕ) (k : ℕ) where
       record {
         labelShares =
             λ w l.
-            together-shares w (labelIn plan k w) l (omega (arith, label-upto (closure (reliance plan k) (routerCount plan)) w))
-            (label-shares (closure (reliance plan k) (routerCount plan)) w);
-        labelLowest = λ w v l m h. label-lowest (closure (reliance plan k) (routerCount plan)) w v (shares-together w v l m h);
+            together-shares w (labelIn plan k w) l (omega (arith, label-upto (closure (reliance (instanceOf plan k)) (routerCount plan)) w))
+            (label-shares (closure (reliance (instanceOf plan k)) (routerCount plan)) w);
+        labelLowest = λ w v l m h. label-lowest (closure (reliance (instanceOf plan k)) (routerCount plan)) w v (shares-together w v l m h);
         stableGroups =
-            let groups = stable-groups (closure (reliance plan k) (routerCount plan)) (routerCount plan) in (
+            let groups = stable-groups (closure (reliance (instanceOf plan k)) (routerCount plan)) (routerCount plan) in (
               λ h w v l m s. groups .0 h w v l m (shares-together w v l m s),
               λ h. groups .1 (λ w v l m s. h w v l m (together-shares w v l m s)),
             );
-        stableChains = stable-chains (reliance plan k) (routerCount plan) relies-irreflexive;
-        showsCycle = cycle-is (reliance plan k) (routerCount plan);
-        rankNone = λ s w l h. rank-means (reliance plan k) (routerCount plan) (acyclic s) .onNone w l (λ v m. ap flag (h v m));
+        stableChains = stable-chains (reliance (instanceOf plan k)) (routerCount plan) relies-irreflexive;
+        showsCycle = cycle-is (reliance (instanceOf plan k)) (routerCount plan);
+        rankNone = λ s w l h. rank-means (reliance (instanceOf plan k)) (routerCount plan) (acyclic s) .onNone w l (λ v m. ap flag (h v m));
         rankSome = highest-below;
         settled = settled-alone;
+        anySender = λ s. settles-by-any-sender (instanceOf plan k) (rankIn plan k) (highestOf (instanceOf plan k)) (ranked s);
       }

@@ -12,7 +12,7 @@ use Rattle.route_rules.specs.Rounds.{rounds}
 use Rattle.net_rules.specs.FromPlan.{instanceOf}
 use Rattle.net_tables.specs.TableBytes.{tableOf, activateBytes}
 use Rattle.plan_rules.specs.Refused.{unlessRefused}
-use Rattle.call_verdict.specs.Verdict.{isStable, highestOf, settledBytes}
+use Rattle.net_verdict.specs.Assessed.{isStable, highestOf, settledBytes}
 use Rattle.call_rules.specs.Refusals.{tableChecks, activateRefusal, runRefusal}
 use Rattle.call_run.specs.Activate.{activateTable}
 use Rattle.call_run.specs.Run.{runTable}
@@ -66,18 +66,18 @@ ForThis plan k (call ∷ calls) buffer =
 pub record Start (plan : List ℕ) (k : ℕ) (buffer : List ℕ) : Type 0 where
   pub planOk : planRefusal plan ≡ 0
   pub listOk : k < listCount plan
-  pub stableList : isStable plan k ≡ true
+  pub stableList : isStable (instanceOf plan k) ≡ true
   pub long : 2 * routerCount plan ≤ length buffer
   pub table : tableOk (instanceOf plan k) (tableOf buffer (routerCount plan)) ≡ true
 
 -- "the rounds up to there are at least the highest rank plus two", counted "over all these acts as one sequence, by the rule for runs"
 abbrev pub Enough : List ℕ → ℕ → List Call → List ℕ → Type 0
-Enough plan k calls start = highestOf plan k + 2 ≤ rounds (routerCount plan) (seriesActs calls start)
+Enough plan k calls start = highestOf (instanceOf plan k) + 2 ≤ rounds (routerCount plan) (seriesActs calls start)
 
 -- "Take the point after any call of the series.": `calls` are the calls up to there
 pub record SettledAfter (plan : List ℕ) (k : ℕ) (start : List ℕ) (calls : List Call) : Type 0 where
   -- "the first 2n bytes then equal, byte for byte, the settled table that the verdict call writes for this plan and list"
-  pub settled : Enough plan k calls start → take (2 * routerCount plan) (seriesBuffer calls start) ≡ settledBytes plan k
+  pub settled : Enough plan k calls start → take (2 * routerCount plan) (seriesBuffer calls start) ≡ settledBytes (instanceOf plan k)
   -- "and no later act .. alters a byte"
   pub steady : Enough plan k calls start → (w : ℕ) → w < routerCount plan
       → activateBytes (instanceOf plan k) w (seriesBuffer calls start) ≡ seriesBuffer calls start

@@ -28,7 +28,7 @@ use Rattle.route_theorems.specs.Settled.{settledTable}
 use Rattle.route_theorems.specs.Claims.{Ranked}
 use Rattle.net_tables.specs.TableBytes.{tableBytes}
 use Rattle.net_reliance.specs.RelianceRows.{RelianceRows}
-use Rattle.net_verdict.specs.Assessed.{reliance, isStable, highestOf, cycleOf, Assessed}
+use Rattle.net_verdict.specs.Assessed.{reliance, isStable, labelsOf, ranksOf, highestOf, settledBytes, cycleOf, found, labelsLeft, ranksLeft, tableLeft, cycleLeft, Assessed}
 use Rattle.net_verdict.specs.declared.Assessment.the-variants.{Stable, Suspect}
 use Rattle.net_settle.specs.ByRank.{highestIn}
 
@@ -46,6 +46,7 @@ module _ (I : Instance) (before relied : List ℕ) (h : RelianceRows I before re
   -- where the network is stable
   module _ (s : isStable I ≡ true) where
     acyclic : Acyclic (reliance I) (I .n)
+    unfolding isStable
     acyclic = stable-acyclic (reliance I) (I .n) irreflexive s
 
     pub rows-acyclic : Acyclic (bits relied) (I .n)
@@ -59,6 +60,7 @@ module _ (I : Instance) (before relied : List ℕ) (h : RelianceRows I before re
       rank-at v l = getD-written (rank (reliance I) (I .n)) (I .n) 0 start ranks ranks-are v l
 
       pub highest-is : highestIn ranks (I .n) ≡ highestOf I
+      unfolding highestOf
       highest-is = highest-cong (entry ranks) (rank (reliance I) (I .n)) (I .n) rank-at
 
       pub ranks-fall : Ranked I (entry ranks) (highestIn ranks (I .n))
@@ -71,6 +73,7 @@ module _ (I : Instance) (before relied : List ℕ) (h : RelianceRows I before re
           }
 
   pub highest-same : highestRank (bits relied) (I .n) ≡ highestOf I
+  unfolding highestOf
   highest-same = highest-rank-cong (bits relied) (reliance I) (I .n) related
 
   module _ (closed : List ℕ) (c : Agree (bits closed) (closure (bits relied) (I .n)) (I .n)) where
@@ -84,11 +87,13 @@ module _ (I : Instance) (before relied : List ℕ) (h : RelianceRows I before re
     labels-are = labels-cong (bits closed) (closure (reliance I) (I .n)) (I .n) reached
 
     pub stable-is : stable (bits closed) (I .n) ≡ isStable I
+    unfolding isStable
     stable-is = stable-cong (bits closed) (closure (reliance I) (I .n)) (I .n) reached
 
     -- where it is suspect
     module _ (s : isStable I ≡ false) where
       suspect : stable (closure (bits relied) (I .n)) (I .n) ≡ false
+      unfolding isStable
       suspect = ap (λ C. stable C (I .n)) same-closure ∙ s
 
       pub cycle-asked : (shown : List ℕ) → I .n ≤ 64 → I .n ≤ length shown → CycleAsked (bits relied) (bits closed) (I .n) shown
@@ -103,6 +108,7 @@ module _ (I : Instance) (before relied : List ℕ) (h : RelianceRows I before re
           }
 
       cycle-is : cycle (bits relied) (I .n) ≡ cycleOf I
+      unfolding cycleOf
       cycle-is = cycle-cong (bits relied) (reliance I) (I .n) related suspect
 
     -- what the buffers hold then is what an assessment leaves
@@ -116,6 +122,7 @@ module _ (I : Instance) (before relied : List ℕ) (h : RelianceRows I before re
           → table .after ≡ tableBytes (settledTable I r) ++ drop (2 * I .n) (table .before)
           → shown .after ≡ shown .before
           → Assessed I (Stable r) labels ranks table shown
+      unfolding found labelsLeft ranksLeft tableLeft cycleLeft labelsOf ranksOf settledBytes
       stable-assessed s e k t kept =
           record {
             verdict = rw s (ap Stable (e ∙ highest-same));
@@ -130,6 +137,7 @@ module _ (I : Instance) (before relied : List ℕ) (h : RelianceRows I before re
           → table .after ≡ table .before
           → shown .after ≡ cycle (bits relied) (I .n) ++ drop r (shown .before)
           → Assessed I (Suspect r) labels ranks table shown
+      unfolding found labelsLeft ranksLeft tableLeft cycleLeft labelsOf
       suspect-assessed s e ranked settled k =
           let q : r ≡ length (cycleOf I) = e ∙ ap length (cycle-is s) in
           record {

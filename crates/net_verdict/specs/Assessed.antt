@@ -1,4 +1,4 @@
--- What an assessment of a network returns and writes (document 01, "Reliance and verdict").
+-- What the assessment of a network returns and leaves of each buffer (document 01, "Reliance and verdict").
 use Prim.Native.Nat.{ℕ, _*_}
 use mathlib.Core.Path.{_≡_}
 use mathlib.Core.Bool.{Bool, cond}
@@ -23,34 +23,49 @@ abbrev pub reliance : Instance → Relation
 reliance I w v = flag (relies I w v)
 
 -- "Stable: every group has one router."
-abbrev pub isStable : Instance → Bool
+unfoldable pub isStable : Instance → Bool
 isStable I = stable (closure (reliance I) (I .n)) (I .n)
 
 -- the lowest router of each router's group
-abbrev pub labelsOf : Instance → List ℕ
+unfoldable pub labelsOf : Instance → List ℕ
 labelsOf I = tab (label (closure (reliance I) (I .n))) (I .n)
 
-abbrev pub ranksOf : Instance → List ℕ
+unfoldable pub ranksOf : Instance → List ℕ
 ranksOf I = tab (rank (reliance I) (I .n)) (I .n)
 
-abbrev pub highestOf : Instance → ℕ
+unfoldable pub highestOf : Instance → ℕ
 highestOf I = highestRank (reliance I) (I .n)
 
 -- "The settled table is the one held-route table that no act changes", in bytes
-abbrev pub settledBytes : Instance → List ℕ
+unfoldable pub settledBytes : Instance → List ℕ
 settledBytes I = tableBytes (settledTable I (highestOf I))
 
 -- the paper's ring
-abbrev pub cycleOf : Instance → List ℕ
+unfoldable pub cycleOf : Instance → List ℕ
 cycleOf I = cycle (reliance I) (I .n)
+
+-- "Stable returns the highest rank .. suspect returns the ring's length"
+unfoldable pub found : Instance → Assessment
+found I = cond (isStable I) (Stable (highestOf I)) (Suspect (length (cycleOf I)))
+
+-- What is left of each buffer. "Labels are written with either verdict."
+unfoldable pub labelsLeft : Instance → List ℕ → List ℕ
+labelsLeft I labels = labelsOf I ++ drop (I .n) labels
+
+-- "Stable .. writes ranks and table; suspect .. writes that many ring bytes. Other bytes are untouched."
+unfoldable pub ranksLeft : Instance → List ℕ → List ℕ
+ranksLeft I ranks = cond (isStable I) (ranksOf I ++ drop (I .n) ranks) ranks
+
+unfoldable pub tableLeft : Instance → List ℕ → List ℕ
+tableLeft I table = cond (isStable I) (settledBytes I ++ drop (2 * I .n) table) table
+
+unfoldable pub cycleLeft : Instance → List ℕ → List ℕ
+cycleLeft I shown = cond (isStable I) shown (cycleOf I ++ drop (length (cycleOf I)) shown)
 
 -- the answer r, and each buffer before and after
 pub record Assessed (I : Instance) (r : Assessment) (labels ranks table shown : Lent (List ℕ)) : Type 0 where
-  -- "Stable returns the highest rank .. suspect returns the ring's length"
-  pub verdict : r ≡ cond (isStable I) (Stable (highestOf I)) (Suspect (length (cycleOf I)))
-  -- "Labels are written with either verdict."
-  pub labelled : labels .after ≡ labelsOf I ++ drop (I .n) (labels .before)
-  -- "Stable .. writes ranks and table; suspect .. writes that many ring bytes. Other bytes are untouched."
-  pub ranked : ranks .after ≡ cond (isStable I) (ranksOf I ++ drop (I .n) (ranks .before)) (ranks .before)
-  pub settled : table .after ≡ cond (isStable I) (settledBytes I ++ drop (2 * I .n) (table .before)) (table .before)
-  pub cycled : shown .after ≡ cond (isStable I) (shown .before) (cycleOf I ++ drop (length (cycleOf I)) (shown .before))
+  pub verdict : r ≡ found I
+  pub labelled : labels .after ≡ labelsLeft I (labels .before)
+  pub ranked : ranks .after ≡ ranksLeft I (ranks .before)
+  pub settled : table .after ≡ tableLeft I (table .before)
+  pub cycled : shown .after ≡ cycleLeft I (shown .before)

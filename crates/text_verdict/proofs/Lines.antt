@@ -15,6 +15,7 @@ use Rattle.plan_rules.proofs.Passed.{passed}
 use Rattle.graph_ranks.specs.Rank.{rank}
 use Rattle.graph_ranks.proofs.RankRule.{rank-below}
 use Rattle.graph_groups.proofs.Sharing.{stable-acyclic}
+use Rattle.route_rules.specs.Instance.{Instance}
 use Rattle.route_rules.proofs.Reliance.{relies-other}
 use Rattle.net_rules.specs.FromPlan.{instanceOf}
 use Rattle.net_verdict.specs.declared.Assessment.{Assessment}
@@ -22,7 +23,7 @@ use Rattle.net_verdict.specs.declared.Assessment.the-variants.{Stable, Suspect}
 use Rattle.call_rules.proofs.Granted.{few-routers}
 use Rattle.call_query.specs.declared.size.SizeAnswer.{SizeAnswer}
 use Rattle.call_query.specs.Size.{sizeRouters, sizeLists, Sizes}
-use Rattle.call_verdict.specs.Verdict.{reliance, isStable, highestOf, cycleOf}
+use Rattle.net_verdict.specs.Assessed.{reliance, isStable, highestOf, cycleOf, found, cycleLeft}
 use Rattle.plan_rules.proofs.Refused.{when-refused, when-given}
 use Rattle.text_lines.specs.Text.{headLine, refusedLine, stableLine, suspectLine}
 use Rattle.text_verdict_rules.specs.Listing.{listLine, listLines, planText}
@@ -47,44 +48,44 @@ module _ (plan : List ℕ) where
     few-lists = passed plan ok .lists .most
 
     module _ (k : ℕ) (asked : k < listCount plan) where
-      highest-few : isStable plan k ≡ true → highestOf plan k ≤ 64
+      abbrev I : Instance
+      I = instanceOf plan k
+
+      highest-few : isStable I ≡ true → highestOf I ≤ 64
       unfolding isStable highestOf
       highest-few s =
-          let R = reliance plan k in
+          let R = reliance I in
           let n = routerCount plan in
-          let none = stable-acyclic R n (λ i m. ap flag (relies-other (instanceOf plan k) i)) s in
+          let none = stable-acyclic R n (λ i m. ap flag (relies-other I i)) s in
           let low : highest (rank R n) n ≤ n = highest-under (rank R n) n n (λ w l. omega (arith, rank-below R n none w l)) in
           omega (arith, few-routers plan ok)
 
       -- what was found says the list's line
       pub found-says :
-          {r : Assessment} (shown shown′ : List ℕ) →
-          r ≡ cond (isStable plan k) (Stable (highestOf plan k)) (Suspect (length (cycleOf plan k))) →
-          shown′ ≡ cond (isStable plan k) shown (cycleOf plan k ++ drop (length (cycleOf plan k)) shown) →
-          length shown′ ≤ 64 →
+          {r : Assessment} (shown shown′ : List ℕ) → r ≡ found I → shown′ ≡ cycleLeft I shown → length shown′ ≤ 64 →
           Printable r k shown′ × (foundLine r k shown′ ≡ listLine plan k)
-      unfolding listLine
-      found-says {r} shown shown′ verdict cycled short = go (isStable plan k) refl
+      unfolding listLine found cycleLeft
+      found-says {r} shown shown′ verdict cycled short = go (isStable I) refl
         where
           cycle : List ℕ
-          cycle = cycleOf plan k
+          cycle = cycleOf I
 
           -- what the verdict decides
-          by : {A : Type 0} {b : Bool} (x y : A) → isStable plan k ≡ b → cond (isStable plan k) x y ≡ cond b x y
+          by : {A : Type 0} {b : Bool} (x y : A) → isStable I ≡ b → cond (isStable I) x y ≡ cond b x y
           by x y = ap (λ b. cond b x y)
 
-          line : {b : Bool} → isStable plan k ≡ b → cond b (stableLine k (highestOf plan k)) (suspectLine k cycle) ≡ listLine plan k
-          line s = sym (by (stableLine k (highestOf plan k)) (suspectLine k cycle) s)
+          line : {b : Bool} → isStable I ≡ b → cond b (stableLine k (highestOf I)) (suspectLine k cycle) ≡ listLine plan k
+          line s = sym (by (stableLine k (highestOf I)) (suspectLine k cycle) s)
 
-          go : (b : Bool) → isStable plan k ≡ b → Printable r k shown′ × (foundLine r k shown′ ≡ listLine plan k)
+          go : (b : Bool) → isStable I ≡ b → Printable r k shown′ × (foundLine r k shown′ ≡ listLine plan k)
           go true s =
-              let found : r ≡ Stable (highestOf plan k) = verdict ∙ by (Stable (highestOf plan k)) (Suspect (length cycle)) s in
-              rw found ((omega (arith, few-lists), omega (arith, highest-few s)), line s)
+              let is : r ≡ Stable (highestOf I) = verdict ∙ by (Stable (highestOf I)) (Suspect (length cycle)) s in
+              rw is ((omega (arith, few-lists), omega (arith, highest-few s)), line s)
           go false s =
-              let found : r ≡ Suspect (length cycle) = verdict ∙ by (Stable (highestOf plan k)) (Suspect (length cycle)) s in
+              let is : r ≡ Suspect (length cycle) = verdict ∙ by (Stable (highestOf I)) (Suspect (length cycle)) s in
               let left : shown′ ≡ cycle ++ drop (length cycle) shown = cycled ∙ by shown (cycle ++ drop (length cycle) shown) s in
               let long : length cycle ≤ length shown′ = omega (arith, ap length left ∙ length-append cycle (drop (length cycle) shown)) in
-              rw found (
+              rw is (
                 (omega (arith, few-lists), long, omega arith),
                 ap (suspectLine k) (ap (take (length cycle)) left ∙ take-append-seam cycle _) ∙ line s,
               )

@@ -20,7 +20,7 @@ use Rattle.graph_groups.specs.Closure.{closing}
 use Rattle.graph_groups.specs.Groups.{together, label, stable, grouped}
 use Rattle.graph_ranks.specs.Rank.{rankOver, ranksByChains, rank}
 use Rattle.graph_cycle.specs.Cycle.{start, next, walk, metAgainAt, metFirstAt, repeatedPart, cycleIn, cycle}
-use Rattle.call_verdict.specs.Verdict.{isStable, highestOf, cycleOf}
+use Rattle.net_verdict.specs.Assessed.{isStable, highestOf, cycleOf}
 use Rattle.text_fields.specs.Fields.{digits, decimal, spaced}
 use Rattle.text_lines.specs.Text.{headLine, refusedLine, stableLine, suspectLine}
 use Rattle.text_verdict_rules.specs.Listing.{listLine, listLines, planText}

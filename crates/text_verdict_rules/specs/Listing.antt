@@ -6,12 +6,13 @@ use Rattle.plan_contents.specs.Header.{routerCount}
 use Rattle.plan_rules.specs.Refusal.{planRefusal}
 use Rattle.plan_rules.specs.EgressLists.{listCount}
 use Rattle.plan_rules.specs.Refused.{unlessRefused}
-use Rattle.call_verdict.specs.Verdict.{isStable, highestOf, cycleOf}
+use Rattle.net_rules.specs.FromPlan.{instanceOf}
+use Rattle.net_verdict.specs.Assessed.{isStable, highestOf, cycleOf}
 use Rattle.text_lines.specs.Text.{lineRoom, headLine, refusedLine, stableLine, suspectLine}
 
 -- "In each later line the fields are list number, verdict, then ring length and ring, or highest rank." The ring is called cycle.
 unfoldable pub listLine : List ℕ → ℕ → List ℕ
-listLine plan k = cond (isStable plan k) (stableLine k (highestOf plan k)) (suspectLine k (cycleOf plan k))
+listLine plan k = cond (isStable (instanceOf plan k)) (stableLine k (highestOf (instanceOf plan k))) (suspectLine k (cycleOf (instanceOf plan k)))
 
 -- the lines of the lists below a number, in order
 unfoldable pub listLines : List ℕ → ℕ → List ℕ

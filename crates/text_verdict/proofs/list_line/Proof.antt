@@ -7,7 +7,6 @@ use Rattle.net_rules.specs.Decoded.{decoded}
 use Rattle.net_rules.specs.FromPlan.{instanceOf}
 use Rattle.net_rules.proofs.FromPlan.{well-formed}
 use Rattle.call_rules.proofs.Granted.{few-routers}
-use Rattle.call_verdict.specs.Verdict.{isStable, highestOf, cycleOf}
 use Rattle.text_fields.proofs.Writing.{put-as}
 use Rattle.text_verdict_rules.specs.Listing.{listLine}
 use Rattle.text_verdict.specs.Found.{foundLine, Printable}
@@ -46,7 +45,6 @@ says : (c : tie.After-cycle3) →
     let a = start (f .before) .args in
     let cycle = f .assess .last .1 .1 .1 .1 .1 .1 .0 in
     Printable (f .assess .result) (a .list) cycle × (foundLine (f .assess .result) (a .list) cycle ≡ listLine (a .plan .now) (a .list))
-unfolding isStable highestOf cycleOf
 says c =
     let found = c .before .before .before .before .before .before in
     let asked = start (found .before) .pre in
