@@ -26,11 +26,12 @@ pub fn size(plan: &[u8], routers: &mut u64, lists: &mut u64) -> u8
 pub fn list(plan: &[u8], list: usize, start: &mut u64, count: &mut u64) -> u8
     ensures { λ r. ⌜ ListExport (now (plan .entry)) list r (lent start) (lent count) ⌝ }
 {
-    let refused = checker::lists::egress_list_refusal(plan, list);
+    let checked = plan_read::refusal::check(plan);
+    let refused = call_refuse::numbers::list_refusal(checked, list);
     if refused != 0 {
         return refused;
     }
-    let span = plan_read::lists::list_span(plan, list);
+    let span = plan_read::lists::list_span(plan, checked, list);
     *start = span.start as u64;
     *count = span.count as u64;
     0

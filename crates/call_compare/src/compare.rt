@@ -1,7 +1,6 @@
 // Two egress routers compared at a router.
 
 use plan_contents::entries::DISTANCES;
-use plan_contents::header::ROUTER_COUNT;
 ghost use mathlib.Core.Path.{_≡_};
 ghost use Prim.Native.Nat.{ℕ, _≤_, _<_};
 ghost use Rattle.route_rules.specs.Instance.{Instance};
@@ -59,12 +58,13 @@ fn which_better(first: usize, second: usize, e: usize, f: usize) -> Preferred
 pub fn compare(plan: &[u8], router: usize, first: usize, second: usize) -> CompareAnswer
     ensures { λ r. ⌜ Compares (now (plan .entry)) router first second r ⌝ }
 {
-    let refused = call_refuse::numbers::compare_refusal(plan, router, first, second);
+    let checked = plan_read::refusal::check(plan);
+    let refused = call_refuse::numbers::compare_refusal(checked, router, first, second);
     if refused != 0 {
         return CompareAnswer::Refused(refused);
     }
-    let n = plan[ROUTER_COUNT] as usize;
-    let distances = plan_read::parts::part(plan, DISTANCES);
+    let n = checked.n as usize;
+    let distances = plan_read::parts::part(plan, checked, DISTANCES);
     let to_first = plan_distances::distance(distances, n, router, first);
     let to_second = plan_distances::distance(distances, n, router, second);
     let preferred = which_better(to_first, to_second, first, second);

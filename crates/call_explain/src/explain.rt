@@ -8,12 +8,13 @@ ghost use Rattle.call_explain.specs.Explain.{Explains};
 pub fn explain(plan: &[u8], list: usize, router: usize, other: usize) -> Explanation
     ensures { λ r. ⌜ Explains (now (plan .entry)) list router other r ⌝ }
 {
-    let refused = call_refuse::numbers::relies_refusal(plan, list, router, other);
+    let checked = plan_read::refusal::check(plan);
+    let refused = call_refuse::numbers::relies_refusal(checked, list, router, other);
     if refused != 0 {
         return Explanation::Refused(refused);
     }
     let mut rows = [0u64; 64];
-    let net = net_read::decode(plan, list, &mut rows);
-    let distances = plan_read::parts::part(plan, DISTANCES);
+    let net = net_read::open_plan(plan, checked, list, &mut rows);
+    let distances = plan_read::parts::part(plan, checked, DISTANCES);
     net_explain::explained(net, &rows, distances, router, other)
 }

@@ -8,18 +8,16 @@ ghost use Rattle.call_query.specs.EgressList.{ListPartOf};
 pub fn egress_list_refusal(plan: &[u8], list: usize) -> u8
     ensures { λ r. ⌜ r ≡ egressListRefusal (now (plan .entry)) list ⌝ }
 {
-    call_refuse::numbers::list_refusal(plan, list)
+    call_refuse::numbers::list_refusal(plan_read::refusal::check(plan), list)
 }
 
 // The numbers of a list as that part of the plan itself; empty if refused.
 pub fn egress_list(plan: &[u8], list: usize) -> &[u8]
     ensures { λ r. ⌜ ListPartOf (plan .entry) list r ⌝ }
 {
-    if egress_list_refusal(plan, list) != 0 {
+    let checked = plan_read::refusal::check(plan);
+    if call_refuse::numbers::list_refusal(checked, list) != 0 {
         return &plan[0..0];
     }
-    let span = plan_read::lists::list_span(plan, list);
-    let start = span.start;
-    let stop = start + span.count;
-    &plan[start..stop]
+    plan_read::lists::list_numbers(plan, checked, list)
 }

@@ -14,13 +14,14 @@ pub enum ReliesAnswer {
 pub fn relies(plan: &[u8], list: usize, router: usize, other: usize) -> ReliesAnswer
     ensures { λ r. ⌜ Relied (now (plan .entry)) list router other r ⌝ }
 {
-    let refused = call_refuse::numbers::relies_refusal(plan, list, router, other);
+    let checked = plan_read::refusal::check(plan);
+    let refused = call_refuse::numbers::relies_refusal(checked, list, router, other);
     if refused != 0 {
         return ReliesAnswer::Refused(refused);
     }
     let mut rows = [0u64; 64];
-    let net = net_read::decode(plan, list, &mut rows);
-    let distances = plan_read::parts::part(plan, DISTANCES);
+    let net = net_read::open_plan(plan, checked, list, &mut rows);
+    let distances = plan_read::parts::part(plan, checked, DISTANCES);
     if net_reliance::relies(net, &rows, distances, router, other) {
         return ReliesAnswer::Yes;
     }

@@ -1,6 +1,5 @@
 // The size of a plan: how many routers and how many egress lists it has.
 
-use plan_contents::header::ROUTER_COUNT;
 ghost use Rattle.call_query.specs.Size.{Sizes};
 
 // Its refusal number, 0 for none; the number of routers, and the number of lists.
@@ -14,17 +13,17 @@ pub struct SizeAnswer {
 pub fn size(plan: &[u8]) -> SizeAnswer
     ensures { λ r. ⌜ Sizes (now (plan .entry)) r ⌝ }
 {
-    let refused = plan_read::refusal::refusal(plan);
-    if refused != 0 {
+    let checked = plan_read::refusal::check(plan);
+    if checked.refused != 0 {
         return SizeAnswer {
-            refused: refused,
+            refused: checked.refused,
             routers: 0,
             lists: 0,
         };
     }
     SizeAnswer {
         refused: 0,
-        routers: plan[ROUTER_COUNT] as usize,
-        lists: plan_read::lists::list_count(plan),
+        routers: checked.n as usize,
+        lists: checked.m as usize,
     }
 }

@@ -1,15 +1,16 @@
 // The refusals of calls that are lent buffers or handed a table: rows 9 and 10, after row 8.
 
-use plan_contents::header::ROUTER_COUNT;
 use net_rules::Network;
+use plan_read::refusal::CheckedPlan;
 ghost use mathlib.Core.Path.{_≡_};
 ghost use mathlib.Core.List.{List};
-ghost use Prim.Native.Nat.{ℕ, _*_, _≤_};
+ghost use Prim.Native.Nat.{ℕ, _*_, _≤_, _<_};
+ghost use Rattle.plan_read.specs.Checked.{Checked};
 ghost use Rattle.net_rules.specs.Decoded.{decoded};
 ghost use Rattle.call_rules.specs.Refusals.{buffersOk, verdictRefusal, tableChecks};
 
 fn buffers_ok(n: usize, labels: &[u8], ranks: &[u8], table: &[u8], cycle: &[u8]) -> bool
-    requires { ⌜ n ≤ 64 ⌝ }
+    requires { ⌜ n < 256 ⌝ }
     ensures { λ r. ⌜ r ≡ buffersOk n (now (labels .entry)) (now (ranks .entry)) (now (table .entry)) (now (cycle .entry)) ⌝ }
 {
     if labels.len() < n {
@@ -26,21 +27,21 @@ fn buffers_ok(n: usize, labels: &[u8], ranks: &[u8], table: &[u8], cycle: &[u8])
 
 // Rows up to 9 of a verdict.
 pub fn verdict_refusal(
-    plan: &[u8],
+    checked: CheckedPlan,
     list: usize,
     labels: &[u8],
     ranks: &[u8],
     table: &[u8],
     cycle: &[u8],
 ) -> u8
-    ensures { λ r. ⌜ r ≡ verdictRefusal (now (plan .entry)) list
-        (now (labels .entry)) (now (ranks .entry)) (now (table .entry)) (now (cycle .entry)) ⌝ }
+    ensures { λ r. ⌜ ((plan : List ℕ) → Checked plan checked → r ≡ verdictRefusal plan list
+        (now (labels .entry)) (now (ranks .entry)) (now (table .entry)) (now (cycle .entry))) ⌝ }
 {
-    let refused = crate::numbers::list_refusal(plan, list);
+    let refused = crate::numbers::list_refusal(checked, list);
     if refused != 0 {
         return refused;
     }
-    if !buffers_ok(plan[ROUTER_COUNT] as usize, labels, ranks, table, cycle) {
+    if !buffers_ok(checked.n as usize, labels, ranks, table, cycle) {
         return 9;
     }
     0

@@ -10,23 +10,24 @@ use lib.ListN.{length}
 use Rattle.base.proofs.Below.{all-at}
 use Rattle.base.proofs.Numbers.{facts, eq-or-ne, true-or-false}
 use Rattle.plan_contents.specs.Header.{routerCount}
+use Rattle.plan_contents.specs.Contents.{distancesBody}
 use Rattle.plan_rules.specs.EgressLists.{listCount}
 use Rattle.plan_rules.specs.Refusal.{refuse, planChecks, planRefusal}
 use Rattle.plan_rules.proofs.Cascade.{call-cascade, refuse-passed}
 use Rattle.plan_rules.proofs.Passed.{passed}
 use Rattle.route_rules.specs.Instance.{Instance}
 use Rattle.route_rules.specs.Rounds.{ActsBelow}
+use Rattle.net_rules.specs.declared.Network.{Network}
+use Rattle.net_rules.specs.Decoded.{decoded}
+use Rattle.net_rules.specs.FromPlan.{instanceOf}
+use Rattle.net_rules.specs.Opened.{Opened}
 use Rattle.net_tables.specs.TableBytes.{TableIn}
 use Rattle.call_rules.specs.Refusals.{sequenceOk, askedChecks, egressListRefusal, compareRefusal, reliesRefusal, routerRefusal, sequenceRefusal, buffersOk, verdictRefusal, tableChecks}
 use Rattle.call_rules.specs.InOrder.{InOrder}
 use Rattle.call_rules.proofs.InOrder.{asked-in-order, list-in-order, compare-in-order, relies-in-order, verdict-in-order}
 
-module _ (plan : List ℕ) (h : planRefusal plan ≡ 0) where
-  pub header-long : 26 ≤ length plan
-  header-long = passed plan h .header .least
-
-  pub few-routers : routerCount plan ≤ 64
-  few-routers = passed plan h .count .most
+pub few-routers : (plan : List ℕ) → planRefusal plan ≡ 0 → routerCount plan ≤ 64
+few-routers plan h = passed plan h .count .most
 
 module _ (plan : List ℕ) (ok : Bool) where
   -- a call that is refused by row 8 or before has that number, whatever its other checks
@@ -51,12 +52,6 @@ module _ (plan : List ℕ) (ok : Bool) where
 
   pub more-passed : {x : Bool} (b : Bool) → x ≡ b → askedChecks plan ok 0 ≡ 0 → refuse b 8 0 ≡ askedChecks plan (ok && x) 0
   more-passed {x} b h z = ap (λ y. refuse y 8 0) (sym h) ∙ asked-passed (refuse x 8 0) z ∙ more x
-
-  pub more-asked : (x : Bool) (asked number : ℕ) → asked ≡ askedChecks plan ok 0
-      → (asked ≡ 0 → number ≡ refuse x 8 0) × ((asked ≡ 0 → ⊥) → number ≡ asked) → number ≡ askedChecks plan (ok && x) 0
-  more-asked x asked number e h =
-      ⊎-elim (λ (z : asked ≡ 0). h .0 z ∙ more-passed x refl (sym e ∙ z)) (λ (ne : asked ≡ 0 → ⊥). h .1 ne ∙ more-refused x asked e ne)
-      (eq-or-ne asked 0)
 
 -- a call that is not refused passes every row
 record Granted (plan : List ℕ) (ok long : Bool) : Type 0 where
@@ -168,3 +163,10 @@ unfolding tableChecks
 table-asked I table h =
     let long = refuse-passed _ 8 _ h in
     record { long = leb-true _ _ (long .0); rule = refuse-passed _ 9 0 (long .1) .0 }
+
+-- rows 9 and 10, found over the network of a plan opened with the list, are the call's
+pub table-number : {plan : List ℕ} {k : ℕ} {net : Network} {rows : List ℕ} {r : ℕ} (ok : Bool) (table : List ℕ)
+    → Opened plan k net rows (distancesBody plan) → ((distances : List ℕ) → r ≡ tableChecks (decoded net rows distances) table)
+    → askedChecks plan ok 0 ≡ 0 → r ≡ askedChecks plan ok (tableChecks (instanceOf plan k) table)
+table-number {plan} ok table o found given =
+    found (distancesBody plan) ∙ ap (λ I. tableChecks I table) (o .same) ∙ asked-passed plan ok _ given

@@ -29,17 +29,18 @@ fn refused_run(number: u8) -> RunAnswer
 pub fn run(plan: &[u8], list: usize, sequence: &[u8], limit: usize, table: &mut [u8]) -> RunAnswer
     ensures { λ r. ⌜ Runs (now (plan .entry)) list (now (sequence .entry)) limit (now (table .entry)) r (now (table .exit)) ⌝ }
 {
-    let asked = call_refuse::numbers::sequence_refusal(plan, list, sequence);
+    let checked = plan_read::refusal::check(plan);
+    let asked = call_refuse::numbers::sequence_refusal(checked, list, sequence);
     if asked != 0 {
         return refused_run(asked);
     }
     let mut rows = [0u64; 64];
-    let net = net_read::decode(plan, list, &mut rows);
+    let net = net_read::open_plan(plan, checked, list, &mut rows);
     let refused = call_refuse::buffers::table_refusal(net, &rows, table);
     if refused != 0 {
         return refused_run(refused);
     }
-    let distances = plan_read::parts::part(plan, DISTANCES);
+    let distances = plan_read::parts::part(plan, checked, DISTANCES);
     let done = net_run::apply(net, &rows, distances, sequence, limit, table);
     RunAnswer {
         refused: 0,

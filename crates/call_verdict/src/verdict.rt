@@ -33,12 +33,13 @@ pub fn verdict(
 ) -> VerdictAnswer
     ensures { λ r. ⌜ VerdictCall (now (plan .entry)) list r (lent labels) (lent ranks) (lent table) (lent cycle) ⌝ }
 {
-    let refused = call_refuse::buffers::verdict_refusal(plan, list, labels, ranks, table, cycle);
+    let checked = plan_read::refusal::check(plan);
+    let refused = call_refuse::buffers::verdict_refusal(checked, list, labels, ranks, table, cycle);
     if refused != 0 {
         return VerdictAnswer::Refused(refused);
     }
     let mut rows = [0u64; 64];
-    let net = net_read::decode(plan, list, &mut rows);
-    let distances = plan_read::parts::part(plan, DISTANCES);
+    let net = net_read::open_plan(plan, checked, list, &mut rows);
+    let distances = plan_read::parts::part(plan, checked, DISTANCES);
     answer(net_verdict::assess(net, &rows, distances, labels, ranks, table, cycle))
 }

@@ -1,20 +1,24 @@
-// From the bytes of a plan that is not refused to the network, read once.
+// From the bytes of a plan that is not refused to its network with one of its lists, read once.
 
 use net_rules::Network;
 use plan_contents::entries::ROUTERS;
 use plan_contents::entries::SESSIONS;
-use plan_contents::header::ROUTER_COUNT;
+use plan_read::lists::list_numbers;
+use plan_read::parts::part;
+use plan_read::refusal::CheckedPlan;
 use plan_routers::CLIENT;
 ghost use mathlib.Core.Path.{_≡_};
 ghost use Prim.Native.Nat.{ℕ, _*_, _≤_, _<_};
 ghost use lib.Dec.{eqb};
 ghost use lib.ListN.{length, getD, replicate};
 ghost use Rattle.base.specs.Bits.{bitN, bits};
-ghost use Rattle.plan_rules.specs.Refusal.{planRefusal};
+ghost use Rattle.plan_contents.specs.Contents.{distancesBody};
 ghost use Rattle.plan_rules.specs.Routers.{reflectorIn};
 ghost use Rattle.plan_rules.specs.Sessions.{sessionCount, sessionFirst, sessionSecond, inSession};
 ghost use Rattle.plan_rules.specs.EgressLists.{listCount};
-ghost use Rattle.net_rules.specs.FromPlan.{skipsIn, named, ReadFrom};
+ghost use Rattle.plan_read.specs.Checked.{Accepted};
+ghost use Rattle.net_rules.specs.FromPlan.{skipsIn, named};
+ghost use Rattle.net_rules.specs.Opened.{Opened};
 
 // The role of a reflector that skips its clients.
 const SKIPPING: u8 = 3;
@@ -74,18 +78,15 @@ fn neighbour_rows(s: &[u8], rows: &mut [u64; 64])
     }
 }
 
-// The network of a plan with one of its lists; the rows of neighbours are lent as zeros.
-pub fn decode(plan: &[u8], list: usize, rows: &mut [u64; 64]) -> Network
-    requires { ⌜ (planRefusal (now plan) ≡ 0) × (list < listCount (now plan)) × (now rows ≡ replicate 64 0) ⌝ }
-    ensures { λ r. ⌜ ReadFrom (now (plan .entry)) list r (now (rows .exit)) ⌝ }
+// Opens a plan that is not refused with one of its lists; the rows of neighbours are lent as zeros.
+pub fn open_plan(plan: &[u8], checked: CheckedPlan, list: usize, rows: &mut [u64; 64]) -> Network
+    requires { ⌜ Accepted (now plan) checked × (list < listCount (now plan)) × (now rows ≡ replicate 64 0) ⌝ }
+    ensures { λ r. ⌜ Opened (now (plan .entry)) list r (now (rows .exit)) (distancesBody (now (plan .entry))) ⌝ }
 {
-    let n = base::wide(plan[ROUTER_COUNT]);
-    let roles = role_words(plan_read::parts::part(plan, ROUTERS), n);
-    neighbour_rows(plan_read::parts::part(plan, SESSIONS), rows);
-    let span = plan_read::lists::list_span(plan, list);
-    let start = span.start;
-    let stop = start + span.count;
-    let listed = listed_word(&plan[start..stop]);
+    let n = checked.n as usize;
+    let roles = role_words(part(plan, checked, ROUTERS), n);
+    neighbour_rows(part(plan, checked, SESSIONS), rows);
+    let listed = listed_word(list_numbers(plan, checked, list));
     Network {
         n,
         reflectors: roles.reflectors,

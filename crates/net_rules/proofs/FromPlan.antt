@@ -1,32 +1,26 @@
 -- The network of a plan that is not refused: what its bodies give the code that reads it, and what holds of it.
-use Prim.Native.Nat.{ℕ, _+_, _-_, _*_, _<_}
+use Prim.Native.Nat.{ℕ, _*_, _<_}
 use native.Mathlib.Omega.{arith}
-use mathlib.Core.Path.{_≡_, refl, _∙_, sym, ap, ap₂, fun-ext}
-use mathlib.Core.Bool.{Bool, true, false, not, _&&_, _||_, and-comm, or-comm}
+use mathlib.Core.Path.{_≡_, refl, _∙_, ap, ap₂}
+use mathlib.Core.Bool.{Bool, true, false, not, _&&_}
 use mathlib.Core.List.{List}
 use mathlib.Core.Logic.{_⊎_, inl, inr, ⊎-elim}
-use borrow.Author.Tests.{eq-eqb, lt-ltb, eqb-true}
+use borrow.Author.Tests.{lt-ltb, eqb-true}
 use lib.Dec.{eqb, lit<}
-use lib.ListN.{length, getD, take, drop}
-use Rattle.base.specs.Below.{anyBelow}
-use Rattle.base.specs.Bits.{bitN, bits}
+use lib.ListN.{length, getD}
 use Rattle.base.proofs.Below.{Witness, any-at}
-use Rattle.base.proofs.Numbers.{facts, eq-or-ne}
+use Rattle.base.proofs.Numbers.{eq-or-ne}
 use Rattle.plan_contents.specs.Header.{routerCount}
 use Rattle.plan_contents.specs.Contents.{routersBody, sessionsBody, distancesBody}
-use Rattle.plan_rules.specs.Routers.{role, reflectorIn}
+use Rattle.plan_rules.specs.Routers.{role}
 use Rattle.plan_rules.specs.Sessions.{sessionCount, sessionFirst, sessionSecond, pairs, inSession}
-use Rattle.plan_rules.specs.Distances.{distanceIn, wayIn}
 use Rattle.plan_rules.proofs.Neighbours.{pairs-are, session-swap}
-use Rattle.plan_rules.specs.EgressLists.{listCount, listSize, listNumbers, SpanOf}
+use Rattle.plan_rules.specs.EgressLists.{listCount, listNumbers}
 use Rattle.plan_rules.specs.Refusal.{planRefusal}
 use Rattle.plan_rules.specs.Passed.{Passed}
 use Rattle.plan_rules.proofs.Passed.{passed, part-length}
 use Rattle.plan_rules.proofs.ListWithin.{numbers-of}
-use Rattle.net_rules.specs.declared.Network.{Network}
-use Rattle.net_rules.specs.Decoded.{decoded}
-use Rattle.net_rules.specs.FromPlan.{skipsIn, named, instanceOf, RoleOf, ReadFrom, Trusted}
-use Rattle.net_rules.specs.WellFormed.{WellFormed}
+use Rattle.net_rules.specs.FromPlan.{named, instanceOf, RoleOf, Trusted}
 
 module _ (plan : List ℕ) (p : Passed plan) where
   pub routers-length : length (routersBody plan) ≡ 5 * routerCount plan
@@ -39,31 +33,6 @@ module _ (plan : List ℕ) (p : Passed plan) where
   number-below k l j h =
       let numbers = numbers-of plan p k l in
       numbers .below j (omega (arith, numbers .count))
-
--- the stretch of the plan that is read for list k
-pub span-numbers : (plan : List ℕ) (k start count : ℕ) → SpanOf plan k start count
-    → take (start + count - start) (drop start plan) ≡ listNumbers plan k
-span-numbers plan k start count s =
-    let size : start + count - start ≡ listSize plan k = omega (arith, s .counts) in
-    ap₂ (λ m b. take m (drop b plan)) size (s .starts)
-
--- two networks whose parts agree at every number are one
-pub read-same : (plan : List ℕ) (k : ℕ) (net : Network) (rows : List ℕ) → net .n ≡ routerCount plan
-    → ((v : ℕ) → eqb (bitN (net .reflectors) v) 1 ≡ reflectorIn (routersBody plan) (routerCount plan) v)
-    → ((v : ℕ) → eqb (bitN (net .skips) v) 1 ≡ skipsIn (routersBody plan) (routerCount plan) v)
-    → ((w v : ℕ) → eqb (bits rows w v) 1 ≡ inSession (sessionsBody plan) w v)
-    → ((v : ℕ) → eqb (bitN (net .listed) v) 1 ≡ named (listNumbers plan k) v)
-    → decoded net rows (distancesBody plan) ≡ instanceOf plan k
-read-same plan k net rows count reflectors skips sessions numbers =
-    λ i. record {
-      n = count i;
-      reflector = λ v. reflectors v i;
-      skips = λ v. skips v i;
-      neighbour = λ w v. sessions w v i;
-      dist = distanceIn (distancesBody plan) (count i);
-      way = wayIn (distancesBody plan) (count i);
-      listed = λ v. numbers v i;
-    }
 
 module _ (plan : List ℕ) (p : Passed plan) where
   neighbour-bounds : (w v : ℕ) → inSession (sessionsBody plan) w v ≡ true → (w ≡ v → ⊥) × (v < routerCount plan)
@@ -126,14 +95,3 @@ trusted plan k accepted l =
 -- the body of kind 3 has a distance for every pair
 pub distances-length : (plan : List ℕ) → planRefusal plan ≡ 0 → length (distancesBody plan) ≡ 2 * (routerCount plan * routerCount plan)
 distances-length plan h = part-length plan (passed plan h) 2 (lit< tt) ∙ passed plan h .contents .distancesSize
-
--- what is read from a plan is as the workers rely on
-pub well-formed : (plan : List ℕ) (k : ℕ) (net : Network) (rows : List ℕ) → planRefusal plan ≡ 0 → k < listCount plan
-    → ReadFrom plan k net rows → WellFormed net rows (distancesBody plan)
-well-formed plan k net rows h l r =
-    let t = trusted plan k h l in
-    record {
-      count = r .most;
-      neighbours = λ w v b. rw (r .count) (t .neighbourBelow w v (sym (ap (λ I. I .neighbour w v) (r .same)) ∙ eq-eqb _ 1 b));
-      pairs = rw (r .count, distances-length plan h) (omega arith);
-    }

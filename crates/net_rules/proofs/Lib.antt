@@ -1,3 +1,4 @@
 pub mod Examples
 pub mod FromPlan
+pub mod Opened
 pub mod RouterBytes

@@ -1,6 +1,6 @@
 -- The network of a plan with one of its lists (document 01, "The plan's bytes"; document 02, "Cut-off routers" and
 -- "Reflectors that skip their own clients").
-use Prim.Native.Nat.{ℕ, _≤_, _<_}
+use Prim.Native.Nat.{ℕ, _<_}
 use mathlib.Core.Path.{_≡_}
 use mathlib.Core.Bool.{Bool, true, false, _&&_}
 use mathlib.Core.List.{List}
@@ -14,9 +14,7 @@ use Rattle.plan_rules.specs.Routers.{role, reflectorIn}
 use Rattle.plan_rules.specs.Sessions.{inSession}
 use Rattle.plan_rules.specs.Distances.{distanceIn, wayIn}
 use Rattle.plan_rules.specs.EgressLists.{listNumbers}
-use Rattle.net_rules.specs.declared.Network.{Network}
 use Rattle.route_rules.specs.Instance.{Instance}
-use Rattle.net_rules.specs.Decoded.{decoded}
 
 -- "Role 3 is such a reflector", one that skips its own clients; s is the body of kind 1
 abbrev pub skipsIn : List ℕ → ℕ → ℕ → Bool
@@ -44,12 +42,6 @@ instanceOf plan k =
       -- "c router numbers": those of list k
       listed = named (listNumbers plan k);
     }
-
--- The network read from a plan, as the code holds it, is the plan's own, and has at most 64 routers.
-pub record ReadFrom (plan : List ℕ) (k : ℕ) (net : Network) (rows : List ℕ) : Type 0 where
-  pub same : decoded net rows (distancesBody plan) ≡ instanceOf plan k
-  pub count : net .n ≡ routerCount plan
-  pub most : net .n ≤ 64
 
 -- v's role is the given number, and whether v is a reflector and skips its clients
 abbrev pub RoleOf : List ℕ → Instance → ℕ → (number : ℕ) (reflector skips : Bool) → Type 0

@@ -1,12 +1,14 @@
-// The egress lists of a plan that is not refused: how many there are, and where the numbers of one stand.
+// Where the numbers of an egress list stand in a plan that is not refused.
 
+use crate::refusal::CheckedPlan;
 use plan_contents::entries::LISTS;
 ghost use mathlib.Core.Path.{_≡_};
 ghost use Prim.Native.Nat.{ℕ, _≤_, _<_};
 ghost use lib.ListN.{length};
+ghost use Rattle.base.specs.Bytes.{PartOf};
 ghost use Rattle.plan_rules.specs.Lists.{listPlace};
-ghost use Rattle.plan_rules.specs.EgressLists.{listCount, SpanOf};
-ghost use Rattle.plan_rules.specs.Refusal.{planRefusal};
+ghost use Rattle.plan_rules.specs.EgressLists.{listCount, listStart, listSize, SpanOf};
+ghost use Rattle.plan_read.specs.Checked.{Accepted};
 
 // Where the count byte of a list stands in the body.
 fn list_place(s: &[u8], list: usize) -> usize
@@ -22,29 +24,33 @@ fn list_place(s: &[u8], list: usize) -> usize
     place
 }
 
-// The number of lists of a plan.
-pub fn list_count(plan: &[u8]) -> usize
-    requires { ⌜ planRefusal (now plan) ≡ 0 ⌝ }
-    ensures { λ r. ⌜ r ≡ listCount (now (plan .entry)) ⌝ }
-{
-    let s = crate::parts::part(plan, LISTS);
-    base::wide(s[0])
-}
-
 // Where the numbers of a list stand in the plan, and how many they are.
 pub struct Span {
     pub start: usize,
     pub count: usize,
 }
 
-pub fn list_span(plan: &[u8], list: usize) -> Span
-    requires { ⌜ (planRefusal (now plan) ≡ 0) × (list < listCount (now plan)) ⌝ }
+pub fn list_span(plan: &[u8], checked: CheckedPlan, list: usize) -> Span
+    requires { ⌜ Accepted (now plan) checked × (list < listCount (now plan)) ⌝ }
     ensures { λ r. ⌜ SpanOf (now (plan .entry)) list (r .start) (r .count) ⌝ }
 {
-    let s = crate::parts::part(plan, LISTS);
+    let s = crate::parts::part(plan, checked, LISTS);
     let place = list_place(s, list);
+    let table = checked.table;
+    let e = table[LISTS];
     Span {
-        start: crate::parts::part_start(plan, LISTS) + place + 1,
+        start: e.offset as usize + place + 1,
         count: base::wide(s[place]),
     }
+}
+
+// The numbers of a list, as a part of the plan itself.
+pub fn list_numbers(plan: &[u8], checked: CheckedPlan, list: usize) -> &[u8]
+    requires { ⌜ Accepted (now plan) checked × (list < listCount (now plan)) ⌝ }
+    ensures { λ r. ⌜ PartOf (plan .entry) (listStart (now (plan .entry)) list) (listSize (now (plan .entry)) list) r ⌝ }
+{
+    let span = list_span(plan, checked, list);
+    let start = span.start;
+    let stop = start + span.count;
+    &plan[start..stop]
 }

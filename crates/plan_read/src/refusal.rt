@@ -1,6 +1,7 @@
 // The rows of the refusal table that a plan has, in order: 1, 2, 3, 4, 5, 13, 6, 7.
 
 use plan_contents::entries;
+use plan_contents::entries::Entry;
 use plan_contents::header;
 ghost use mathlib.Core.Path.{_≡_};
 ghost use mathlib.Core.Bool.{true};
@@ -8,9 +9,10 @@ ghost use Prim.Native.Nat.{_≤_};
 ghost use lib.ListN.{length};
 ghost use Rattle.plan_contents.specs.Contents.{contentsOk};
 ghost use Rattle.plan_rules.specs.Refusal.{bodyChecks, planRefusal};
+ghost use Rattle.plan_read.specs.Checked.{Checked};
 
 // Rows 4, 5, 13, 6 and 7: each body is passed to its reader as a part of the plan.
-fn bodies_refusal(plan: &[u8], table: [entries::Entry; 4], n: u8) -> u8
+fn bodies_refusal(plan: &[u8], table: [Entry; 4], n: u8) -> u8
     requires { ⌜ (n ≤ 64) × (contentsOk table n (length (now plan)) ≡ true) ⌝ }
     ensures { λ r. ⌜ r ≡ bodyChecks (now (plan .entry)) table n 0 ⌝ }
 {
@@ -52,4 +54,48 @@ pub fn refusal(plan: &[u8]) -> u8
         return 3;
     }
     bodies_refusal(plan, table, n)
+}
+
+// What a check of a plan hands on: the plan's refusal number; beside 0, n, m and the table of contents.
+pub struct CheckedPlan {
+    pub refused: u8,
+    pub n: u8,
+    pub m: u8,
+    pub table: [Entry; 4],
+}
+
+const NO_ENTRY: Entry = Entry {
+    kind: 0,
+    offset: 0,
+    size: 0,
+};
+
+fn refused(number: u8) -> CheckedPlan
+    ensures { λ r. ⌜ r .refused ≡ number ⌝ }
+{
+    CheckedPlan {
+        refused: number,
+        n: 0,
+        m: 0,
+        table: [NO_ENTRY; 4],
+    }
+}
+
+// Checks a plan, and reads what is handed on. Nothing after it reads the contents. Those that `refusal` read are not kept: that slows
+// its loops.
+pub fn check(plan: &[u8]) -> CheckedPlan
+    ensures { λ r. ⌜ Checked (now (plan .entry)) r ⌝ }
+{
+    let number = refusal(plan);
+    if number != 0 {
+        return refused(number);
+    }
+    let table = entries::read_contents(plan);
+    let lists = entries::body_of(plan, table[entries::LISTS]);
+    CheckedPlan {
+        refused: 0,
+        n: plan[header::ROUTER_COUNT],
+        m: lists[0],
+        table,
+    }
 }

@@ -12,6 +12,8 @@ use Rattle.plan_contents.specs.Header.{routerCount}
 use Rattle.plan_rules.specs.Refusal.{planRefusal}
 use Rattle.plan_rules.specs.EgressLists.{listCount}
 use Rattle.plan_rules.proofs.Passed.{passed}
+use Rattle.plan_read.specs.declared.refusal.CheckedPlan.{CheckedPlan}
+use Rattle.plan_read.specs.Checked.{Accepted}
 use Rattle.graph_ranks.specs.Rank.{rank}
 use Rattle.graph_ranks.proofs.RankRule.{rank-below}
 use Rattle.graph_groups.proofs.Sharing.{stable-acyclic}
@@ -21,21 +23,11 @@ use Rattle.net_rules.specs.FromPlan.{instanceOf}
 use Rattle.net_verdict.specs.declared.Assessment.{Assessment}
 use Rattle.net_verdict.specs.declared.Assessment.the-variants.{Stable, Suspect}
 use Rattle.call_rules.proofs.Granted.{few-routers}
-use Rattle.call_query.specs.declared.size.SizeAnswer.{SizeAnswer}
-use Rattle.call_query.specs.Size.{sizeRouters, sizeLists, Sizes}
 use Rattle.net_verdict.specs.Assessed.{reliance, isStable, highestOf, cycleOf, found, cycleLeft}
 use Rattle.plan_rules.proofs.Refused.{when-refused, when-given}
 use Rattle.text_lines.specs.Text.{headLine, refusedLine, stableLine, suspectLine}
 use Rattle.text_verdict_rules.specs.Listing.{listLine, listLines, planText}
 use Rattle.text_verdict.specs.Found.{foundLine, Printable}
-
--- a plan that is not refused has n routers and m lists
-pub record Sized (plan : List ℕ) (n m : ℕ) : Type 0 where
-  pub ok : planRefusal plan ≡ 0
-  pub routers : n ≡ routerCount plan
-  pub lists : m ≡ listCount plan
-  pub fewRouters : n ≤ 64
-  pub fewLists : m ≤ 64
 
 module _ (plan : List ℕ) where
   pub text-refused : (number : ℕ) → number ≡ planRefusal plan → (number ≡ 0 → ⊥) → refusedLine number ≡ planText plan
@@ -90,21 +82,11 @@ module _ (plan : List ℕ) where
                 ap (suspectLine k) (ap (take (length cycle)) left ∙ take-append-seam cycle _) ∙ line s,
               )
 
--- what the size call answers of a plan that passes
-pub sized : {plan : List ℕ} {r : SizeAnswer} → Sizes plan r → r .refused ≡ 0 → Sized plan (r .routers) (r .lists)
-unfolding sizeRouters sizeLists
-sized {plan} {r} s passes =
-    let ok : planRefusal plan ≡ 0 = sym (s .number) ∙ passes in
-    let n : r .routers ≡ routerCount plan = s .routers ∙ when-given _ _ _ ok in
-    let m : r .lists ≡ listCount plan = s .lists ∙ when-given _ _ _ ok in
-    record {
-      ok = ok;
-      routers = n;
-      lists = m;
-      fewRouters = omega (arith, few-routers plan ok);
-      fewLists = omega (arith, few-lists plan ok);
-    }
+-- a plan that passes
+module _ {plan : List ℕ} {checked : CheckedPlan} (a : Accepted plan checked) where
+  pub few : (checked .n ≤ 64) × (checked .m ≤ 64)
+  few = (omega (arith, a .routers, few-routers plan (a .ok)), omega (arith, a .lists, few-lists plan (a .ok)))
 
-pub text-given : {plan : List ℕ} {n m : ℕ} → Sized plan n m → headLine n m ++ listLines plan m ≡ planText plan
-unfolding planText
-text-given {plan} s = ap₂ (λ n m. headLine n m ++ listLines plan m) (s .routers) (s .lists) ∙ sym (when-given _ _ _ (s .ok))
+  pub text-given : headLine (checked .n) (checked .m) ++ listLines plan (checked .m) ≡ planText plan
+  unfolding planText
+  text-given = ap₂ (λ n m. headLine n m ++ listLines plan m) (a .routers) (a .lists) ∙ sym (when-given _ _ _ (a .ok))

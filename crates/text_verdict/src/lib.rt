@@ -2,12 +2,12 @@
 
 use net_verdict::Assessment;
 use plan_contents::entries::DISTANCES;
+use plan_read::refusal::CheckedPlan;
 use text_lines::LINE_ROOM;
-ghost use mathlib.Core.Path.{_≡_};
 ghost use Prim.Native.Nat.{_+_, _*_, _≤_, _<_};
 ghost use lib.ListN.{length};
-ghost use Rattle.plan_rules.specs.Refusal.{planRefusal};
 ghost use Rattle.plan_rules.specs.EgressLists.{listCount};
+ghost use Rattle.plan_read.specs.Checked.{Accepted};
 ghost use Rattle.text_fields.specs.Buffer.{Put, AtFront};
 ghost use Rattle.text_lines.specs.Text.{lineRoom};
 ghost use Rattle.text_verdict_rules.specs.Listing.{listLine, listLines, planText, textRoom};
@@ -28,13 +28,13 @@ fn found_line(out: &mut [u8], at: usize, list: usize, found: Assessment, cycle: 
 }
 
 // Writes the line of a list.
-fn list_line(out: &mut [u8], at: usize, plan: &[u8], list: usize) -> usize
-    requires { ⌜ (at + lineRoom ≤ length (now out)) × (planRefusal (now plan) ≡ 0) × (list < listCount (now plan)) ⌝ }
+fn list_line(out: &mut [u8], at: usize, plan: &[u8], checked: CheckedPlan, list: usize) -> usize
+    requires { ⌜ (at + lineRoom ≤ length (now out)) × Accepted (now plan) checked × (list < listCount (now plan)) ⌝ }
     ensures { λ r. ⌜ Put lineRoom (now (out .entry)) at (listLine (now (plan .entry)) list) (now (out .exit)) r ⌝ }
 {
     let mut rows = [0u64; 64];
-    let net = net_read::decode(plan, list, &mut rows);
-    let distances = plan_read::parts::part(plan, DISTANCES);
+    let net = net_read::open_plan(plan, checked, list, &mut rows);
+    let distances = plan_read::parts::part(plan, checked, DISTANCES);
     let mut labels = [0u8; 64];
     let mut ranks = [0u8; 64];
     let mut table = [0u8; 128];
@@ -52,14 +52,14 @@ fn list_line(out: &mut [u8], at: usize, plan: &[u8], list: usize) -> usize
 }
 
 // Writes the lines of the first m lists, in order.
-fn list_lines(out: &mut [u8], at: usize, plan: &[u8], m: usize) -> usize
-    requires { ⌜ (at + lineRoom * m ≤ length (now out)) × (planRefusal (now plan) ≡ 0) × (m ≤ listCount (now plan)) ⌝ }
+fn list_lines(out: &mut [u8], at: usize, plan: &[u8], checked: CheckedPlan, m: usize) -> usize
+    requires { ⌜ (at + lineRoom * m ≤ length (now out)) × Accepted (now plan) checked × (m ≤ listCount (now plan)) ⌝ }
     ensures { λ r. ⌜ Put (lineRoom * m) (now (out .entry)) at (listLines (now (plan .entry)) m) (now (out .exit)) r ⌝ }
 {
     let mut next = at;
     let mut list = 0;
     while list < m {
-        next = list_line(out, next, plan, list);
+        next = list_line(out, next, plan, checked, list);
         list += 1;
     }
     next
@@ -70,12 +70,12 @@ pub fn plan_text(plan: &[u8], out: &mut [u8]) -> usize
     requires { ⌜ textRoom ≤ length (now out) ⌝ }
     ensures { λ r. ⌜ AtFront (now (out .entry)) (planText (now (plan .entry))) (now (out .exit)) r ⌝ }
 {
-    let size = checker::size::size(plan);
-    let refused = size.refused;
+    let checked = plan_read::refusal::check(plan);
+    let refused = checked.refused;
     if refused != 0 {
         return text_lines::refused_line(out, 0, refused);
     }
-    let m = size.lists;
-    let next = text_lines::head_line(out, 0, size.routers, m);
-    list_lines(out, next, plan, m)
+    let m = checked.m as usize;
+    let next = text_lines::head_line(out, 0, checked.n as usize, m);
+    list_lines(out, next, plan, checked, m)
 }

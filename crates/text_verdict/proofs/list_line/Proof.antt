@@ -1,11 +1,9 @@
 -- What is assessed is the network of the plan's list, and what was found says the list's line.
 use native.Mathlib.Omega.{arith}
-use mathlib.Core.Path.{_≡_, _∙_, ap}
+use mathlib.Core.Path.{_≡_}
 use borrow.Author.Needs.{needs}
 use lib.ListN.{length}
-use Rattle.net_rules.specs.Decoded.{decoded}
-use Rattle.net_rules.specs.FromPlan.{instanceOf}
-use Rattle.net_rules.proofs.FromPlan.{well-formed}
+use Rattle.net_rules.proofs.Opened.{opened-over}
 use Rattle.call_rules.proofs.Granted.{few-routers}
 use Rattle.text_fields.proofs.Writing.{put-as}
 use Rattle.text_verdict_rules.specs.Listing.{listLine}
@@ -21,24 +19,11 @@ start c = c .before .before .before .before .before .before .before .before .bef
 abbrev read : tie.After-cycle → tie.After-part
 read c = c .before .before .before .before .before
 
--- the network read is the plan's
-same-network : (c : tie.After-cycle) → let a = start c .args in let d = read c .before .decode in
-    decoded (d .result) (d .last .1 .1 .0) (read c .part .result .now) ≡ instanceOf (a .plan .now) (a .list)
-same-network c =
-    let d = read c .before .decode in
-    ap (decoded (d .result) (d .last .1 .1 .0)) (read c .part .ensures) ∙ d .ensures .same
-
 assess-requires : tie.Need-assess-requires
 assess-requires c κs =
-    let d = read c .before .decode .ensures in
-    let asked = start c .pre in
-    let few = few-routers _ (asked .1) in (
-      rw (read c .part .ensures) (well-formed _ _ _ _ (asked .1) (asked .2) d),
-      omega (arith, d .count),
-      omega (arith, d .count),
-      omega (arith, d .count),
-      omega (arith, d .count),
-    )
+    let o = opened-over (read c .before .open-plan .ensures) (read c .part .ensures .bytes) in
+    let few = few-routers _ (start c .pre .1 .ok) in
+    (o .formed, omega (arith, o .count), omega (arith, o .count), omega (arith, o .count), omega (arith, o .count))
 
 says : (c : tie.After-cycle3) →
     let f = c .before .before .before .before .before .before in
@@ -48,10 +33,11 @@ says : (c : tie.After-cycle3) →
 says c =
     let found = c .before .before .before .before .before .before in
     let asked = start (found .before) .pre in
+    let d = read (found .before) in
     let cycle = found .assess .last .1 .1 .1 .1 .1 .1 .0 in
     let long : length cycle ≡ 64 = search needs in
-    let assessed = rw (same-network (found .before)) at (found .assess .ensures) in
-    found-says _ (asked .1) _ (asked .2) _ cycle (assessed .verdict) (assessed .cycled) (omega arith)
+    let assessed = rw (opened-over (d .before .open-plan .ensures) (d .part .ensures .bytes) .same) at (found .assess .ensures) in
+    found-says _ (asked .1 .ok) _ (asked .2) _ cycle (assessed .verdict) (assessed .cycled) (omega arith)
 
 pub list-line-spec : {M : Type 1} → statement M
 list-line-spec =

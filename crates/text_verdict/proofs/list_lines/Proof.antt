@@ -10,10 +10,10 @@ use Rattle.text_verdict.proofs.list_lines.Statement.{statement}
 use Rattle.text_verdict.proofs.list_lines.Tie as tie
 
 abbrev Inv-loop : tie.InvT-loop
-Inv-loop out₀ at plan m next₀ list₀ out next list = Putting (listLines plan) lineRoom m out₀ at out next list
+Inv-loop out₀ at plan checked m next₀ list₀ out next list = Putting (listLines plan) lineRoom m out₀ at out next list
 
 abbrev μ-loop : tie.MeasureT-loop
-μ-loop out₀ at plan m next₀ list₀ out next list = m - list
+μ-loop out₀ at plan checked m next₀ list₀ out next list = m - list
 
 loop-again : tie.Need-loop-again Inv-loop μ-loop
 unfolding listLines

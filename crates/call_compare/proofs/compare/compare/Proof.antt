@@ -1,50 +1,58 @@
 use Prim.Native.Nat.{_*_, _≤_}
 use native.Mathlib.Omega.{arith}
-use mathlib.Core.Path.{_≡_, _∙_, sym, ap}
+use mathlib.Core.Path.{_≡_, _∙_, sym, ap, ap₂}
 use borrow.Author.Needs.{needs}
 use lib.Dec.{lit<}
 use lib.ListN.{length}
-use Rattle.plan_contents.specs.Header.{routerCount}
 use Rattle.plan_rules.specs.Distances.{distanceIn, wayIn}
+use Rattle.plan_read.specs.Checked.{Accepted}
 use Rattle.net_rules.proofs.FromPlan.{distances-length}
 use Rattle.net_rules.specs.FromPlan.{instanceOf}
 use Rattle.net_prefer.specs.Measured.{Measured}
 use Rattle.net_prefer.proofs.Measured.{read-as}
 use Rattle.call_rules.specs.Refusals.{compareRefusal}
-use Rattle.call_rules.proofs.Granted.{header-long, few-routers, CompareAsked, compare-asked}
+use Rattle.call_rules.proofs.Granted.{few-routers, CompareAsked, compare-asked}
 use Rattle.call_compare.proofs.Preferring.{compares-refused, compares-given}
 use Rattle.call_compare.proofs.compare.compare.Statement.{statement}
 use Rattle.call_compare.proofs.compare.compare.Tie as tie
 
 -- nothing is refused
-given : (c : tie.Else1) → let a = c .before .before .before .args in compareRefusal (a .plan .now) (a .router) (a .first) (a .second) ≡ 0
-given c = sym (c .before .compare-refusal .ensures) ∙ c .if1 .left
+given : (c : tie.Else1) → let a = c .before .before .before .before .args in compareRefusal (a .plan .now) (a .router) (a .first) (a .second) ≡ 0
+given c = sym (c .before .compare-refusal .ensures _ (c .before .before .check .ensures)) ∙ c .if1 .left
 
-asked : (c : tie.Else1) → let a = c .before .before .before .args in CompareAsked (a .plan .now) (a .router) (a .first) (a .second)
+asked : (c : tie.Else1) → let a = c .before .before .before .before .args in CompareAsked (a .plan .now) (a .router) (a .first) (a .second)
 asked c = compare-asked _ _ _ _ (given c)
 
--- there is a distance for every pair
-long : (c : tie.After-part) → let n = routerCount (c .before .before .before .before .before .args .plan .now) in
-    2 * (n * n) ≤ length (c .part .result .now)
-long c = omega (arith, distances-length _ (asked (c .before .before) .planOk), ap length (c .part .ensures))
+accepted : (c : tie.Else1) → let d = c .before .before in Accepted (d .before .before .args .plan .now) (d .check .result)
+accepted c = c .before .before .check .ensures .accepted (asked c .planOk)
+
+-- n is the plan's, and there is a distance for every pair
+pairs : (c : tie.After-part) → let n = c .before .before .before .before .check .result .n in
+    (n ≤ 64) × (2 * (n * n) ≤ length (c .part .result .now))
+pairs c =
+    let a = accepted (c .before .before) in
+    rw (a .routers) (few-routers _ (a .ok), omega (arith, distances-length _ (a .ok), ap length (c .part .ensures .bytes)))
 
 distance-requires : tie.Need-distance-requires
 distance-requires c κs =
     let q = asked (c .before .before) in
-    (omega arith, omega arith, few-routers _ (q .planOk), long c)
+    let n = accepted (c .before .before) .routers in
+    (omega arith, omega arith, pairs c .0, pairs c .1)
 
 distance-requires-2 : tie.Need-distance-requires-2
 distance-requires-2 c κs =
     let d = c .before in
     let q = asked (d .before .before) in
-    (omega arith, omega arith, few-routers _ (q .planOk), long d)
+    let n = accepted (d .before .before) .routers in
+    (omega arith, omega arith, pairs d .0, pairs d .1)
 
 -- the distances read are those of the plan's network
-measured : (c : tie.After-part) → let plan = c .before .before .before .before .before .args .plan .now in
-    Measured (instanceOf plan 0) (c .part .result .now) (routerCount plan)
+measured : (c : tie.After-part) → let d = c .before .before .before .before in
+    Measured (instanceOf (d .before .before .args .plan .now) 0) (c .part .result .now) (d .check .result .n)
 measured c =
-    let n = routerCount (c .before .before .before .before .before .args .plan .now) in
-    record { dist = ap (λ s. distanceIn s n) (sym (c .part .ensures)); way = ap (λ s. wayIn s n) (sym (c .part .ensures)) }
+    let n = sym (accepted (c .before .before) .routers) in
+    let distances = sym (c .part .ensures .bytes) in
+    record { dist = ap₂ distanceIn distances n; way = ap₂ wayIn distances n }
 
 returns-2 : tie.Need-returns-2
 returns-2 c =
@@ -63,10 +71,10 @@ compare-spec =
     tie.close
     (tie.spec
     (λ c κs. search needs)
-    (λ c. compares-refused _ _ _ _ _ (c .before .compare-refusal .ensures) (c .if1 .taken))
-    (λ c. omega (arith, header-long _ (asked (c .before) .planOk)))
-    (λ c. omega (arith, few-routers _ (asked (c .before) .planOk)))
-    (λ c κs. (asked (c .before) .planOk, lit< tt))
+    (λ c κs. search needs)
+    (λ c. compares-refused _ _ _ _ _ (c .before .compare-refusal .ensures _ (c .before .before .check .ensures)) (c .if1 .taken))
+    (λ c. search needs)
+    (λ c κs. (accepted (c .before), lit< tt))
     distance-requires
     distance-requires-2
     (λ c κs. search needs)

@@ -9,28 +9,19 @@ use Rattle.call_refuse.proofs.numbers.list_refusal.Tie as tie
 
 returns : tie.Need-returns
 unfolding egressListRefusal
-returns c =
-    let e = c .before .refusal .ensures in
-    e ∙ sym (plan-refused _ _ (λ h. c .if1 .taken (e ∙ h)))
+returns c plan read = read .number ∙ sym (plan-refused _ _ (λ ok. c .if1 .taken (read .number ∙ ok)))
 
 returns-2 : tie.Need-returns-2
 unfolding egressListRefusal refuse
-returns-2 c =
-    let d = c .before .before in
-    rw (plan-passes _ _ (sym (d .before .refusal .ensures) ∙ d .if1 .left), ← (c .before .list-count .ensures), le-ltb _ _ (c .if2 .taken))
+returns-2 c plan read =
+    let ok = sym (read .number) ∙ c .before .before .if1 .left in
+    rw (plan-passes _ _ ok, ← (read .accepted ok .lists), le-ltb _ _ (c .if2 .taken))
 
 returns-3 : tie.Need-returns-3
 unfolding egressListRefusal refuse
-returns-3 c =
-    let d = c .before .before in
-    rw (plan-passes _ _ (sym (d .before .refusal .ensures) ∙ d .if1 .left), ← (c .before .list-count .ensures), lt-ltb _ _ (c .if2 .left))
+returns-3 c plan read =
+    let ok = sym (read .number) ∙ c .before .before .if1 .left in
+    rw (plan-passes _ _ ok, ← (read .accepted ok .lists), lt-ltb _ _ (c .if2 .left))
 
 pub list-refusal-spec : {M : Type 1} → statement M
-list-refusal-spec =
-    tie.close
-    (tie.spec
-    (λ c κs. search needs)
-    returns
-    (λ c κs. sym (c .before .refusal .ensures) ∙ c .if1 .left)
-    returns-2
-    returns-3)
+list-refusal-spec = tie.close (tie.spec returns (λ c. search needs) returns-2 returns-3)
