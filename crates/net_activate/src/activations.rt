@@ -1,10 +1,10 @@
 // An activation on the caller's table: one pass over the neighbours of the router that may advertise a route. Each route has a key, a
 // number that orders routes by distance, then by egress, then by sender; the best has the least.
 
-use plan_distances::NO_WAY;
 use net_rules::NO_ROUTER;
 use net_rules::Network;
 use net_tables::RouteBytes;
+use plan_distances::NO_WAY;
 ghost use mathlib.Core.Path.{_≡_};
 ghost use mathlib.Core.Bool.{cond};
 ghost use mathlib.Core.List.{List};
