@@ -1,5 +1,5 @@
-// The refusals of a call by its list and routers: row 8, after the rows of the plan. `checked` is what the plan's check handed on,
-// whatever the plan.
+// The refusals of a call by its list and routers: row 8, after the rows of the plan. `checked` is what the check of the plan
+// handed on, whatever plan that is.
 
 use plan_read::refusal::CheckedPlan;
 ghost use mathlib.Core.Path.{_≡_};

@@ -70,6 +70,7 @@ const NO_ENTRY: Entry = Entry {
     size: 0,
 };
 
+// A refused plan has zeros beside its number.
 fn refused(number: u8) -> CheckedPlan
     ensures { λ r. ⌜ r .refused ≡ number ⌝ }
 {
@@ -81,8 +82,8 @@ fn refused(number: u8) -> CheckedPlan
     }
 }
 
-// Checks a plan, and reads what is handed on. Nothing after it reads the contents. Those that `refusal` read are not kept: that slows
-// its loops.
+// Checks a plan and hands on what its readers need, so that none of them reads the contents again. What `refusal` read is
+// not kept for that: it would slow the loops of the checks.
 pub fn check(plan: &[u8]) -> CheckedPlan
     ensures { λ r. ⌜ Checked (now (plan .entry)) r ⌝ }
 {
