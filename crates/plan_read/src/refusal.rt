@@ -64,21 +64,21 @@ pub struct CheckedPlan {
     pub table: [Entry; 4],
 }
 
-const NO_ENTRY: Entry = Entry {
-    kind: 0,
-    offset: 0,
-    size: 0,
-};
-
 // A refused plan has zeros beside its number.
 fn refused(number: u8) -> CheckedPlan
     ensures { λ r. ⌜ r .refused ≡ number ⌝ }
 {
+    let none = Entry {
+        kind: 0,
+        offset: 0,
+        size: 0,
+    };
+    let table = [none; 4];
     CheckedPlan {
         refused: number,
         n: 0,
         m: 0,
-        table: [NO_ENTRY; 4],
+        table,
     }
 }
 
