@@ -14,7 +14,7 @@ littleEndian (suc width) s at = getD s at 0 + 256 * littleEndian width s (at + 1
 abbrev pub bytesOn : ℕ × ℕ → ℕ → ℕ × ℕ
 bytesOn address count = (address .0, count + address .1)
 
--- `part` is the stretch of `size` bytes of the slice `whole` from `start` on: its bytes, and its address within the slice
+-- `part` is the `size` bytes of the slice `whole` from `start` on: its bytes, and its address within the slice
 pub record PartOf (whole : RefT (List ℕ)) (start size : ℕ) (part : RefT (List ℕ)) : Type 0 where
   pub bytes : now part ≡ take size (drop start (now whole))
   pub address : ptr part ≡ bytesOn (ptr whole) start

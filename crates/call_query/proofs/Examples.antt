@@ -34,8 +34,8 @@ query-examples =
     record {
       routers = refl;
       lists = refl;
-      stretchStart = refl;
-      stretchSize = refl;
+      partStart = refl;
+      partSize = refl;
       refusedPart = refl;
       itRelies = refl;
       itDoesNot = refl;

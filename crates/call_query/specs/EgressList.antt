@@ -9,20 +9,20 @@ use Rattle.plan_rules.specs.EgressLists.{listStart, listSize, listNumbers, Numb
 use Rattle.call_rules.specs.Refusals.{egressListRefusal}
 use Rattle.plan_rules.specs.Refused.{field}
 
--- where in the plan the stretch starts and how many bytes it has: none, at the plan's start, if refused
+-- where in the plan the part (the paper's stretch) starts and how many bytes it has: none, at the plan's start, if refused
 unfoldable pub egressListStart : List ℕ → ℕ → ℕ
 egressListStart plan k = field (egressListRefusal plan k) (listStart plan k)
 
 unfoldable pub egressListSize : List ℕ → ℕ → ℕ
 egressListSize plan k = field (egressListRefusal plan k) (listSize plan k)
 
--- `part` is that stretch of the caller's slice: its bytes, and its address within the slice.
+-- `part` is that part of the caller's slice: its bytes, and its address within the slice.
 abbrev pub ListPartOf : RefT (List ℕ) → ℕ → RefT (List ℕ) → Type 0
 ListPartOf plan k part = PartOf plan (egressListStart (now plan) k) (egressListSize (now plan) k) part
 
 -- "the numbers of list k handed back as that stretch of the plan itself": the numbers, and the place in the caller's memory. The theorem
 -- `handed-back` says so of a list that is not refused.
 pub record HandedBack (plan : RefT (List ℕ)) (k : ℕ) (part : RefT (List ℕ)) : Type 0 where
-  pub stretch-is : now part ≡ listNumbers (now plan) k
+  pub numbers-are : now part ≡ listNumbers (now plan) k
   pub numbers : NumbersOf (now plan) k (now part)
   pub place : ptr part ≡ bytesOn (ptr plan) (listStart (now plan) k)

@@ -13,8 +13,8 @@ pub record QueryExamples : Type 0 where
   pub routers : sizeRouters threeRouters ≡ 3  -- exchanged: 2
   pub lists : sizeLists threeRouters ≡ 2  -- exchanged: 3
   -- "the numbers of list k handed back as that stretch of the plan itself. If refused, the stretch is empty"
-  pub stretchStart : egressListStart threeRouters 1 ≡ 67  -- at its count byte: 66
-  pub stretchSize : egressListSize threeRouters 1 ≡ 2
+  pub partStart : egressListStart threeRouters 1 ≡ 67  -- at its count byte: 66
+  pub partSize : egressListSize threeRouters 1 ≡ 2
   pub refusedPart : egressListSize threeRouters 2 ≡ 0
   -- "the reliance of one router on another answered": 0 relies on 1, and 1 is listed
   pub itRelies : relied threeRouters 0 0 1 ≡ Yes  -- the other way round: No

@@ -11,7 +11,7 @@ use Rattle.checker_examples.specs.Questions.{Question, Answer, reliesIs,
 use Rattle.checker_examples.specs.Questions.{check, size, list, compare, relies, explain, verdict, activate, run}
 use Rattle.checker_examples.proofs.Questions.{answerTo}
 
--- a stretch of a slice starts at one place alone
+-- a part of a slice starts at one place alone
 one-start : (slice part : RefT (List ℕ)) (a b : ℕ) → ptr part ≡ bytesOn (ptr slice) a → ptr part ≡ bytesOn (ptr slice) b → a ≡ b
 one-start slice part a b p q = omega (arith, ap (λ x. x .1) (sym p ∙ q))
 

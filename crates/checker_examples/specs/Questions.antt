@@ -50,7 +50,7 @@ pub data Answer : Type 0 where
   activateIs : (refusal : ℕ) (table : List ℕ) → Answer
   runIs : (refusal applied rounds : ℕ) (exhausted : Bool) (table : List ℕ) → Answer
 
--- what the contract of the call admits as its answer; a list's numbers are `part`, a stretch of the caller's own slice
+-- what the contract of the call admits as its answer; a list's numbers are `part`, a part of the caller's own slice
 pub data Admitted (plan : List ℕ) : Question → Answer → Type 0 where
   check : (r : ℕ) → r ≡ planRefusal plan → Admitted plan checkAsked (checkIs r)
   size : (r : SizeAnswer) → Sizes plan r → Admitted plan sizeAsked (sizeIs (r .refused) (r .routers) (r .lists))

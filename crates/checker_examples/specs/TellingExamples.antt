@@ -104,7 +104,7 @@ contentsAbove255 = example twelve (listAsked 0) (listIs 0 376 (11 ∷ []))
 abbrev pub lastList : Example
 lastList = example six (listAsked 3) (listIs 0 157 (4 ∷ []))
 
--- Misread at m + 1: 0, and an empty stretch at 159.
+-- Misread at m + 1: 0, and an empty part at 159.
 abbrev pub listAtM : Example
 listAtM = example six (listAsked 4) (listIs 8 0 [])
 
@@ -195,7 +195,7 @@ abbrev pub othersHoldNothing : List ℕ
 othersHoldNothing = 255 ∷ 255 ∷ 255 ∷ 255 ∷ 255 ∷ 255 ∷ 255 ∷ 255 ∷ 4 ∷ 4 ∷ 255 ∷ 255 ∷ []
 
 -- "the acts applied (the smaller of limit and sequence length), the whole rounds in them, and 'spent' exactly if the sequence is
--- longer than the limit": five of six acts. Misread over the whole sequence: 6 acts, 1 round. Spent never said: false.
+-- longer than the limit": five of six acts. Misread over the whole sequence: 6 acts, 1 round. Exhausted never said: false.
 abbrev pub limitBelowTheLength : Example
 limitBelowTheLength =
     example six (runAsked 3 (3 ∷ 0 ∷ 2 ∷ 1 ∷ 5 ∷ 4 ∷ []) 5 othersHoldNothing)

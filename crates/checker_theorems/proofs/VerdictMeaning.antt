@@ -5,7 +5,9 @@ use mathlib.Core.Path.{_≡_, refl, ap}
 use mathlib.Core.Bool.{Bool, true, false}
 use mathlib.Core.List.{List}
 use mathlib.Core.Logic.{_⊎_, inl, inr, ⊎-elim}
+use lib.ListN.{length, getD}
 use Rattle.base.specs.Seek.{flag}
+use Rattle.base.proofs.Numbers.{lt-or-le}
 use Rattle.base.proofs.Seek.{highest-over}
 use Rattle.plan_contents.specs.Header.{routerCount}
 use Rattle.graph_groups.specs.Closure.{closure, Irreflexive, Acyclic}
@@ -14,6 +16,7 @@ use Rattle.graph_groups.proofs.Reaching.{closure-is}
 use Rattle.graph_groups.proofs.Sharing.{together-cases, together-self, together-both, label-upto, label-shares, label-lowest, stable-groups, stable-chains, stable-acyclic}
 use Rattle.graph_ranks.specs.Rank.{OneMore}
 use Rattle.graph_ranks.proofs.RankRule.{rank-falls, rank-means}
+use Rattle.graph_cycle.specs.Cycle.{IsCycle}
 use Rattle.graph_cycle.proofs.Walking.{cycle-is}
 use Rattle.route_rules.specs.Reliance.{relies}
 use Rattle.route_rules.proofs.Reliance.{relies-other}
@@ -80,6 +83,22 @@ module _ (plan : List ℕ) (k : ℕ) where
           top = λ u o q. b .highest u o (flag-yes (relies (instanceOf plan k) w u) q);
         }
 
+  -- no router relies on itself, so no cycle is of one
+  two-or-more : isStable (instanceOf plan k) ≡ false → 2 ≤ length (cycleOf (instanceOf plan k))
+  unfolding isStable cycleOf
+  two-or-more s = ⊎-elim (λ (l : 1 < length shown). l) (λ (l : length shown ≤ 1). absurd (alone (omega (arith, is .some)))) (lt-or-le 1 (length shown))
+    where
+      shown : List ℕ
+      shown = cycleOf (instanceOf plan k)
+
+      is : IsCycle (reliance (instanceOf plan k)) (closure (reliance (instanceOf plan k)) (routerCount plan)) (routerCount plan) shown
+      is = cycle-is (reliance (instanceOf plan k)) (routerCount plan) s
+
+      alone : length shown ≡ 1 → ⊥
+      alone e =
+          let itself : 1 ≤ reliance (instanceOf plan k) (getD shown 0 0) (getD shown 0 0) = rw e at (is .closes) in
+          omega (arith, relies-irreflexive (getD shown 0 0) (is .below 0 (is .some)))
+
   pub verdict-means : VerdictMeans plan k
   unfolding isStable cycleOf
   verdict-means =
@@ -96,6 +115,7 @@ module _ (plan : List ℕ) (k : ℕ) where
             );
         stableChains = stable-chains (reliance (instanceOf plan k)) (routerCount plan) relies-irreflexive;
         showsCycle = cycle-is (reliance (instanceOf plan k)) (routerCount plan);
+        cycleOfTwo = two-or-more;
         rankNone = λ s w l h. rank-means (reliance (instanceOf plan k)) (routerCount plan) (acyclic s) .onNone w l (λ v m. ap flag (h v m));
         rankSome = highest-below;
         settled = settled-alone;

@@ -4,6 +4,7 @@ use mathlib.Core.Path.{_≡_}
 use mathlib.Core.Bool.{true, false}
 use mathlib.Core.List.{List}
 use mathlib.Core.Logic.{_⊎_, _↔_}
+use lib.ListN.{length}
 use Rattle.plan_contents.specs.Header.{routerCount}
 use Rattle.graph_groups.specs.Closure.{closure, Chain}
 use Rattle.graph_groups.specs.Groups.{label}
@@ -51,6 +52,7 @@ pub record VerdictMeans (plan : List ℕ) (k : ℕ) : Type 0 where
   -- "Otherwise it is suspect and shows such a ring."
   pub showsCycle : isStable (instanceOf plan k) ≡ false
       → IsCycle (reliance (instanceOf plan k)) (closure (reliance (instanceOf plan k)) (routerCount plan)) (routerCount plan) (cycleOf (instanceOf plan k))
+  pub cycleOfTwo : isStable (instanceOf plan k) ≡ false → 2 ≤ length (cycleOf (instanceOf plan k))
   -- "A router's rank is 0 if it relies on none, else one more than the highest rank it relies on."
   pub rankNone : isStable (instanceOf plan k) ≡ true → (w : ℕ) → w < routerCount plan
       → ((v : ℕ) → v < routerCount plan → relies (instanceOf plan k) w v ≡ false) → rankIn plan k w ≡ 0

@@ -64,13 +64,13 @@ fn place(path: &[u8; 64], k: usize, w: usize) -> usize
 }
 
 // A part of a path: from a place up to before another.
-struct Stretch {
+struct Repeated {
     from: usize,
     upto: usize,
 }
 
 // Follows the walk until it meets a router for the second time.
-fn follow(rows: &[u64; 64], closed: &[u64; 64], n: usize, path: &mut [u8; 64]) -> Stretch
+fn follow(rows: &[u64; 64], closed: &[u64; 64], n: usize, path: &mut [u8; 64]) -> Repeated
     requires { ⌜ FollowAsked (bits (now rows)) (bits (now closed)) n (now path) ⌝ }
     ensures { λ r. ⌜ Followed (trail (bits (now (rows .entry))) (bits (now (closed .entry))) n) n (now (path .exit)) (r .from) (r .upto) ⌝ }
 {
@@ -83,7 +83,7 @@ fn follow(rows: &[u64; 64], closed: &[u64; 64], n: usize, path: &mut [u8; 64]) -
         k += 1;
         met = place(path, k, w);
     }
-    Stretch { from: met, upto: k }
+    Repeated { from: met, upto: k }
 }
 
 // Copies `count` bytes of a path to the front of `out`.

@@ -40,9 +40,21 @@ fourEntries distancesSize listsOffset =
     ∷ record { kind = 4; offset = listsOffset; size = 3 }
     ∷ []
 
+-- a plan of 6 + k bytes whose first six are right
+unfoldable pub sixAnd : ℕ → List ℕ
+sixAnd k = 82 ∷ 82 ∷ 80 ∷ 49 ∷ 64 ∷ 4 ∷ replicate k 0
+
+-- "more than 16,731 bytes"
+pub record LengthExamples : Type 0 where
+  pub longest : headerOk (sixAnd 16725) ≡ true  -- below 16,731: false
+  pub oneByteLonger : headerOk (sixAnd 16726) ≡ false  -- to 16,732: true
+
 pub record ContentsExamples : Type 0 where
   -- "bytes 0 to 3: the letters RRP1", "byte 5: 4", "fewer than 26"
   pub header : headerOk firstOfTwelve ≡ true
+  pub otherFirstLetter : headerOk (81 ∷ 82 ∷ 80 ∷ 49 ∷ 12 ∷ 4 ∷ replicate 20 0) ≡ false  -- any first letter: true
+  pub otherSecondLetter : headerOk (82 ∷ 81 ∷ 80 ∷ 49 ∷ 12 ∷ 4 ∷ replicate 20 0) ≡ false
+  pub otherThirdLetter : headerOk (82 ∷ 82 ∷ 81 ∷ 49 ∷ 12 ∷ 4 ∷ replicate 20 0) ≡ false
   pub anotherCount : headerOk otherCount ≡ false  -- without byte 5: true
   pub anotherLetter : headerOk otherLetter ≡ false  -- without byte 3: true
   pub tooShort : headerOk oneByteShort ≡ false  -- from 25 bytes: true

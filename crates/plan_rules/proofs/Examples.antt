@@ -7,11 +7,11 @@ use Rattle.plan_rules.specs.Sessions.{sessionOk, sessionsOk, pairs, inSe
 use Rattle.plan_rules.specs.Parents.{parentCount, fewParents, parentsOk}
 use Rattle.plan_rules.specs.Distances.{distancesOk}
 use Rattle.plan_rules.specs.Lists.{listPlace, memberOk, listAtOk, listOk, eachListOk, listsOk}
-use Rattle.plan_rules.specs.Examples.{aroundClient2, allWith2, BodiesExamples}
+use Rattle.plan_rules.specs.Examples.{aroundClient2, allWith2, listsOfOne, BodiesExamples}
 
 pub bodies-examples : BodiesExamples
 unfolding
-    aroundClient2 allWith2
+    aroundClient2 allWith2 listsOfOne
     routerOk routersOk sessionOk sessionsOk pairs inSession parentCount fewParents parentsOk distancesOk
     listPlace memberOk listAtOk listOk eachListOk listsOk allBelow anyBelow count
 bodies-examples =
@@ -53,7 +53,10 @@ bodies-examples =
       lastNumber = refl;
       listedAtN = refl;
       numbersFall = refl;
+      everyRouter = refl;
+      oneMoreThanN = refl;
       emptyList = refl;
+      sixtyFiveLists = refl;
       noList = refl;
       emptyBody = refl;
       oneByteAfter = refl;

@@ -1,4 +1,4 @@
--- The lists of a plan that passed lie within it, and the stretch of each holds its numbers.
+-- The lists of a plan that passed lie within it, and the part of each holds its numbers.
 use Prim.Native.Nat.{ℕ, _+_, _≤_, _<_}
 use native.Mathlib.Omega.{arith}
 use mathlib.Core.Path.{_≡_, _∙_, sym, ap}

@@ -1,6 +1,6 @@
 -- Examples that tell each rule of the four bodies from a misreading of it, in literal bytes. Beside each stands what a misreading
 -- gives.
-use Prim.Native.Nat.{ℕ}
+use Prim.Native.Nat.{ℕ, zero, suc}
 use mathlib.Core.Path.{_≡_}
 use mathlib.Core.Bool.{true, false}
 use mathlib.Core.List.{List, [], _∷_}
@@ -24,6 +24,11 @@ aroundClient2 =
 
 unfoldable pub allWith2 : List ℕ
 allWith2 = 0 ∷ 2 ∷ 1 ∷ 2 ∷ 2 ∷ 3 ∷ 2 ∷ 4 ∷ 2 ∷ 5 ∷ []
+
+-- a body of so many lists, each of router 0 alone
+unfoldable pub listsOfOne : ℕ → List ℕ
+listsOfOne zero = []
+listsOfOne (suc k) = 1 ∷ 0 ∷ listsOfOne k
 
 pub record BodiesExamples : Type 0 where
   -- "role (1 reflector, 2 client), then a 4-byte identifier, low byte first": 4 + 3 * 256 + 2 * 65,536 + 16,777,216
@@ -74,7 +79,10 @@ pub record BodiesExamples : Type 0 where
   pub lastNumber : listsOk (2 ∷ 2 ∷ 0 ∷ 1 ∷ 1 ∷ 3 ∷ []) 4 ≡ true  -- below n - 1: false
   pub listedAtN : listsOk (2 ∷ 2 ∷ 0 ∷ 1 ∷ 1 ∷ 4 ∷ []) 4 ≡ false  -- at most n: true
   pub numbersFall : listsOk (1 ∷ 2 ∷ 1 ∷ 0 ∷ []) 4 ≡ false  -- in any order: true
+  pub everyRouter : listsOk (1 ∷ 2 ∷ 0 ∷ 1 ∷ []) 2 ≡ true  -- below n: false
+  pub oneMoreThanN : listsOk (1 ∷ 3 ∷ 0 ∷ 1 ∷ 2 ∷ []) 2 ≡ false
   pub emptyList : listsOk (1 ∷ 0 ∷ []) 4 ≡ false  -- from 0: true
+  pub sixtyFiveLists : listsOk (65 ∷ listsOfOne 65) 4 ≡ false  -- to 65: true
   pub noList : listsOk (0 ∷ []) 4 ≡ false  -- from 0: true
   pub emptyBody : listsOk [] 4 ≡ false  -- as no list: true
   -- "Nothing follows."

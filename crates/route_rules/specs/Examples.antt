@@ -136,10 +136,10 @@ pub record RoutingExamples : Type 0 where
   pub role3ToRole3 : reflects (skipTwo (4 ∷ [])) 1 (via 4 4) 0 ≡ some 4  -- to reflectors of role 1 alone: none
   pub role3FromRole3 : reflects (skipTwo (3 ∷ [])) 0 (via 3 3) 1 ≡ some 3  -- .. the other way
   pub role3AsTheHearer : reflects (skipSix (4 ∷ [])) 0 (via 4 2) 1 ≡ none  -- role 3 taken for a client: some 4
-  pub listedRole3AnnouncesItself : advertises (skipSix (1 ∷ [])) 1 (via 1 1) 5 ≡ some 1  -- to reflectors only: none
+  pub listedRole3AdvertisesItself : advertises (skipSix (1 ∷ [])) 1 (via 1 1) 5 ≡ some 1  -- to reflectors only: none
   -- "A listed router holds its own route always and announces it to every neighbour. An unlisted client announces nothing."
   pub listedAdvertisesItself : advertises reflector1And34 1 (via 1 1) 0 ≡ some 1  -- as one heard from a reflector: none
-  pub clientAnnouncesNothing : advertises client4 5 (via 4 3) 1 ≡ none  -- as a reflector does: some 4
+  pub clientAdvertisesNothing : advertises client4 5 (via 4 3) 1 ≡ none  -- as a reflector does: some 4
   -- "announced to it": a neighbour's alone
   pub notFromAStranger : hears client4 (held start) 0 4 4 ≡ false  -- from any router: true
   -- "A route whose egress the hearer has no way to is not heard"

@@ -2,7 +2,7 @@ use mathlib.Core.Path.{_≡_, _∙_, sym}
 use borrow.Author.Needs.{needs}
 use Rattle.call_rules.specs.Refusals.{egressListRefusal}
 use Rattle.call_rules.proofs.Granted.{list-asked}
-use Rattle.call_query.proofs.ListPart.{stretch-refused, stretch-given}
+use Rattle.call_query.proofs.ListPart.{placed-refused, placed-given}
 use Rattle.call_query.proofs.lists.egress_list.Statement.{statement}
 use Rattle.call_query.proofs.lists.egress_list.Tie as tie
 
@@ -14,12 +14,12 @@ returns : tie.Need-returns
 returns c =
     let d = c .before .before in
     let e = d .list-refusal .ensures _ (d .before .check .ensures) in
-    let s = stretch-refused _ _ (λ h. c .before .if1 .taken (e ∙ h)) in
+    let s = placed-refused _ _ (λ h. c .before .if1 .taken (e ∙ h)) in
     record { bytes = rw (s .starts, s .sizes); address = rw (s .starts) }
 
 returns-2 : tie.Need-returns-2
 returns-2 c =
-    let s = stretch-given _ _ (given (c .before)) in
+    let s = placed-given _ _ (given (c .before)) in
     let part = c .list-numbers .ensures in
     record { bytes = rw (s .starts, s .sizes) (part .bytes); address = rw (s .starts) (part .address) }
 
