@@ -115,7 +115,7 @@ def judge(path: str) -> Finding:
     finding = Finding(path, found.kind, found.details, due.stable, due.suspect, due.refused)
     if found.kind in (RIGHT, LINES):
         return finding
-    values = tuple(each.values(plan.names) for each in found.differences)
+    values = tuple(each.values(plan.names, found.same_plan) for each in found.differences)
     return finding._replace(filed=filed, due=due.text, differences=values)
 
 

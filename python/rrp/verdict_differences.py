@@ -33,6 +33,10 @@ _OTHER_PLAN = (
 )
 
 
+#: Numbers of another plan may be those of other routers and lists.
+_NAMES_NOW = " (names are those of the plan as it is now)"
+
+
 class Names(NamedTuple):
     """The names of the routers and of the lists by number, which a plan in bytes has not."""
 
@@ -50,23 +54,30 @@ class Difference(NamedTuple):
     filed: str | None
     due: str | None
 
-    def words(self, names: Names) -> str:
-        """The difference in words."""
+    def words(self, names: Names, same_plan: bool = True) -> str:
+        """The difference in words. The names are those of the plan as it is now: where another one
+        was filed, what is filed has its numbers alone."""
         place = "" if self.number is None else f"list {_with_name(self.number, names.lists)}"
         if self.router is not None and self.value != GROUP:
             place += f", router {_with_name(self.router, names.routers)}"
-        filed, due = (_words(self.value, text, names) for text in (self.filed, self.due))
+        filed, due = (_words(self.value, text, Names()) for text in (self.filed, self.due))
         if filed == due:
             filed, due = repr(self.filed), repr(self.due)
+        elif same_plan:
+            filed, due = (_words(self.value, text, names) for text in (self.filed, self.due))
+        else:
+            due = _words(self.value, self.due, names, numbered=True)
         return f"{place}{': ' if place else ''}filed {filed}, is {due}"
 
-    def values(self, names: Names) -> dict[str, object]:
-        """The difference as plain values. Names are null where the plan has none."""
+    def values(self, names: Names, same_plan: bool = True) -> dict[str, object]:
+        """The difference as plain values. Names are null where the plan has none, and where another
+        plan was filed and only what is filed has the number."""
+        routers = names.routers if same_plan or self.due is not None else ()
         return {
             "list": self.number,
             "list_name": _name(self.number, names.lists),
             "router": self.router,
-            "router_name": _name(self.router, names.routers),
+            "router_name": _name(self.router, routers),
             "value": self.value,
             "filed": self.filed,
             "is": self.due,
@@ -74,11 +85,13 @@ class Difference(NamedTuple):
 
 
 class Comparison(NamedTuple):
-    """What is found of a filed verdict, in words and value by value."""
+    """What is found of a filed verdict, in words and value by value, and whether it is known to be
+    filed for this very plan."""
 
     kind: str
     details: tuple[str, ...] = ()
     differences: tuple[Difference, ...] = ()
+    same_plan: bool = True
 
 
 def compare(filed: str, due: Entry, names: Names = Names()) -> Comparison:
@@ -92,11 +105,14 @@ def compare(filed: str, due: Entry, names: Names = Names()) -> Comparison:
         return Comparison(CHANGED, _OTHER_PLAN)
     expected = due.program if _alone(filed) else due.text
     found = differences(filed, expected)
-    shown = [each.words(names) for each in found] or _line_differences(filed, expected)
+    same = due.digest == f"sha256 {digest}\n"
+    shown = [each.words(names, same) for each in found] or _line_differences(filed, expected)
     details = shown[:_MOST_SHOWN]
     if len(shown) > len(details):
         details.append(f".. and {count_words(len(shown) - len(details), 'difference')} more")
-    return Comparison(FALSE, (*details, *_whose(digest, due)), tuple(found))
+    named = found and not same and names.routers
+    last = f"{_whose(digest, same)}{_NAMES_NOW if named else ''}"
+    return Comparison(FALSE, (*details, *([last] if last else [])), tuple(found), same)
 
 
 def _alone(filed: str) -> bool:
@@ -104,13 +120,13 @@ def _alone(filed: str) -> bool:
     return not any(line.startswith(("list ", "sha256 ")) for line in lines_of(filed))
 
 
-def _whose(digest: str | None, due: Entry) -> list[str]:
+def _whose(digest: str | None, same: bool) -> str:
     """Whether the plan is the one that the verdict was filed for, if that is known."""
+    if same:
+        return "the plan is the one filed: its verdict was altered"
     if digest is None:
-        return []
-    if due.digest == f"sha256 {digest}\n":
-        return ["the plan is the one filed: its verdict was altered"]
-    return ["the plan is another than the one filed"]
+        return "it has no line of the plan's SHA-256: the plan may be another than the one filed"
+    return "the plan is another than the one filed"
 
 
 def differences(filed: str, due: str) -> list[Difference]:
@@ -169,12 +185,15 @@ def _shown(line: str | None) -> str:
     return repr(line if len(line) <= _MOST_LETTERS else f"{line[:_MOST_LETTERS]}..")
 
 
-def _words(value: str, text: str | None, names: Names) -> str:
-    """A value in words, with names where the plan has them."""
+def _words(value: str, text: str | None, names: Names, numbered: bool = False) -> str:
+    """A value in words, with names where the plan has them. The routers of cycles and groups have
+    their numbers too if that is asked for."""
     if text is None:
         return "no line"
     numbers = [int(word) for word in text.split() if word.isdigit()]
-    routers = [_name(number, names.routers) or str(number) for number in numbers]
+    routers = [_with_name(number, names.routers) for number in numbers]
+    if not numbered:
+        routers = [_name(number, names.routers) or str(number) for number in numbers]
     if value == PLAN and len(numbers) == 2:
         return f"{count_words(numbers[0], 'router')} and {count_words(numbers[1], 'list')}"
     if value == VERDICT and text.startswith("stable"):

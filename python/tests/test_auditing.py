@@ -28,19 +28,19 @@ UNSEEN = (
     (
         "list peering  lon-b fra-b",
         "list peering  lon-b fra-a",
-        "list 1 (peering), router 1 (par-rr): filed egress 4 (lon-b) from 0 (lon-rr), "
+        "list 1 (peering), router 1 (par-rr): filed egress 4 from 0, "
         "is egress 9 (fra-a) from 2 (fra-rr)",
     ),
     (
         "of par-rr lon-rr",
         "of par-rr",
-        "list 1 (peering), router 8 (mrs-a): filed egress 4 (lon-b) from 0 (lon-rr), "
+        "list 1 (peering), router 8 (mrs-a): filed egress 4 from 0, "
         "is egress 4 (lon-b) from 1 (par-rr)",
     ),
     (
         "link lon-b  man-a 12",
         "",
-        "list 1 (peering), router 5 (man-a): filed egress 4 (lon-b) from 0 (lon-rr), is nothing",
+        "list 1 (peering), router 5 (man-a): filed egress 4 from 0, is nothing",
     ),
     (
         "mesh fra-a fra-b muc-a",
@@ -48,6 +48,9 @@ UNSEEN = (
         "list 1 (peering), router 11 (muc-a): filed rank 2, is rank 3",
     ),
 )
+
+#: What is said last of a plan in text that is not the one filed.
+OTHER_PLAN = "the plan is another than the one filed (names are those of the plan as it is now)"
 
 #: Edits that leave every verdict, rank and route as it is.
 HARMLESS = (
@@ -66,8 +69,9 @@ OF_THE_TEXT = (
 class Edits(InFolder):
     """A plan is edited after its verdict was filed."""
 
-    def audit(self, old: str, new: str) -> tuple[int, list[str]]:
-        """The exit status and the lines of an audit of the bundled text with an edit."""
+    def audit(self, old: str, new: str, lines_stay: bool = True) -> tuple[int, list[str]]:
+        """The exit status and the lines of an audit of the bundled text with an edit, one that
+        leaves the lines of the verdict program as they are unless it is said to change them."""
         text = read(f"{EXAMPLES}/net.rrp")
         self.assertIn(old, text)
         write("net.rrp", text)
@@ -76,15 +80,31 @@ class Edits(InFolder):
         write("net.rrp", text.replace(old, new))
         answer = rrp("audit", ".")
         (anew,) = json.loads(rrp("file", "--json", "net.rrp").output)["filed"]
-        self.assertEqual(anew["lines"], filed.splitlines()[:4])
+        self.assertEqual(anew["lines"] == filed.splitlines()[:4], lines_stay)
         return answer.status, answer.output.splitlines()
 
     def test_what_the_lines_do_not_show_is_found(self) -> None:
         for old, new, first in UNSEEN:
             status, lines = self.audit(old, new)
             self.assertEqual((status, lines[0]), (1, f"false: ./net.rrp: {first}"))
-            self.assertEqual(lines[-2], "    the plan is another than the one filed")
+            self.assertEqual(lines[-2], f"    {OTHER_PLAN}")
             self.assertTrue(lines[-1].startswith("1 plan: 0 right, 1 false; lists judged: "))
+
+    def test_numbers_of_another_plan_get_no_names(self) -> None:
+        _, lines = self.audit("client lon-a 10.0.1.1", "client lon-a 10.0.9.1")
+        self.assertIn("list 1 (peering), router 0 (lon-rr): filed egress 4 from 4, is ", lines[0])
+        self.assertIn("is egress 3 (lon-b) from 3 (lon-b)", lines[0])
+        self.assertEqual(lines[-2], f"    {OTHER_PLAN}")
+        transit, customer = "list transit  lon-a par-a fra-a", "list customer man-a mrs-a"
+        text = read(f"{EXAMPLES}/net.rrp")
+        self.assertIn(f"{transit}\n", text)
+        turned = f"{customer}\nlist peering lon-b fra-b\n{transit}\n"
+        _, lines = self.audit(text[text.index(transit) :], turned, lines_stay=False)
+        due = "list 0 (customer): filed suspect: 0 -> 1 -> 2 -> 0, is stable with highest rank 3"
+        self.assertEqual(lines[0], f"false: ./net.rrp: {due}")
+        due = "is suspect: 0 (lon-rr) -> 1 (par-rr) -> 2 (fra-rr) -> 0 (lon-rr)"
+        self.assertEqual(lines[1], f"    list 2 (transit): filed stable with highest rank 3, {due}")
+        self.assertEqual(sum(line.count("names are those") for line in lines), 1)
 
     def test_another_plan_of_the_same_verdict(self) -> None:
         for old, new in HARMLESS:

@@ -184,7 +184,45 @@ class Damaged(unittest.TestCase):
     def test_lines_alone(self) -> None:
         filed = self.due.program.replace("1 stable 3\n", "")
         said = "list 1 (two): filed no line, is stable with highest rank 3"
-        self.assertEqual(compare(filed, self.due, self.names).details, (said,))
+        none = "it has no line of the plan's SHA-256: the plan may be another than the one filed"
+        now = " (names are those of the plan as it is now)"
+        found = compare(filed, self.due, self.names)
+        self.assertEqual((found.details, found.same_plan), ((said, f"{none}{now}"), False))
+        self.assertEqual(compare(filed, self.due).details, (said.replace(" (two)", ""), none))
+
+    def test_what_another_plan_filed_has_numbers_alone(self) -> None:
+        other = self.due.text.replace("sha256 b", "sha256 c")
+        for old, new, said in (
+            (
+                "group 0 1",
+                "group 0 1 2",
+                "list 0 (one): filed group 0, 1, 2, is group 0 (lon), 1 (par)",
+            ),
+            (
+                "suspect 2 0 1",
+                "suspect 2 1 0",
+                "list 0 (one): filed suspect: 1 -> 0 -> 1, is suspect: 0 (lon) ",
+            ),
+            (
+                "suspect 2 0 1",
+                "suspect 9 0 1",
+                "list 0 (one): filed 'suspect 9 0 1', is 'suspect 2 0 1'",
+            ),
+            (
+                "egress 3 from 0",
+                "egress 2 from 0",
+                "list 1 (two), router 2 (a): filed egress 2 from 0, is egress 3 (b) ",
+            ),
+        ):
+            self.assertEqual(self.said(other.replace(old, new, 1))[: len(said)], said)
+
+    def test_a_group_that_another_plan_filed_has_no_name(self) -> None:
+        line = "list 0 group 0 1\n"
+        filed = self.due.text.replace(line, f"{line}list 0 group 2 3\n")
+        for text, name in ((filed, "a"), (filed.replace("sha256 b", "sha256 c"), None)):
+            found = compare(text, self.due, self.names)
+            (values,) = (each.values(self.names, found.same_plan) for each in found.differences)
+            self.assertEqual((values["list_name"], values["router_name"]), ("one", name))
 
     def test_cut(self) -> None:
         text, program = self.due.text, self.due.program
