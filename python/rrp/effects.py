@@ -10,7 +10,7 @@ from collections.abc import Iterable, Iterator
 from typing import NamedTuple
 
 from .output import routers_do, verdict_values, verdict_words, without_route_lines
-from .plan import Verdict
+from .plan import Plan, Verdict
 from .table_files import route_values
 from .tables import Route
 
@@ -45,20 +45,43 @@ class Ranked(NamedTuple):
     after: int
 
 
+class Members(NamedTuple):
+    """The routers that a change adds to a list, and those that it takes from it."""
+
+    added: tuple[str, ...] = ()
+    taken: tuple[str, ...] = ()
+
+    def lines(self) -> Iterator[str]:
+        """Who is added, and who is taken away."""
+        if self.added:
+            yield f"added to the list: {', '.join(self.added)}"
+        if self.taken:
+            yield f"taken from the list: {', '.join(self.taken)}"
+
+
 class Effect(NamedTuple):
     """What a change does to a list. `before` is None where the list was not there. `moved` has the
     routers that settle on another route and `ranked` those of another rank; both are None where
-    there is nothing to compare, as the list is not stable both times."""
+    there is nothing to compare, as the list is not stable both times. `members` is None where the
+    list was not there."""
 
     before: Verdict | None
     after: Verdict
     moved: list[Moved] | None
     ranked: list[Ranked] | None
+    members: Members | None = Members()
 
     @property
-    def as_before(self) -> bool:
-        """Whether all is as before: every rank and route, or the cycle and the groups."""
-        return self.before == self.after
+    def as_before(self) -> bool | None:
+        """Whether every rank and route is as before. None where that is not known: of a list that
+        is suspect both times, the cycle and the groups may be the same and routes are not
+        compared."""
+        return None if self.same_groups else self.before == self.after
+
+    @property
+    def same_groups(self) -> bool:
+        """Whether the list is suspect both times, with the same cycle and the same groups."""
+        return not self.after.stable and self.before == self.after
 
     @property
     def label(self) -> str | None:
@@ -72,6 +95,10 @@ class Effect(NamedTuple):
     def lines(self) -> list[str]:
         """What changes beside the verdict, and who ends without a route."""
         changes = [*self._group_lines(), *_route_lines(self.moved or []), *self._rank_lines()]
+        if self.moved is None and self.members is not None:
+            changes += self.members.lines()
+        if self.label is not None and not self.after.stable:
+            changes.append("routes are not compared: a suspect list has no settled table")
         return [*changes, *without_route_lines(self.after)]
 
     def _group_lines(self) -> Iterator[str]:
@@ -96,13 +123,25 @@ class Effect(NamedTuple):
             "as_before": self.as_before,
             "routes": None if self.moved is None else _route_values(self.moved),
             "ranks": None if self.ranked is None else [each._asdict() for each in self.ranked],
+            "members": None if self.members is None else self.members._asdict(),
         }
 
 
-def effect(before: Verdict | None, after: Verdict) -> Effect:
+def effect_on(name: str, plan: Plan, changed: Plan) -> Effect:
+    """What a change does to a list of the changed plan."""
+    after = changed.verdict(name)
+    if name not in plan.lists:
+        return effect(None, after, None)
+    old, new = plan.egresses(name), changed.egresses(name)
+    added = tuple(router for router in new if router not in old)
+    taken = tuple(router for router in old if router not in new)
+    return effect(plan.verdict(name), after, Members(added, taken))
+
+
+def effect(before: Verdict | None, after: Verdict, members: Members | None = Members()) -> Effect:
     """What a change does to a list, of which these are the verdicts."""
     if before is None or before.table is None or after.table is None:
-        return Effect(before, after, None, None)
+        return Effect(before, after, None, None, members)
     moved = [Moved(router, before.table[router], after.table[router]) for router in after.table]
     ranked = [Ranked(router, before.ranks[router], rank) for router, rank in after.ranks.items()]
     return Effect(
@@ -110,6 +149,7 @@ def effect(before: Verdict | None, after: Verdict) -> Effect:
         after,
         [each for each in moved if each.before != each.after],
         [each for each in ranked if each.before != each.after],
+        members,
     )
 
 

@@ -9,7 +9,7 @@ import re
 import unittest
 
 from rrp import Plan, encoding
-from rrp.effects import Effect, effect
+from rrp.effects import Effect, effect, effect_on
 from rrp.text.assembly import assemble
 from rrp.text.changes import assemble_changed
 from rrp.text.reading import read_draft
@@ -19,6 +19,9 @@ from .support import EXAMPLES, STORED_PLANS, TESTS, rrp
 
 NET = f"{EXAMPLES}/net.rrp"
 LEFT_OUT = f"{TESTS}/plans/left-out.rrp"
+
+#: What is said of a list that is suspect with the same cycle before a change and after it.
+NOT_COMPARED = "routes are not compared: a suspect list has no settled table"
 
 
 def varied(plan: Plan, draw: random.Random) -> Plan:
@@ -60,15 +63,18 @@ class Effects(unittest.TestCase):
             before, after = found.before, found.after
             parts = [(each.ranks, each.table, each.cycle, each.groups) for each in (before, after)]
             same = parts[0] == parts[1]
-            self.assertEqual(found.label == "as before", same)
-            self.assertEqual(found.values()["as_before"], same)
+            self.assertEqual(found.label == "as before", same and after.stable)
+            unknown = same and not after.stable
+            self.assertEqual(found.values()["as_before"], None if unknown else same)
             if same:
                 lines = [line for line in found.lines() if "without a route" not in line]
-                self.assertEqual(lines, [])
-            seen.add((before.stable, after.stable, found.label))
+                self.assertEqual(lines, [] if after.stable else [NOT_COMPARED])
+                self.assertTrue(after.stable or found.label == "same cycle")
+            seen.add((before.stable, after.stable, found.label, same))
         labels = {"as before", "same verdict", None}
-        self.assertLessEqual({(True, True, label) for label in labels}, seen)
-        self.assertLessEqual({(False, False, "as before"), (False, False, "same cycle")}, seen)
+        self.assertLessEqual({(True, True, label) for label in labels}, {each[:3] for each in seen})
+        suspect = {(False, False, "same cycle", same) for same in (False, True)}
+        self.assertLessEqual(suspect, seen)
 
     def test_every_router_that_moves_is_named(self) -> None:
         kinds = set()
@@ -129,7 +135,8 @@ class Command(unittest.TestCase):
             text = rrp("check", NET, "--set", change).output
             plan, changed = self.plans(change)
             for name, values in self.judged(change).items():
-                found = effect(plan.verdict(name), changed.verdict(name))
+                found = effect_on(name, plan, changed)
+                self.assertEqual((found.before, found.after.name), (plan.verdict(name), name))
                 self.assertEqual(json.loads(json.dumps(found.values())), values)
                 for line in found.lines():
                     self.assertIn(f" {line}\n", text)
@@ -158,6 +165,29 @@ class Command(unittest.TestCase):
     def test_a_new_list_has_nothing_to_compare(self) -> None:
         new = self.judged("list new fra-a")["new"]
         self.assertEqual((new["before"], new["routes"], new["as_before"]), (None, None, False))
+        self.assertIsNone(new["members"])
+
+    def test_a_suspect_list_is_never_as_before(self) -> None:
+        for change, members, lines in (
+            ("session lon-rr man-a none", [[], []], []),
+            ("list transit lon-a par-a fra-a", [[], []], []),
+            ("list transit lon-a par-a fra-a muc-a", [["muc-a"], []], ["added to the list: muc-a"]),
+        ):
+            transit = self.judged(change)["transit"]
+            self.assertEqual((transit["same_verdict"], transit["as_before"]), (True, None), change)
+            self.assertEqual(list(transit["members"].values()), members)
+            found = effect_on("transit", *self.plans(change))
+            self.assertEqual(found.label, "same cycle")
+            self.assertEqual(found.lines(), [*lines, NOT_COMPARED])
+
+    def test_members_are_told_where_no_routes_are_compared(self) -> None:
+        found = effect_on("transit", *self.plans("list transit lon-a par-b"))
+        self.assertIsNone(found.label)
+        told = ["added to the list: par-b", "taken from the list: par-a, fra-a"]
+        self.assertEqual(found.lines(), told)
+        found = effect_on("peering", *self.plans("list peering lon-b fra-a"))
+        self.assertEqual(found.members, (("fra-a",), ("fra-b",)))
+        self.assertNotIn("the list: ", " ".join(found.lines()))
 
 
 class WithoutRoute(unittest.TestCase):

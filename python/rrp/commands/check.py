@@ -5,7 +5,7 @@ from __future__ import annotations
 from argparse import ArgumentParser, Namespace
 
 from ..columns import left, widest
-from ..effects import Effect, effect
+from ..effects import Effect, effect_on
 from ..output import sizes, sizes_line, verdict_lines, verdict_values, verdict_words
 from ..output import write_json, write_notes
 from ..plan import Plan, Verdict
@@ -26,7 +26,8 @@ def arguments(parser: ArgumentParser) -> None:
     parser.add_argument("--strict", action="store_true", help=STRICT_HELP)
     parser.epilog = (
         "Routers that a stable list leaves without a route are named. With --set, so are those "
-        "that settle on another route; as before says that every rank and route is the same. "
+        "that settle on another route; as before says that every rank and route is the same, and "
+        "same cycle that a list is suspect with the cycle that it had, its routes not compared. "
         "Exit status: 0 all lists are stable, after the changes if any; 1 some list is suspect, "
         "or with --strict some router ends without a route; 2 error."
     )
@@ -61,9 +62,7 @@ def _run_changed(options: Namespace) -> tuple[Verdict, ...]:
 
     draft = read_draft(options.plan)
     plan, changed = assemble(draft), assemble_changed(draft, options.set)
-    before = {verdict.name: verdict for verdict in plan.verdicts()}
-    verdicts = changed.verdicts()
-    effects = [effect(before.get(verdict.name), verdict) for verdict in verdicts]
+    effects = [effect_on(name, plan, changed) for name in changed.lists]
     if options.json:
         lists = [{"list": each.after.name, **each.values()} for each in effects]
         answer = {"plan": changed.source, "changes": options.set, "sizes": sizes(changed)}
@@ -74,7 +73,7 @@ def _run_changed(options: Namespace) -> tuple[Verdict, ...]:
         for text in options.set:
             print(f"with {' '.join(text.split())}")
         _print_rows([row for each in effects for row in _effect_rows(each)])
-    return verdicts
+    return tuple(each.after for each in effects)
 
 
 def _rows(verdict: Verdict) -> list[tuple[str, ...]]:
@@ -84,7 +83,7 @@ def _rows(verdict: Verdict) -> list[tuple[str, ...]]:
 
 
 def _effect_rows(found: Effect) -> list[tuple[str, ...]]:
-    """A list with its verdict: one row if it is as before, else one for it before and one after.
+    """A list with its verdict: one row if that is the same, else one for it before and one after.
     What changes beside it is below."""
     name, new = found.after.name, verdict_words(found.after)
     rows = [(name, found.label or "after", new)]
