@@ -2,7 +2,8 @@
 
 Where a router hears its egress from several reflectors, the model takes the lowest number as the
 sender. Real routers take the shortest CLUSTER_LIST first (RFC 4456, section 9). The egress is the
-same either way.
+same either way, if each reflector has a cluster identifier of its own: those that share one drop
+routes that the model passes on.
 """
 
 from __future__ import annotations
@@ -18,7 +19,8 @@ def sender_note(again: Sequence[str]) -> str:
     return (
         "heard from several reflectors, an egress is shown from the lowest number. Real routers "
         "take the shortest CLUSTER_LIST (RFC 4456, section 9), so that there the sender may "
-        f"differ, never the egress. Here: {', '.join(again) or 'no router'}"
+        "differ, never the egress, if each reflector has a cluster identifier of its own. "
+        f"Here: {', '.join(again) or 'no router'}"
     )
 
 

@@ -66,13 +66,15 @@ class Senders(unittest.TestCase):
             (["show", f"{EXAMPLES}/m3.plan", "1"], []),
         ):
             lines = rrp(*words).output.splitlines()
-            self.assertTrue(lines[-2].startswith("note: heard from several reflectors, "))
-            self.assertIn("CLUSTER_LIST (RFC 4456, section 9)", lines[-1])
-            self.assertIn("the sender may differ, never the egress", lines[-1])
+            note = " ".join(lines[-3:])
+            self.assertTrue(note.startswith("note: heard from several reflectors, "))
+            self.assertIn("CLUSTER_LIST (RFC 4456, section 9)", note)
+            own = "if each reflector has a cluster identifier of its own."
+            self.assertIn(f" the sender may differ, never the egress, {own} ", note)
             self.assertTrue(lines[-1].endswith(f" Here: {', '.join(who) or 'no router'}"), lines)
             values = json.loads(rrp(*words, "--json").output)
             self.assertEqual(values["sender_may_differ"], who)
-            self.assertEqual(" ".join(lines[-2:]), f"note: {values['sender_note']}")
+            self.assertEqual(note, f"note: {values['sender_note']}")
 
     def test_a_suspect_list_has_no_table_and_no_note(self) -> None:
         self.assertNotIn("CLUSTER_LIST", rrp("show", f"{EXAMPLES}/net.rrp", "transit").output)
