@@ -39,13 +39,15 @@ _LINES = {
 
 class Entry(NamedTuple):
     """What is filed for a plan: the verdict program's lines, what each list has, the last line. And
-    how many lists are stable and how many suspect, both 0 if the plan is refused."""
+    how many lists are stable, how many suspect, and how many of the stable ones leave a router
+    without a route, all 0 if the plan is refused."""
 
     program: str
     details: str
     digest: str
     stable: int = 0
     suspect: int = 0
+    lacking: int = 0
 
     @property
     def text(self) -> str:
@@ -80,8 +82,10 @@ def entry(plan: bytes) -> Entry:
     for number, answer in enumerate(answers):
         program.append(f"{number} {_verdict(answer)}\n")
         details += _routers(number, answer) if answer.stable else _groups(number, answer)
-    stable = sum(answer.stable for answer in answers)
-    return Entry("".join(program), "".join(details), digest, stable, lists - stable)
+    stable = [answer for answer in answers if answer.stable]
+    lacking = sum(library.NONE in answer.table[::2] for answer in stable)
+    counts = len(stable), lists - len(stable), lacking
+    return Entry("".join(program), "".join(details), digest, *counts)
 
 
 def _verdict(answer: library.Assessed) -> str:

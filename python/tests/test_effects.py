@@ -211,6 +211,21 @@ class WithoutRoute(unittest.TestCase):
         lists = json.loads(rrp("check", LEFT_OUT, "--json").output)["lists"]
         self.assertEqual([each["without_route"] for each in lists], [["z"], []])
 
+    def test_show_names_them_under_their_list(self) -> None:
+        lines = rrp("show", LEFT_OUT).output.splitlines()
+        due = ["one   stable   x", "               1 router ends without a route: z"]
+        self.assertEqual(lines[2:5], [*due, "two   stable   x, z"])
+        lines = rrp("show", LEFT_OUT, "one").output.splitlines()
+        self.assertIn("1 router ends without a route: z", lines)
+
+    def test_a_run_that_stays_names_them_last(self) -> None:
+        said = "1 router ends without a route: z."
+        self.assertTrue(rrp("run", LEFT_OUT, "one").output.endswith(f"\n{said}\n"))
+        values = json.loads(rrp("run", LEFT_OUT, "one", "--json").output)
+        self.assertTrue(values["sentence"].endswith(f" rounds. {said}"))
+        for words in (["two"], ["one", "--rounds", "0"], ["one", "--order", "z"]):
+            self.assertNotIn("without a route", rrp("run", LEFT_OUT, *words).output, words)
+
     def test_strict(self) -> None:
         meshed = ["--set", "session x z"]
         suspect = ["check", NET]

@@ -54,6 +54,14 @@ class Filing(InFolder):
         self.assertEqual(rrp("file", stable, suspect).status, 1)
         self.assertEqual(rrp("file", refused, stable, suspect).status, 2)
 
+    def test_lists_that_leave_routers_without_a_route_are_counted(self) -> None:
+        plan = self.copy(f"{TESTS}/plans/left-out.rrp")
+        lists = "2 lists, 0 suspect, 1 leaves routers without a route"
+        self.assertEqual(rrp("file", plan).output, f"{plan}.verdict: filed: {lists}\n")
+        write(plan, read(plan).replace("list two x z", "list two x\nlist three z"))
+        lists = "3 lists, 0 suspect, 3 leave routers without a route"
+        self.assertEqual(rrp("file", plan).output, f"{plan}.verdict: replaced: {lists}\n")
+
     def test_text_is_filed_as_its_bytes_are(self) -> None:
         net = self.copy(f"{EXAMPLES}/net.rrp")
         rrp("pack", net, "-o", "net.plan")

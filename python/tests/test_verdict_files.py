@@ -59,6 +59,7 @@ class Written(unittest.TestCase):
             stable = sum(verdict.stable for verdict in verdicts)
             counted = (found.stable, found.suspect, found.refused)
             self.assertEqual(counted, (stable, len(verdicts) - stable, False))
+            self.assertEqual(found.lacking, sum(bool(each.without_route) for each in verdicts))
             seen += found.text
         for word in ("stable", "suspect", "group", "egress", "nothing"):
             self.assertIn(f" {word}", seen)

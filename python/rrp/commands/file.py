@@ -33,8 +33,10 @@ class Filed(NamedTuple):
         """The verdict in a few words."""
         if self.entry.refused:
             return self.entry.program.rstrip()
-        lists = self.entry.stable + self.entry.suspect
-        return f"{count_words(lists, 'list')}, {self.entry.suspect} suspect"
+        lists, lacking = self.entry.stable + self.entry.suspect, self.entry.lacking
+        leave = "leaves" if lacking == 1 else "leave"
+        last = f", {lacking} {leave} routers without a route" if lacking else ""
+        return f"{count_words(lists, 'list')}, {self.entry.suspect} suspect{last}"
 
 
 def arguments(parser: ArgumentParser) -> None:

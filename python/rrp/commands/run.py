@@ -7,7 +7,7 @@ from argparse import ArgumentParser, ArgumentTypeError, Namespace, RawDescriptio
 from ..columns import left, widest
 from ..errors import RrpError
 from ..orders import order_words, read_order
-from ..output import count_words, write_json, write_notes
+from ..output import count_words, routers_do, write_json, write_notes
 from ..plan import Plan, Verdict
 from ..table_files import NOTHING, Read, read_table, route_values, route_words, table_values
 from ..tracing import AT_REST, OPEN, REPEATS, SETTLED, Order, Step, Tracing
@@ -124,7 +124,15 @@ def _outcome_lines(tracing: Tracing) -> list[str]:
     """Where the run ended, a sentence a line."""
     acts = count_words(tracing.activations, "activation")
     made = f"after {acts} ({count_words(tracing.rounds, 'round')} ended)"
-    return _OUTCOMES[tracing.outcome.kind](tracing, made)
+    return [*_OUTCOMES[tracing.outcome.kind](tracing, made), *_lacking_lines(tracing)]
+
+
+def _lacking_lines(tracing: Tracing) -> list[str]:
+    """Who is without a route in a table that stays."""
+    lacking = [router for router, route in tracing.table.items() if route is None]
+    if not lacking or tracing.outcome.kind not in (SETTLED, AT_REST):
+        return []
+    return [f"{routers_do(lacking, 'end')} without a route: {', '.join(lacking)}."]
 
 
 def _settled(tracing: Tracing, made: str) -> list[str]:

@@ -27,7 +27,8 @@ def arguments(parser: ArgumentParser) -> None:
     which = "a list, by name or number; without it all are named"
     parser.add_argument("list", metavar="LIST", nargs="?", help=which)
     parser.epilog = (
-        "A change that is shown was tried, and there is no smaller one of one distance. Exit "
+        "Routers that a stable list leaves without a route are named. A change that is shown was "
+        "tried, and there is no smaller one of one distance. Exit "
         "status: 0 the list is stable, or all are where none is given; 1 suspect; 2 error."
     )
 
@@ -63,6 +64,8 @@ def _show_lists(plan: Plan, options: Namespace) -> int:
         for each in verdicts:
             word, routers = "stable " if each.stable else "suspect", plan.egresses(each.name)
             print(f"{left(each.name, width)}  {word}  {', '.join(routers)}")
+            for line in without_route_lines(each):
+                print(f"{'':{width}}  {'':7}  {line}")
         print(f"to explain one: {join(['rrp', 'show', options.plan, plan.lists[0]])}")
     return 0 if all(each.stable for each in verdicts) else 1
 
