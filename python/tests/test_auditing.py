@@ -63,6 +63,12 @@ OF_THE_TEXT = (
     ("# LINX", "# a comment"),
     ("muc-a", "munich"),
     ("link lon-a  lon-b 9", "link lon-b lon-a 9"),
+    ("link lon-a  lon-b 9", "link lon-a lon-b 9\nlink man-a mrs-a 900"),
+    ("link lon-a  lon-b 9", "link lon-a lon-b 9\ndistance lon-a lon-b 9"),
+    (
+        "list peering  lon-b fra-b\nlist customer man-a mrs-a",
+        "list customer lon-b fra-b\nlist peering  man-a mrs-a",
+    ),
 )
 
 
