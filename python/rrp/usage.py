@@ -86,6 +86,9 @@ def too_many(parser: Parser, extra: list[str], words: Sequence[str]) -> UsageErr
     """The failure for words that are left over."""
     options = [word for word in extra if word.startswith("-") and word != "-"]
     if options:
+        if _is_before_command(parser, options[0], words):
+            advice = f"put {options[0]} after the command, as: {parser.prog} .. {options[0]}"
+            return UsageError(parser, f"{options[0]} is before the command", advice)
         near = nearest(options[0].split("=")[0], parser.options())
         advice = f"did you mean {near}?" if near else parser.help_advice()
         return UsageError(parser, f"there is no option {options[0]}", advice)
@@ -94,6 +97,12 @@ def too_many(parser: Parser, extra: list[str], words: Sequence[str]) -> UsageErr
         advice = f"put what belongs to {option} in quotes, as: {option} '{_joined(option, words)}'"
         return UsageError(parser, message, advice)
     return UsageError(parser, message, _TOO_MANY.get(parser.prog, parser.help_advice()))
+
+
+def _is_before_command(parser: Parser, option: str, words: Sequence[str]) -> bool:
+    """Whether an option that the command takes stands before it."""
+    command = parser.prog.split()[-1]
+    return option in parser.options() and words.index(option) < words.index(command)
 
 
 def _joined(option: str, words: Sequence[str]) -> str:

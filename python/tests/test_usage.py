@@ -86,6 +86,17 @@ class Usage(unittest.TestCase):
                 (error,) = json.loads(answer.output)["errors"]
                 self.assertEqual(error, {"message": message.split(": ", 1)[1], "advice": advice})
 
+    def test_an_option_before_the_command(self) -> None:
+        answer = rrp("--json", "check", NET)
+        (error,) = json.loads(answer.output)["errors"]
+        self.assertEqual((answer.status, error["message"]), (2, "--json is before the command"))
+        self.assertEqual(error["advice"], "put --json after the command, as: rrp check .. --json")
+        answer = rrp("--lines", "audit", ".")
+        advice = "put --lines after the command, as: rrp audit .. --lines"
+        said = f"rrp audit: --lines is before the command\n    {advice}\n"
+        self.assertEqual((answer.status, answer.errors.split("\n", 1)[1]), (2, said))
+        self.assertIn("did you mean --json?", rrp("--jsn", "check", NET).errors)
+
     def test_json_by_a_shortened_option(self) -> None:
         answer = rrp("check", "missing", "--js")
         self.assertEqual((answer.status, answer.errors), (2, ""))
