@@ -4,6 +4,7 @@ from __future__ import annotations
 
 import json
 import os
+import shlex
 import shutil
 import signal
 import subprocess
@@ -152,6 +153,18 @@ class Words(unittest.TestCase):
                 self.assertEqual((answer.status, answer.output), (2, ""))
                 self.assertIn("net.rrp is the plan that is read", answer.errors)
             self.assertEqual(read(path), read(NET))
+
+    def test_what_show_advises_is_taken(self) -> None:
+        with tempfile.TemporaryDirectory() as folder:
+            for name in ("-x", "--json", "x", "-"):
+                path = f"{folder}/a plan.rrp"
+                with open(path, "w", encoding="utf-8") as file:
+                    file.write(f"reflector a 1\nlist {name} a\n")
+                advice = rrp("show", path).output.splitlines()[-1]
+                self.assertTrue(advice.startswith("to explain one: rrp show "), advice)
+                answer = rrp(*shlex.split(advice.removeprefix("to explain one: rrp ")))
+                self.assertEqual((answer.status, answer.errors), (0, ""), name)
+                self.assertTrue(answer.output.startswith(f"{name} is stable: "), answer.output)
 
     def test_nothing_is_written_where_a_text_has_errors(self) -> None:
         with tempfile.TemporaryDirectory() as folder:

@@ -66,7 +66,8 @@ def _show_lists(plan: Plan, options: Namespace) -> int:
             print(f"{left(each.name, width)}  {word}  {', '.join(routers)}")
             for line in without_route_lines(each):
                 print(f"{'':{width}}  {'':7}  {line}")
-        print(f"to explain one: {join(['rrp', 'show', options.plan, plan.lists[0]])}")
+        name = ["--"] * plan.lists[0].startswith("-") + [plan.lists[0]]
+        print(f"to explain one: {join(['rrp', 'show', options.plan, *name])}")
     return 0 if all(each.stable for each in verdicts) else 1
 
 
