@@ -131,7 +131,10 @@ class Plan:
         self._list_numbers = {name: number for number, name in enumerate(self.lists)}
 
     def __repr__(self) -> str:
-        return f"<Plan {self.source}: {len(self.routers)} routers, {len(self.lists)} lists>"
+        from .output import count_words
+
+        routers = count_words(len(self.routers), "router")
+        return f"<Plan {self.source}: {routers}, {count_words(len(self.lists), 'list')}>"
 
     # Where plans come from
 

@@ -103,6 +103,8 @@ class ByName(unittest.TestCase):
     def test_repr(self) -> None:
         self.assertEqual(repr(self.net), f"<Plan {EXAMPLES}/net.rrp: 12 routers, 3 lists>")
         self.assertEqual(repr(Plan(self.m3.data)), "<Plan the plan: 4 routers, 2 lists>")
+        one = Plan.parse("reflector a 1\nlist l a\n", "one.rrp")
+        self.assertEqual(repr(one), "<Plan one.rrp: 1 router, 1 list>")
 
     def test_a_table_that_cannot_be(self) -> None:
         table = self.m3.empty_table("l0").with_route("r0", Route("r2", "r3"))
