@@ -13,7 +13,7 @@ from typing import TYPE_CHECKING, NamedTuple
 from . import library
 from .errors import RrpError
 from .files import read_file
-from .filing import SUFFIX, packed, read_verdict, verdict_path
+from .filing import SUFFIX, is_meant, packed, read_verdict, verdict_path
 from .output import count_words
 from .verdict_differences import CHANGED, FALSE, LINES, RIGHT, compare
 from .verdict_files import entry
@@ -92,8 +92,16 @@ def _sort_out(folder: str, names: set[str], found: Found) -> None:
         elif verdict_path(name) in names:
             found.plans.append(path)
         elif name.endswith(PLAN_SUFFIXES):
-            details = ("no verdict is filed; rrp file writes one",)
+            damaged = " with --damaged, as it looks like no plan" if _looks_damaged(path) else ""
+            details = (f"no verdict is filed; rrp file writes one{damaged}",)
             found.findings.append(Finding(path, UNFILED, details))
+
+
+def _looks_damaged(path: str) -> bool:
+    """Whether a file can be read, and its content is not meant as a plan."""
+    with suppress(RrpError):
+        return os.path.isfile(path) and not is_meant(read_file(path)[1])
+    return False
 
 
 def judge(path: str) -> Finding:

@@ -27,10 +27,10 @@ _ALONE = (
     "its lines are right, but nothing more is filed: an edit of the plan may go unseen",
     "rrp file adds the ranks, routes and groups, and the SHA-256 of the plan",
 )
-_OTHER_PLAN = (
-    "another plan than the one filed, with every verdict, rank and route the same",
-    "look at what was edited, then file it anew with rrp file",
-)
+_OTHER_PLAN = "another plan than the one filed, or its SHA-256 was altered"
+_SAME = "every verdict, rank and route is the same"
+_SAME_REFUSAL = "it is refused with the same number"
+_LOOK = "look at what was edited, then file it anew with rrp file"
 
 
 #: Numbers of another plan may be those of other routers and lists.
@@ -102,7 +102,8 @@ def compare(filed: str, due: Entry, names: Names = Names()) -> Comparison:
         return Comparison(LINES, _ALONE)
     digest = digest_of(filed)
     if digest is not None and filed == due._replace(digest=f"sha256 {digest}\n").text:
-        return Comparison(CHANGED, _OTHER_PLAN)
+        same = _SAME_REFUSAL if due.refused else _SAME
+        return Comparison(CHANGED, (_OTHER_PLAN, f"{same}: {_LOOK}"))
     expected = due.program if _alone(filed) else due.text
     found = differences(filed, expected)
     same = due.digest == f"sha256 {digest}\n"

@@ -49,6 +49,10 @@ UNSEEN = (
     ),
 )
 
+#: What is said first of a plan that is not the one filed, where the verdict is the same.
+CHANGED_PLAN = "another plan than the one filed, or its SHA-256 was altered"
+LOOK = "look at what was edited, then file it anew with rrp file"
+
 #: What is said last of a plan in text that is not the one filed.
 OTHER_PLAN = "the plan is another than the one filed (names are those of the plan as it is now)"
 
@@ -116,8 +120,8 @@ class Edits(InFolder):
         for old, new in HARMLESS:
             status, lines = self.audit(old, new)
             self.assertEqual(status, 1)
-            said = "another plan than the one filed, with every verdict, rank and route the same"
-            self.assertEqual(lines[0], f"changed: ./net.rrp: {said}")
+            self.assertEqual(lines[0], f"changed: ./net.rrp: {CHANGED_PLAN}")
+            self.assertEqual(lines[1], f"    every verdict, rank and route is the same: {LOOK}")
             lists = "lists judged: 2 stable, 1 suspect"
             self.assertEqual(lines[2:], [f"1 plan: 0 right, 0 false, 1 changed; {lists}"])
 
@@ -249,6 +253,31 @@ class Told(InFolder):
         write("000.plan.verdict", text)
         other = "the plan is another than the one filed"
         self.assertEqual(list(judge("000.plan").details), [*said, other])
+
+    def test_another_plan_that_is_refused_too(self) -> None:
+        for data in (b"RRP1", b"RRP1 more"):
+            with open("x.plan", "wb") as file:
+                file.write(data)
+            write("x.plan.verdict", verdict_of("x.plan"))
+        with open("x.plan", "wb") as file:
+            file.write(b"RRP1")
+        finding = judge("x.plan")
+        self.assertEqual((finding.kind, finding.refused), (CHANGED, True))
+        refused = f"it is refused with the same number: {LOOK}"
+        self.assertEqual(finding.details, (CHANGED_PLAN, refused))
+
+    def test_what_file_takes_for_no_plan_needs_an_option(self) -> None:
+        for name, data in (("a", b""), ("b", b"no plan\n"), ("c", b"RRP"), ("d", b"list x\n")):
+            with open(f"{name}.plan", "wb") as file:
+                file.write(data)
+        os.mkfifo("e.plan")
+        os.symlink("nowhere", "f.plan")
+        lines = rrp("audit", ".").output.splitlines()
+        self.assertEqual(len(lines), 7)
+        for name, line in zip("abcdef", lines):
+            more = " with --damaged, as it looks like no plan" if name in "ab" else ""
+            said = f"no verdict is filed; rrp file writes one{more}"
+            self.assertEqual(line, f"unfiled: ./{name}.plan: {said}")
 
     def test_differences_as_values(self) -> None:
         self.copy(f"{EXAMPLES}/net.rrp")

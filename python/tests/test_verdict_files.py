@@ -233,6 +233,10 @@ class Damaged(unittest.TestCase):
         last = repr(text.splitlines()[-1])
         cut = self.said(text[: text.index("sha256")])
         self.assertEqual(cut, f"line 9: filed no line, is {last}")
+        missing = "it has no line of the plan's SHA-256: the plan may be another than the one filed"
+        for place in (1, text.index("group"), text.index("sha256"), len(text) - 3):
+            last = compare(text[:place], self.due, self.names).details[-1]
+            self.assertEqual(last[: len(missing)], missing)
 
 
 if __name__ == "__main__":

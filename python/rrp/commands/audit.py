@@ -31,7 +31,8 @@ def arguments(parser: ArgumentParser) -> None:
     parser.epilog = (
         f"A plan is a file whose name ends in {_NAMES}, or that has a verdict beside it: a file of "
         f"its name with {SUFFIX} added, as rrp file writes it. A verdict is right; changed, if the "
-        "plan is another than the one filed and every verdict, rank and route is the same; of "
+        "plan is another than the one filed, or its SHA-256 was altered, and every verdict, rank "
+        "and route is the same; of "
         "lines alone, if these are right and nothing more is filed; or false. Exit status: 0 all "
         "are right, be lists stable or suspect; 1 a verdict is not, a plan has none, or a verdict "
         "has no plan; 2 a file or a directory cannot be read, or there is no plan."
