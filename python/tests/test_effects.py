@@ -6,6 +6,7 @@ from __future__ import annotations
 import json
 import random
 import re
+import tempfile
 import unittest
 
 from rrp import Plan, encoding
@@ -225,6 +226,15 @@ class WithoutRoute(unittest.TestCase):
         self.assertTrue(values["sentence"].endswith(f" rounds. {said}"))
         for words in (["two"], ["one", "--rounds", "0"], ["one", "--order", "z"]):
             self.assertNotIn("without a route", rrp("run", LEFT_OUT, *words).output, words)
+
+    def test_a_suspect_list_at_rest_names_them_too(self) -> None:
+        with tempfile.TemporaryDirectory() as folder:
+            path = f"{folder}/lone.rrp"
+            with open(path, "w", encoding="utf-8") as file:
+                file.write(f"{rrp('unpack', f'{EXAMPLES}/m3.plan').output}client lone 50\n")
+            lines = rrp("run", path, "l0", "--order", "r1,r0,r2,r3,lone").output.splitlines()
+        self.assertTrue(lines[-3].startswith("at rest after "), lines)
+        self.assertEqual(lines[-1], "1 router ends without a route: lone.")
 
     def test_strict(self) -> None:
         meshed = ["--set", "session x z"]
