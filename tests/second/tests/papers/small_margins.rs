@@ -52,7 +52,7 @@ fn there_is_no_margin_without_a_way_to_both() -> Outcome {
 /// Each prefers the next one's client to its own, router 0 by minus four, the others
 /// by minus twenty; in tens the first of these is nought.
 #[test]
-fn a_ring_of_four_is_suspect_and_in_tens_it_would_be_stable() -> Outcome {
+fn a_cycle_of_four_is_suspect_and_in_tens_it_would_be_stable() -> Outcome {
     let distance = |from: usize, to: usize| match (from, to) {
         _ if from == to => 0,
         (0, 5) => 26,
