@@ -1,6 +1,10 @@
 /* Checks BGP route-reflection plans: which routers rely on which for an egress list, whether the plan is stable for that
  * list, and what the routers hold as they are activated one by one. And works out a plan's distances from weighted links.
  *
+ * A plan starts with a mark, RRP1 or RRP2. A distance has two bytes in an RRP1 plan and goes up to 65,534; in an RRP2 plan it has
+ * four and goes up to 4,294,967,294. All else is the same, and every call takes both, but for the two that turn a plan of one mark
+ * into a plan of the other.
+ *
  * Every call takes the bytes of a plan, or of a link sheet, and returns a number of enum rrp_refusal: 0 if it is not refused,
  * else that of the first check in order that fails. A refused call writes nothing, neither to a buffer nor to a result variable.
  * Otherwise bytes of a buffer beyond those named below are left as they are.
@@ -31,11 +35,13 @@ extern "C" {
 typedef char rrp_size_t_has_64_bits[sizeof(size_t) == 8 ? 1 : -1];
 
 /* What a call returns: 0, or the number of the first check that fails, which need not be the lowest that applies. The order of
- * the checks is, for a plan, 1, 2, 3, 4, 5, 13, 6, 7, 8, 9, 10; for a link sheet, 2, 11, 12, 9. */
+ * the checks is, for a plan, 1, 2, 3, 4, 5, 13, 6, 7, 14, 8, 9, 10; for a link sheet, 2, 11, 12, 9. Check 14 is that of rrp_narrow
+ * alone. */
 enum rrp_refusal {
     /* not refused */
     RRP_OK = 0,
-    /* the length is not 26 to 16,731 bytes, bytes 0 to 3 are not RRP1, or byte 5 is not 4 */
+    /* the plan does not start RRP1 or RRP2, is shorter than 26 bytes or longer than 16,731 (RRP1) or 24,923 (RRP2), or byte 5 is
+     * not 4; or it has the wrong mark to be converted */
     RRP_NOT_A_PLAN = 1,
     /* the number of routers is 0 or above 64 */
     RRP_BAD_ROUTER_COUNT = 2,
@@ -60,7 +66,9 @@ enum rrp_refusal {
     /* from some router there are walks to another, and their least sum of weights is above 65,534 */
     RRP_TOO_FAR = 12,
     /* a client has sessions with five or more reflectors */
-    RRP_TOO_MANY_PARENTS = 13
+    RRP_TOO_MANY_PARENTS = 13,
+    /* a distance that is not no way is above 65,534, too far for two bytes */
+    RRP_TOO_FAR_TO_NARROW = 14
 };
 
 /* By which rule a router relies on another. */
@@ -95,13 +103,13 @@ enum rrp_reason {
 };
 
 enum {
-    /* the most routers and egress lists that a plan has, and the most bytes */
+    /* the most routers, egress lists and bytes of a plan; so many bytes has an RRP2 plan, and an RRP1 plan at most 16,731 */
     RRP_MAX_ROUTERS = 64,
     RRP_MAX_LISTS = 64,
-    RRP_MAX_PLAN = 16731,
+    RRP_MAX_PLAN = 24923,
     /* the bytes of the largest table */
     RRP_MAX_TABLE = 128,
-    /* the most links of a sheet, four bytes each, and the bytes of the largest distances, those of 64 routers */
+    /* the most links of a sheet, four bytes each, and the most bytes that rrp_distances writes, those of 64 routers */
     RRP_MAX_LINKS = 512,
     RRP_MAX_DISTANCES = 8192,
     /* the distance, of two bytes, from a router to another that it has no way to */
@@ -109,6 +117,10 @@ enum {
     /* no router, in a table */
     RRP_NONE = 255
 };
+
+/* The distance, of four bytes, from a router to another that it has no way to, in an RRP2 plan. No enum constant, as C has these
+ * fit an int. */
+#define RRP_NO_WAY_WIDE UINT32_C(4294967295)
 
 /* Checks a plan. Refusals 1 to 7 and 13. */
 uint8_t rrp_check(const uint8_t *plan, size_t plan_len);
@@ -124,8 +136,9 @@ uint8_t rrp_list(const uint8_t *plan, size_t plan_len, size_t list, uint64_t *st
  * one is nearer to the router or, if both are as near, has the lower number. One that the router has a way to is better than one
  * that it has none to. Neither is better if they are the same, or if the router has no way to either.
  * *has_margin is 1 if the router has a way to both, else 0. *margin is then the distance to the first minus the distance to the
- * second, from -65,534 to 65,534. Below 0 the first is nearer, above 0 the second; at 0 both are as near, and the lower number
- * decides, or they are the same. Without a margin *margin is 0. Refusals 1 to 8 and 13. */
+ * second, from -4,294,967,294 to 4,294,967,294, which in an RRP1 plan is from -65,534 to 65,534. Below 0 the first is nearer, above
+ * 0 the second; at 0 both are as near, and the lower number decides, or they are the same. Without a margin *margin is 0.
+ * Refusals 1 to 8 and 13. */
 uint8_t rrp_compare(const uint8_t *plan, size_t plan_len, size_t router, size_t first, size_t second, uint8_t *better,
                     uint8_t *has_margin, int64_t *margin);
 
@@ -164,12 +177,25 @@ uint8_t rrp_activate(const uint8_t *plan, size_t plan_len, size_t list, size_t r
 uint8_t rrp_run(const uint8_t *plan, size_t plan_len, size_t list, const uint8_t *sequence, size_t sequence_len, uint64_t limit,
                 uint8_t *table, size_t table_len, uint64_t *applied, uint64_t *rounds, uint8_t *exhausted);
 
-/* Works out the distances between n routers from a sheet of links, in the form that a plan holds them in. A link has four bytes:
- * the router that it leads from, the one that it leads to, and its weight, 1 to 65,535, low byte first. Links rise strictly, by
- * the first router and then by the second. A link leads one way; where traffic goes both ways there are two. Needs 2 * n * n bytes
- * of out. out[2 * (n * u + e)] and the byte after it become the least sum of weights over all walks from router u to router e, low
- * byte first, or RRP_NO_WAY if there is no walk; it is 0 from a router to itself. Refusals 2, 11, 12 and 9, in this order. */
+/* Works out the distances between n routers from a sheet of links, two bytes each: what is written is the body of distances of an
+ * RRP1 plan. A link has four bytes: the router that it leads from, the one that it leads to, and its weight, 1 to 65,535, low byte
+ * first. Links rise strictly, by the first router and then by the second. A link leads one way; where traffic goes both ways there
+ * are two. Needs 2 * n * n bytes of out. out[2 * (n * u + e)] and the byte after it become the least sum of weights over all walks
+ * from router u to router e, low byte first, or RRP_NO_WAY if there is no walk; it is 0 from a router to itself. For an RRP2 plan,
+ * make the RRP1 plan and hand it to rrp_widen. Refusals 2, 11, 12 and 9, in this order. */
 uint8_t rrp_distances(size_t n, const uint8_t *links, size_t links_len, uint8_t *out, size_t out_len);
+
+/* Turns an RRP1 plan into the RRP2 plan of the same distances; no way stays no way, RRP_NO_WAY becomes RRP_NO_WAY_WIDE. The other
+ * bodies are the same. Every call but this and rrp_narrow answers the same of both plans; rrp_list finds a list 2 * n * n bytes on.
+ * Needs plan_len + 2 * n * n bytes of out, at most RRP_MAX_PLAN. *length becomes that number, and out[0] to out[*length - 1] the
+ * plan. A plan that starts RRP2 has the wrong mark, refusal 1. Refusals 1 to 7, 9 and 13. */
+uint8_t rrp_widen(const uint8_t *plan, size_t plan_len, uint8_t *out, size_t out_len, uint64_t *length);
+
+/* Turns an RRP2 plan into the RRP1 plan of the same distances: the way back from rrp_widen, to identical bytes. Refused with 14 if a
+ * distance other than RRP_NO_WAY_WIDE is above 65,534; so is one of 65,535, which in two bytes is no way. Needs
+ * plan_len - 2 * n * n bytes of out, at most 16,731. *length becomes that number, and out[0] to out[*length - 1] the plan. A plan
+ * that starts RRP1 has the wrong mark, refusal 1. Refusals 1 to 7, 9, 13 and 14. */
+uint8_t rrp_narrow(const uint8_t *plan, size_t plan_len, uint8_t *out, size_t out_len, uint64_t *length);
 
 #ifdef __cplusplus
 }

@@ -29,10 +29,10 @@ refuses_cut_plan() {
 
 # Which of two egress routers the C example calls better, and by how much; or the refusal.
 compares() {
-    local m3=examples/m3.plan cut=tests/verdict/no-way-from-0-to-3.plan
+    local m3=examples/m3.plan cut=tests/verdict/no-way-from-0-to-3.plan wide=tests/verdict/rrp2-suspect.plan
     [ "$("$out/compare" "$m3" 0 3 2)" = "first -4" ] && [ "$("$out/compare" "$m3" 0 2 3)" = "second 4" ] &&
         [ "$("$out/compare" "$m3" 0 2 2)" = "neither 0" ] && [ "$("$out/compare" "$cut" 0 2 3)" = "first none" ] &&
-        [ "$("$out/compare" "$m3" 0 2 4)" = "refused 8" ]
+        [ "$("$out/compare" "$wide" 0 3 2)" = "first -400000" ] && [ "$("$out/compare" "$m3" 0 2 4)" = "refused 8" ]
 }
 
 # Why one router relies on another by the C example, or does not; or the refusal.
@@ -89,19 +89,28 @@ works_out_distances() {
 END
 }
 
+# The C example of a conversion turns a plan into the one of the other mark, and that back into the same bytes; or says the refusal.
+converts() {
+    local m3=examples/m3.plan there=$out/there.plan back=$out/back.plan
+    [ "$("$out/convert" "$m3" "$there")" = "RRP2, 122 bytes" ] && [ "$("$out/convert" "$there" "$back")" = "RRP1, 90 bytes" ] &&
+        cmp "$m3" "$back" && [ "$("$out/convert" tests/verdict/rrp2-suspect.plan "$back")" = "refused 14" ] &&
+        [ "$("$out/convert" tests/verdict/refused-1-rrp3.plan "$back")" = "refused 1" ] && cmp "$m3" "$back"
+}
+
 # The C examples print what docs/EMBEDDING.md shows after each command.
 prints_as_documented() {
     local shown made line
     shown=$(sed -n '/^```console$/,/^```$/{/^```/d;p}' docs/EMBEDDING.md)
-    made=$(grep '^\$ ' <<<"$shown" | while IFS= read -r line; do echo "$line"; eval "$(sed "s|^. ||; s|target/|$out/|" <<<"$line")"; done)
+    made=$(grep '^\$ ' <<<"$shown" | while IFS= read -r line; do echo "$line"; eval "$(sed "s|^. ||; s|target/|$out/|g" <<<"$line")"; done)
     [ -n "$shown" ] && diff <(echo "$shown") <(echo "$made")
 }
 
 # A program reads on where its input comes in parts.
 reads_in_parts() {
-    local m3=examples/m3.plan
+    local m3=examples/m3.plan wide=tests/verdict/rrp2-largest
     [ "$( (printf '\0\3' && sleep 0.2 && printf '\2' && sleep 0.2 && cat "$m3") | target/bin/margin)" = "-4" ] &&
-        (head -c 30 "$m3" && sleep 0.2 && tail -c +31 "$m3") | target/bin/verdict | cmp - examples/m3.verdicts
+        (head -c 30 "$m3" && sleep 0.2 && tail -c +31 "$m3") | target/bin/verdict | cmp - examples/m3.verdicts &&
+        (head -c 17000 "$wide.plan" && sleep 0.2 && tail -c +17001 "$wide.plan") | target/bin/verdict | cmp - "$wide.expected"
 }
 
 # The texts that a program is held to on stored inputs are those of the second checker.
@@ -130,9 +139,9 @@ agrees() {
     [ "$count" -eq 300 ]
 }
 
-# No call is refused, and so none goes unmeasured, on the plan with the highest rank.
+# No call is refused, and so none goes unmeasured, on the plan with the highest rank, of a mark.
 measures_deepest() {
-    second plan deepest >"$out/deepest.plan" && "$out/stack" "$out/deepest.plan"
+    second plan "$1" >"$out/$1.plan" && "$out/stack" "$out/$1.plan"
 }
 
 # What of the library a program holds that refers to every call.
@@ -174,12 +183,14 @@ own_tests() {
 }
 
 mkdir -p "$out"
-rm -f "$out/verdicts" "$out/compare" "$out/why" "$out/run" "$out/distances" "$out/stack"
+rm -f "$out/verdicts" "$out/compare" "$out/why" "$out/run" "$out/distances" "$out/convert" "$out/stack"
 try "the library" rt staticlib rrp
 try "the header as C99" gcc -std=c99 -pedantic -Wall -Wextra -Werror -Iinclude -fsyntax-only -x c include/rrp.h
 try "the header as C++" g++ -std=c++11 -pedantic -Wall -Wextra -Werror -Iinclude -fsyntax-only -x c++ include/rrp.h
 try "the C example" example verdicts
 try "the C example's verdicts" writes examples/m3.verdicts "$out/verdicts" examples/m3.plan
+try "the C example's verdicts of an RRP2 plan" \
+    writes tests/verdict/rrp2-stable.expected "$out/verdicts" tests/verdict/rrp2-stable.plan
 try "the C example's refusal" refuses_cut_plan
 try "the C example of a comparison" example compare
 try "the C example's margins" compares
@@ -189,6 +200,8 @@ try "the C example of a run" gcc -std=c11 -Wall -Wextra -Werror -O2 -Iinclude ex
 try "the C example's run" runs
 try "the C example of distances" gcc -std=c11 -Wall -Wextra -Werror -O2 -Iinclude examples/distances.c -L"$archive" -lrrp -o "$out/distances"
 try "the C example's distances" works_out_distances
+try "the C example of a conversion" example convert
+try "the C example's conversions" converts
 try "the C examples as documented" prints_as_documented
 try "the library's size in a program" measures_size
 try "the second checker's own tests" own_tests
@@ -198,7 +211,8 @@ try "the expected lines of cases from the second checker" writes crates/cases/st
 try "the bench program" linked build --bin bench
 try "the stack program" \
     gcc -std=gnu11 -Wall -Wextra -Werror -O2 -Iinclude tests/stack.c -L"$archive" -lrrp -o "$out/stack"
-try "the stack of each call on the deepest plan" measures_deepest
+try "the stack of each call on the deepest plan" measures_deepest deepest
+try "the stack of each call on the deepest plan of RRP2" measures_deepest deepest-rrp2
 
 try "the stored texts of the verdict program from the second checker" stored_texts verdict
 try "the verdict program" rt check verdict

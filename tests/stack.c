@@ -1,6 +1,7 @@
 /* Measures the stack that each call of the library uses: on a plan and its list 0, or on 512 links among 64 routers. A call runs on a stack
  * of its own that was filled with a pattern; what it uses is all from the first changed byte to the caller's frame, its return address and
- * the arguments handed over on the stack included. Each call is made for every router of the plan, and the most is printed.
+ * the arguments handed over on the stack included. Each call is made for every router of the plan, and the most is printed. The two calls
+ * that convert have the plan as RRP1 and as RRP2, whichever it is.
  * usage: stack PLAN        Prints a line for the verdict found, then one a call, in bytes. Fails if a call is refused. */
 #include <stdio.h>
 #include <stdlib.h>
@@ -19,6 +20,8 @@ static size_t length, router, other;
 static uint8_t labels[RRP_MAX_ROUTERS], ranks[RRP_MAX_ROUTERS], settled[RRP_MAX_TABLE], cycle[RRP_MAX_ROUTERS];
 static uint8_t table[RRP_MAX_TABLE], sequence[ACTIVATIONS];
 static uint8_t links[4 * LINKS], body[2 * RRP_MAX_ROUTERS * RRP_MAX_ROUTERS];
+static uint8_t rrp1[RRP_MAX_PLAN], rrp2[RRP_MAX_PLAN], result[RRP_MAX_PLAN];
+static uint64_t rrp1_length, rrp2_length, written;
 static uint8_t refused, better, has_margin, relied, code, has_own, stable, exhausted;
 static uint64_t routers, lists, start, count, offer, own, found, applied, rounds;
 static int64_t margin;
@@ -44,14 +47,16 @@ static void run(void)
     refused = rrp_run(plan, length, 0, sequence, ACTIVATIONS, ACTIVATIONS, table, sizeof table, &applied, &rounds, &exhausted);
 }
 static void distances(void) { refused = rrp_distances(RRP_MAX_ROUTERS, links, sizeof links, body, sizeof body); }
+static void widen(void) { refused = rrp_widen(rrp1, rrp1_length, result, sizeof result, &written); }
+static void narrow(void) { refused = rrp_narrow(rrp2, rrp2_length, result, sizeof result, &written); }
 
 static const struct {
     const char *name;
     void (*make)(void);
 } calls[] = {
-    { "rrp_check", check },   { "rrp_size", plan_size },  { "rrp_list", list },       { "rrp_compare", compare },
-    { "rrp_relies", relies }, { "rrp_explain", explain }, { "rrp_verdict", verdict }, { "rrp_activate", activate },
-    { "rrp_run", run },       { "rrp_distances", distances },
+    { "rrp_check", check },   { "rrp_size", plan_size },      { "rrp_list", list },       { "rrp_compare", compare },
+    { "rrp_relies", relies }, { "rrp_explain", explain },     { "rrp_verdict", verdict }, { "rrp_activate", activate },
+    { "rrp_run", run },       { "rrp_distances", distances }, { "rrp_widen", widen },     { "rrp_narrow", narrow },
 };
 
 /* Ends the program if the last call was refused. */
@@ -101,6 +106,19 @@ static void start_table(void)
         table[2 * plan[at]] = table[2 * plan[at] + 1] = plan[at];
 }
 
+/* The plan as RRP1 and as RRP2: as it was read, and converted. */
+static void convert_plan(void)
+{
+    if (memcmp(plan, "RRP1", 4) == 0) {
+        memcpy(rrp1, plan, rrp1_length = length);
+        refused = rrp_widen(plan, length, rrp2, sizeof rrp2, &rrp2_length);
+    } else {
+        memcpy(rrp2, plan, rrp2_length = length);
+        refused = rrp_narrow(plan, length, rrp1, sizeof rrp1, &rrp1_length);
+    }
+    accept("the conversion");
+}
+
 /* Eight links of weight 1 from each router, to those of the next number modulo 8, so that there is a walk between any two. */
 static void fill_links(void)
 {
@@ -126,6 +144,7 @@ int main(int words, char **word)
     list();
     accept("rrp_list");
     start_table();
+    convert_plan();
     fill_links();
     for (size_t i = 0; i < ACTIVATIONS; i++)
         sequence[i] = (uint8_t)(i % routers);
@@ -135,8 +154,8 @@ int main(int words, char **word)
         accept(calls[i].name);
     }
     start_table();
-    printf("%zu bytes, %llu routers, list 0 %s %llu\n", length, (unsigned long long)routers, stable ? "stable" : "suspect",
-           (unsigned long long)found);
+    printf("%.4s, %zu bytes, %llu routers, list 0 %s %llu\n", (const char *)plan, length, (unsigned long long)routers,
+           stable ? "stable" : "suspect", (unsigned long long)found);
     for (size_t i = 0; i < sizeof calls / sizeof calls[0]; i++)
         printf("%s %zu\n", calls[i].name, most(calls[i].name, calls[i].make));
     return 0;

@@ -11,12 +11,12 @@ from typing import TYPE_CHECKING
 if TYPE_CHECKING:
     from .errors import LibraryMissing, RrpError, UnknownName
     from .library import Refused
-    from .plan import Comparison, Explanation, Plan, Run, Verdict
+    from .plan import Comparison, Explanation, Plan, Run, TooFarToNarrow, Verdict
     from .tables import Route, Table
     from .text import TextErrors
 
 #: The version of the package, which `rrp --version` writes; pyproject.toml has it too.
-__version__ = "1.1.0"
+__version__ = "1.2.0"
 
 #: The names of the package, and the modules that they are of.
 _HOMES = {
@@ -30,6 +30,7 @@ _HOMES = {
     "Run": "plan",
     "Table": "tables",
     "TextErrors": "text",
+    "TooFarToNarrow": "plan",
     "UnknownName": "errors",
     "Verdict": "plan",
 }

@@ -26,6 +26,7 @@ COMMANDS = {
     "dot": "write who relies on whom as a Graphviz picture",
     "pack": "write a text plan as bytes",
     "unpack": "write a plan as text",
+    "convert": "turn an RRP1 plan into RRP2, or back",
     "file": "write the verdict beside the plan",
     "audit": "compare filed verdicts with their plans",
 }

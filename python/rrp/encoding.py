@@ -8,13 +8,18 @@ from __future__ import annotations
 import struct
 from typing import List, NamedTuple, Optional
 
-from .library import NO_WAY
+from .library import NO_WAY, NO_WAY_WIDE
 
-#: What a plan in bytes starts with.
-MARK = b"RRP1"
+#: How many bytes a distance has, and what a plan of such distances starts with.
+NARROW, WIDE = 2, 4
+MARKS = {NARROW: b"RRP1", WIDE: b"RRP2"}
 
 #: What bytes start with that are meant as a plan, also of a version that the library refuses.
 _ANY_MARK = b"RRP"
+
+#: The number that says no way, by the bytes of a distance, and the letter that `struct` has for it.
+_NO_WAYS = {NARROW: NO_WAY, WIDE: NO_WAY_WIDE}
+_LETTERS = {NARROW: "H", WIDE: "I"}
 
 REFLECTOR = 1
 CLIENT = 2
@@ -27,13 +32,14 @@ _HEADER = 26
 
 
 class Model(NamedTuple):
-    """What a plan says, by router number."""
+    """What a plan says, by router number. `width` is how many bytes each distance has."""
 
     roles: list[int]
     identifiers: list[int]
     sessions: list[tuple[int, int]]
     distances: Rows
     lists: list[list[int]]
+    width: int = NARROW
 
 
 def is_bytes(data: bytes) -> bool:
@@ -41,16 +47,33 @@ def is_bytes(data: bytes) -> bool:
     return data.startswith(_ANY_MARK)
 
 
+def longest(width: int) -> int:
+    """The longest distance that so many bytes hold. The number after it says no way."""
+    return _NO_WAYS[width] - 1
+
+
+def width_of(plan: bytes) -> int:
+    """How many bytes a distance has in a plan that the library does not refuse."""
+    return WIDE if plan.startswith(MARKS[WIDE]) else NARROW
+
+
+def width_for(rows: Rows) -> int:
+    """How many bytes a distance needs to have, so that all of these can be told from no way."""
+    far = longest(NARROW)
+    return WIDE if any(way is not None and way > far for row in rows for way in row) else NARROW
+
+
 def decode(plan: bytes) -> Model:
     """The model of a plan that the library does not refuse."""
     routers, sessions, distances, lists = _bodies(plan)
-    stated = list(struct.iter_unpack("<BI", routers))
+    stated, width = list(struct.iter_unpack("<BI", routers)), width_of(plan)
     return Model(
         roles=[role for role, _ in stated],
         identifiers=[identifier for _, identifier in stated],
         sessions=list(zip(sessions[::2], sessions[1::2])),
-        distances=decode_distances(distances, len(stated)),
+        distances=decode_distances(distances, len(stated), width),
         lists=_decode_lists(lists),
+        width=width,
     )
 
 
@@ -60,10 +83,10 @@ def _bodies(plan: bytes) -> list[bytes]:
     return [plan[offset : offset + length] for _, offset, length in entries]
 
 
-def decode_distances(body: bytes, routers: int) -> Rows:
+def decode_distances(body: bytes, routers: int, width: int = NARROW) -> Rows:
     """The rows of a body of distances."""
-    words = struct.unpack(f"<{routers * routers}H", body)
-    ways = [None if word == NO_WAY else word for word in words]
+    words = struct.unpack(f"<{routers * routers}{_LETTERS[width]}", body)
+    ways = [None if word == _NO_WAYS[width] else word for word in words]
     return [ways[row * routers : (row + 1) * routers] for row in range(routers)]
 
 
@@ -82,27 +105,32 @@ def encode(model: Model) -> bytes:
     bodies = [
         b"".join(struct.pack("<BI", role, identifier) for role, identifier in routers),
         bytes(number for session in model.sessions for number in session),
-        _encode_distances(model.distances),
+        _encode_distances([way for row in model.distances for way in row], model.width),
         bytes([len(model.lists)]) + b"".join(bytes([len(each), *each]) for each in model.lists),
     ]
-    plan, offset = MARK + bytes([len(model.roles), len(bodies)]), _HEADER
+    plan, offset = MARKS[model.width] + bytes([len(model.roles), len(bodies)]), _HEADER
     for kind, body in enumerate(bodies, 1):
         plan += struct.pack("<BHH", kind, offset, len(body))
         offset += len(body)
     return plan + b"".join(bodies)
 
 
-def _encode_distances(rows: Rows) -> bytes:
-    words = [NO_WAY if distance is None else distance for row in rows for distance in row]
-    return struct.pack(f"<{len(words)}H", *words)
+def _encode_distances(distances: list[int | None], width: int) -> bytes:
+    """The bytes of distances, one after the other. One that is too far never becomes no way."""
+    no_way = _NO_WAYS[width]
+    stated = [distance for distance in distances if distance is not None]
+    if stated and not 0 <= min(stated) <= max(stated) < no_way:
+        raise ValueError(f"{width} bytes hold a distance from 0 to {no_way - 1}")
+    words = [no_way if distance is None else distance for distance in distances]
+    return struct.pack(f"<{len(words)}{_LETTERS[width]}", *words)
 
 
 def with_distance(plan: bytes, start: int, end: int, distance: int | None) -> bytes:
     """The bytes of a plan that the library does not refuse, with one distance replaced."""
+    width = width_of(plan)
     (body,) = struct.unpack_from("<H", plan, 6 + 5 * 2 + 1)
-    place = body + 2 * (plan[4] * start + end)
-    word = struct.pack("<H", NO_WAY if distance is None else distance)
-    return plan[:place] + word + plan[place + 2 :]
+    place = body + width * (plan[4] * start + end)
+    return plan[:place] + _encode_distances([distance], width) + plan[place + width :]
 
 
 def encode_links(links: dict[tuple[int, int], int]) -> bytes:

@@ -9,6 +9,7 @@ from __future__ import annotations
 
 import ctypes
 import os
+from collections.abc import Callable
 from typing import NamedTuple
 
 from .errors import LibraryMissing, RrpError
@@ -17,8 +18,9 @@ from .errors import LibraryMissing, RrpError
 MAX_ROUTERS = 64
 MAX_LISTS = 64
 MAX_LINKS = 512
-MAX_DISTANCE = 65534
+MAX_PLAN = 24923
 NO_WAY = 65535
+NO_WAY_WIDE = 4294967295
 NONE = 255
 
 #: The refusals that the tool asks for by name.
@@ -26,10 +28,12 @@ BAD_LISTS = 7
 BAD_TABLE = 10
 TOO_FAR = 12
 TOO_MANY_PARENTS = 13
+TOO_FAR_TO_NARROW = 14
 
 #: Why a call is refused, by number, in the words of docs/CALLS.md.
 REFUSALS = {
-    1: "the length is not 26 to 16,731 bytes, bytes 0 to 3 are not RRP1, or byte 5 is not 4",
+    1: "the plan does not start RRP1 or RRP2, is shorter than 26 bytes or longer than 16,731 "
+    "(RRP1) or 24,923 (RRP2), or byte 5 is not 4; or it has the wrong mark to be converted",
     2: "the number of routers is 0 or above 64",
     3: "a kind, an offset or a length in the table of contents is wrong",
     4: "a role is not 1, 2 or 3, or the identifiers do not rise strictly",
@@ -46,6 +50,7 @@ REFUSALS = {
     12: "from some router there are walks to another, and their least sum of weights is above "
     "65,534",
     13: "a client has sessions with five or more reflectors",
+    14: "a distance that is not no way is above 65,534, too far for two bytes",
 }
 
 
@@ -118,6 +123,8 @@ PROTOTYPES = {
     "rrp_activate": (*_BYTES, _SIZE, _SIZE, *_BYTES),
     "rrp_run": (*_BYTES, _SIZE, *_BYTES, _LONG, *_BYTES, _LONG_OUT, _LONG_OUT, _FLAG_OUT),
     "rrp_distances": (_SIZE, *_BYTES, *_BYTES),
+    "rrp_widen": (*_BYTES, *_BYTES, _LONG_OUT),
+    "rrp_narrow": (*_BYTES, *_BYTES, _LONG_OUT),
 }
 
 _BUILD = "build it with ./build at the root of the repository"
@@ -281,3 +288,20 @@ def distances(routers: int, links: bytes) -> bytes:
     out = ctypes.create_string_buffer(max(length, 1))
     _raise_if(library().rrp_distances(number, links, len(links), out, length))
     return out.raw[:length]
+
+
+def widen(plan: bytes) -> bytes:
+    """The RRP2 plan of the same distances as an RRP1 plan (rrp_widen)."""
+    return _converted(library().rrp_widen, plan)
+
+
+def narrow(plan: bytes) -> bytes:
+    """The RRP1 plan of the same distances as an RRP2 plan (rrp_narrow)."""
+    return _converted(library().rrp_narrow, plan)
+
+
+def _converted(function: Callable[..., int], plan: bytes) -> bytes:
+    """What a call makes of a plan, in a buffer that is long enough for every plan."""
+    out, length = ctypes.create_string_buffer(MAX_PLAN), ctypes.c_uint64()
+    _raise_if(function(plan, len(plan), out, len(out), length))
+    return out.raw[: length.value]

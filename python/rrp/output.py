@@ -3,9 +3,11 @@
 from __future__ import annotations
 
 import sys
+from argparse import Namespace
 from collections.abc import Iterable, Sequence
 
-from .encoding import CLIENT
+from .encoding import CLIENT, WIDE
+from .errors import RrpError
 from .plan import Plan, Verdict
 
 
@@ -15,6 +17,12 @@ def write_json(value: object) -> None:
 
     json.dump(value, sys.stdout, indent=2)
     sys.stdout.write("\n")
+
+
+def bytes_for_output(options: Namespace) -> None:
+    """Refuses to write the bytes of a plan on a terminal."""
+    if options.output == "-" and sys.stdout.isatty() and not options.json:
+        raise RrpError("a plan's bytes are not for a terminal: name a file with -o")
 
 
 def write_notes(notes: Iterable[str]) -> None:
@@ -35,8 +43,18 @@ def sizes(plan: Plan) -> dict[str, int]:
     }
 
 
+def plan_values(plan: Plan) -> dict[str, object]:
+    """Where a plan came from, its mark and its sizes, as plain values."""
+    return {"plan": plan.source, "mark": plan.mark, "sizes": sizes(plan)}
+
+
+def plan_line(plan: Plan) -> str:
+    """A line on a plan: where it came from and its sizes; and its mark, if that is RRP2."""
+    return sizes_line(plan) + (f", {plan.mark}" if plan.width == WIDE else "")
+
+
 def sizes_line(plan: Plan) -> str:
-    """A line on the sizes of a plan."""
+    """A line on the sizes of a plan, without its mark."""
     counts = {name: count_words(count, name[:-1]) for name, count in sizes(plan).items()}
     parts = f"{counts['routers']} ({counts['reflectors']}, {counts['clients']})"
     return f"{plan.source}: {parts}, {counts['sessions']}, {counts['lists']}"

@@ -13,12 +13,12 @@ A router or a list is asked for by its name or by its number. Answers have names
 from __future__ import annotations
 
 import os
-from collections.abc import Iterable, Sequence
+from collections.abc import Callable, Iterable, Sequence
 from functools import cached_property
 from typing import NamedTuple, Union
 
 from . import encoding, library
-from .errors import RrpError, unknown
+from .errors import RrpError, cut_names, unknown
 from .tables import Route, Table
 
 #: A router or a list, by name or by number.
@@ -39,6 +39,12 @@ REASONS = {
     8: "no way to the offer",
     9: "offer not better",
 }
+
+#: What to do with a plan that is too far for RRP1.
+_KEEP = (
+    "leave it RRP2, or state smaller distances that keep at each router what is nearer and what",
+    "is as far; never round, or a suspect list may look stable",
+)
 
 ROLES = {encoding.REFLECTOR: "reflector", encoding.CLIENT: "client", encoding.SKIPPING: "reflector"}
 
@@ -106,6 +112,30 @@ class Run(NamedTuple):
     exhausted: bool
 
 
+class TooFarToNarrow(library.Refused):
+    """An RRP2 plan has distances that are too far for RRP1, `count` of them. The first in the
+    plan's order is `distance`, from the router `start` to the router `end`."""
+
+    def __init__(self, source: str, start: str, end: str, distance: int, count: int) -> None:
+        super().__init__(library.TOO_FAR_TO_NARROW, source)
+        self.start, self.end, self.distance, self.count = start, end, distance, count
+
+    @property
+    def detail(self) -> str:
+        """Which distance is too far, and how many are."""
+        which = "the only distance that is too far"
+        if self.count > 1:
+            which = f"the first of {self.count:,} distances that are too far"
+        return cut_names(f"from {self.start} to {self.end} it is {self.distance:,}, {which}")
+
+    def __str__(self) -> str:
+        return "\n    ".join([super().__str__(), self.detail, *_KEEP])
+
+    def as_json(self) -> list[dict[str, object]]:
+        """The failure as plain values."""
+        return [{"message": f"{super().__str__()}; {self.detail}", "advice": " ".join(_KEEP)}]
+
+
 class Plan:
     """A plan that the library does not refuse, with names.
 
@@ -166,6 +196,37 @@ class Plan:
         except library.Refused as refused:
             raise library.Refused(refused.number, filename) from None
 
+    # The same plan of the other mark
+
+    def widened(self) -> Plan:
+        """This RRP1 plan as RRP2: the same in all but the bytes of a distance."""
+        return self._converted(library.widen)
+
+    def narrowed(self) -> Plan:
+        """This RRP2 plan as RRP1: the same in all but the bytes of a distance. Raises
+        `TooFarToNarrow` where some distance is too far for that."""
+        return self._converted(library.narrow)
+
+    def _converted(self, call: Callable[[bytes], bytes]) -> Plan:
+        try:
+            data = call(self.data)
+        except library.Refused as refused:
+            far = self.too_far_for_rrp1()
+            if refused.number == library.TOO_FAR_TO_NARROW and far:
+                raise TooFarToNarrow(self.source, *far[0], len(far)) from None
+            raise library.Refused(refused.number, self.source) from None
+        return Plan(data, self.routers, self.lists, self.source, self.notes)
+
+    def too_far_for_rrp1(self) -> list[tuple[str, str, int]]:
+        """The distances that RRP1 does not hold, in the plan's order: from which router, to which,
+        and how far."""
+        return [
+            (start, end, way)
+            for start, row in zip(self.routers, self.model.distances)
+            for end, way in zip(self.routers, row)
+            if way is not None and way > encoding.longest(encoding.NARROW)
+        ]
+
     # What the plan says
 
     def router_number(self, which: Which) -> int:
@@ -203,6 +264,17 @@ class Plan:
         name = self.routers[self.router_number(router)]
         own = [pair for pair in self.sessions if name in pair]
         return tuple(one if other == name else other for one, other in own)
+
+    @property
+    def mark(self) -> str:
+        """What the bytes start with: RRP1, with distances up to 65,534, or RRP2, with distances
+        up to 4,294,967,294."""
+        return encoding.MARKS[self.width].decode()
+
+    @property
+    def width(self) -> int:
+        """How many bytes a distance has: 2 in an RRP1 plan, 4 in an RRP2 plan."""
+        return encoding.width_of(self.data)
 
     def distance(self, router: Which, other: Which) -> int | None:
         """The distance from a router to another, None if there is no way."""

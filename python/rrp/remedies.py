@@ -6,8 +6,8 @@ given.
 What is tried: a reliance turns on the distances from the relying router to what it is offered and
 to its clients in the list, and on those from the other router to its clients in the list, which
 decide what that one offers. A change of one of them matters only where it meets another distance of
-the same router. So that one, the next lower and the next higher are tried, and no way, which counts
-as a larger change than any other; the smallest change comes first.
+the same router. So that one, the next lower and the next higher are tried, if the plan's bytes hold
+them, and no way, which counts as a larger change than any other; the smallest change comes first.
 """
 
 from __future__ import annotations
@@ -16,8 +16,7 @@ from collections.abc import Iterable, Iterator
 from itertools import groupby
 from typing import NamedTuple
 
-from .encoding import with_distance
-from .library import NO_WAY
+from .encoding import WIDE, longest, with_distance
 from .output import verdict_values
 from .plan import Explanation, Plan, Verdict, Which
 
@@ -33,7 +32,7 @@ class Change(NamedTuple):
     @property
     def size(self) -> int:
         """By how much the distance changes. No way is a larger change than any other."""
-        return NO_WAY if self.becomes is None else abs(self.becomes - self.was)
+        return longest(WIDE) + 1 if self.becomes is None else abs(self.becomes - self.was)
 
     @property
     def statement(self) -> str:
@@ -117,7 +116,8 @@ def _changes(plan: Plan, egress_list: Which, router: str, other: str) -> Iterato
         ways = {end: way for end, way in distances.items() if way is not None}
         for end, way in ways.items():
             met = [distance for name, distance in ways.items() if name != end]
-            yield from (Change(start, end, way, value) for value in _values(way, met))
+            values = _values(way, met, longest(plan.width))
+            yield from (Change(start, end, way, value) for value in values)
 
 
 def _listed_neighbours(plan: Plan, egress_list: Which, router: str) -> list[str]:
@@ -126,7 +126,7 @@ def _listed_neighbours(plan: Plan, egress_list: Which, router: str) -> list[str]
     return [egress for egress in plan.egresses(egress_list) if egress in neighbours]
 
 
-def _values(way: int, met: list[int]) -> list[int | None]:
+def _values(way: int, met: list[int], most: int) -> list[int | None]:
     """What a distance may become: one of those that it meets, the next to it, or no way."""
     around = {distance + step for distance in met for step in (-1, 0, 1)}
-    return [*sorted(value for value in around - {way} if 0 <= value < NO_WAY), None]
+    return [*sorted(value for value in around - {way} if 0 <= value <= most), None]

@@ -9,8 +9,11 @@ from rrp import Plan, encoding
 from rrp.tables import Route, Table
 
 
-def random_network(draw: random.Random) -> Plan:
-    """A few reflectors in a mesh, each with some clients, and distances that are often equal."""
+def random_network(
+    draw: random.Random, nearest: int = 0, width: int = encoding.NARROW
+) -> Plan:
+    """A few reflectors in a mesh, each with some clients, and distances that are often equal: the
+    nearest one given and up to 12 more."""
     reflectors = draw.randint(2, 4)
     count = reflectors + draw.randint(reflectors, 6)
     sessions = set(combinations(range(reflectors), 2))
@@ -23,14 +26,17 @@ def random_network(draw: random.Random) -> Plan:
         roles=[draw.choice([1, 1, 3]) for _ in range(reflectors)] + [2] * len(clients),
         identifiers=list(range(count)),
         sessions=sorted(sessions),
-        distances=[[0 if u == e else _way(draw) for e in range(count)] for u in range(count)],
+        distances=[
+            [0 if u == e else _way(draw, nearest) for e in range(count)] for u in range(count)
+        ],
         lists=[_members(draw, reflectors, clients) for _ in range(3)],
+        width=width,
     )
     return Plan(encoding.encode(model))
 
 
-def _way(draw: random.Random) -> int | None:
-    return None if draw.random() < 0.05 else draw.randint(0, 12)
+def _way(draw: random.Random, nearest: int) -> int | None:
+    return None if draw.random() < 0.05 else nearest + draw.randint(0, 12)
 
 
 def _members(draw: random.Random, reflectors: int, clients: range) -> list[int]:

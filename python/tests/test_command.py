@@ -112,6 +112,22 @@ class Processes(unittest.TestCase):
         message = b"rrp: /dev/zero is no plan: it has more than 4,194,304 bytes\n"
         self.assertEqual((status, output, errors), (2, b"", message))
 
+    def test_bytes_are_not_for_a_terminal(self) -> None:
+        message = b"rrp: a plan's bytes are not for a terminal: name a file with -o\n"
+        for words in (["pack", NET], ["convert", f"{EXAMPLES}/m3.plan"]):
+            reading, writing = os.openpty()
+            status, _, errors = self.run_process(*words, stdout=writing)
+            os.close(writing)
+            os.close(reading)
+            self.assertEqual((status, errors), (2, message), words)
+
+    def test_bytes_on_standard_output(self) -> None:
+        with open(f"{EXAMPLES}/m3.plan", "rb") as file:
+            plan = file.read()
+        status, wide, errors = self.run_process("convert", "-", given=plan)
+        self.assertEqual((status, len(wide), wide[:4], errors), (0, 122, b"RRP2", b""))
+        self.assertEqual(self.run_process("convert", "-", given=wide), (0, plan, b""))
+
     def test_unreadable(self) -> None:
         with tempfile.TemporaryDirectory() as folder:
             path = f"{folder}/a\nb"
@@ -142,7 +158,8 @@ class Words(unittest.TestCase):
             answer = rrp("pack", NET, "-o", f"{folder}/net.plan")
             size = os.path.getsize(f"{folder}/net.plan")
         self.assertEqual((answer.status, answer.errors), (0, ""))
-        self.assertIn(f"net.plan: {size} bytes, from {NET}: 12 routers", answer.output)
+        said = f"net.plan: {size} bytes of RRP1, from {NET}: 12 routers"
+        self.assertIn(said, answer.output)
 
     def test_the_plan_is_not_overwritten(self) -> None:
         with tempfile.TemporaryDirectory() as folder:
@@ -153,6 +170,11 @@ class Words(unittest.TestCase):
                 self.assertEqual((answer.status, answer.output), (2, ""))
                 self.assertIn("net.rrp is the plan that is read", answer.errors)
             self.assertEqual(read(path), read(NET))
+            path = shutil.copyfile(f"{EXAMPLES}/m3.plan", f"{folder}/m3.plan")
+            answer = rrp("convert", path, "-o", f"{folder}/./m3.plan")
+            self.assertEqual((answer.status, answer.output), (2, ""))
+            self.assertIn("m3.plan is the plan that is read", answer.errors)
+            self.assertEqual(os.path.getsize(path), 90)
 
     def test_what_show_advises_is_taken(self) -> None:
         with tempfile.TemporaryDirectory() as folder:

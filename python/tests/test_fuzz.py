@@ -11,6 +11,7 @@ import random
 import tempfile
 import unittest
 
+from rrp import library
 from rrp.errors import RrpError
 from rrp.plan import Plan
 from rrp.text import TextErrors, decode_text, parse
@@ -23,20 +24,22 @@ from .support import EXAMPLES, FAULT, STORED_PLANS, TESTS, Answer, rrp
 COUNT = int(os.environ.get("RRP_FUZZ", "600"))
 
 _WORDS = (
-    "reflector client mesh session link distance list of none no-client-reflection > # - 0 1 64 "
-    "65534 65535 65536 4294967295 4294967296 10.0.0.1 0.0.0.0 lon-rr par-rr lon-a par-a r0 r1 l0 "
-    "transit é \u2028 \x85 \x00 \x1b[1m \ufeff 999999999999999999999"
+    "reflector client mesh session link distance list wide of none no-client-reflection > # - 0 1 "
+    "64 65534 65535 65536 4294967294 4294967295 4294967296 10.0.0.1 0.0.0.0 lon-rr par-rr lon-a "
+    "par-a r0 r1 l0 transit é \u2028 \x85 \x00 \x1b[1m \ufeff 999999999999999999999"
 ).split(" ")
 
 
 def corpus() -> list[bytes]:
-    """What the inputs are made of: the example, all stored errors, plans in bytes."""
-    paths = [f"{EXAMPLES}/net.rrp", f"{EXAMPLES}/m3.plan", *glob.glob(f"{TESTS}/errors/*.rrp")]
+    """What the inputs are made of: examples, all stored errors, plans in bytes of both marks."""
+    paths = [f"{EXAMPLES}/net.rrp", f"{EXAMPLES}/wide.rrp", f"{EXAMPLES}/m3.plan"]
+    paths += [*glob.glob(f"{TESTS}/errors/*.rrp"), *glob.glob(f"{STORED_PLANS}/*.plan")]
     inputs = []
-    for path in sorted(paths + glob.glob(f"{STORED_PLANS}/*.plan")):
+    for path in sorted(paths):
         with open(path, "rb") as file:
             inputs.append(file.read())
-    return inputs
+    plans = [data for data in inputs if data.startswith(b"RRP1") and library.refusal(data) == 0]
+    return [*inputs, *map(library.widen, plans), Plan.read(f"{EXAMPLES}/wide.rrp").data]
 
 
 def damaged(data: bytes, draw: random.Random) -> bytes:
@@ -96,7 +99,7 @@ class Fuzz(unittest.TestCase):
                 data = random_input(self.inputs, self.draw)
                 with open(path, "wb") as file:
                     file.write(data)
-                command = self.draw.choice(["check", "check", "show", "pack", "unpack"])
+                command = self.draw.choice(["check", "check", "show", "pack", "unpack", "convert"])
                 out = [] if command in ("check", "show") else ["-o", f"{folder}/output"]
                 self.sound(rrp(command, path, *out), data)
 

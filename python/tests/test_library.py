@@ -7,6 +7,7 @@ import ctypes
 import os
 import re
 import unittest
+from collections.abc import Callable
 from unittest import mock
 
 from rrp import library
@@ -50,9 +51,11 @@ class Declarations(unittest.TestCase):
     def test_limits(self) -> None:
         header = read(f"{ROOT}/include/rrp.h")
         numbers = dict(re.findall(r"\bRRP_(\w+) = (\d+)", header))
-        for name in ("MAX_ROUTERS", "MAX_LISTS", "MAX_LINKS", "NO_WAY", "NONE"):
-            self.assertEqual(getattr(library, name), int(numbers[name]), name)
-        for name in ("BAD_LISTS", "TOO_FAR"):
+        wide = re.findall(r"#define RRP_(NO_WAY_WIDE) UINT32_C\((\d+)\)", header)
+        numbers.update(wide)
+        limits = ("MAX_ROUTERS", "MAX_LISTS", "MAX_LINKS", "MAX_PLAN", "NO_WAY", "NO_WAY_WIDE")
+        refusals = ("BAD_LISTS", "TOO_FAR", "TOO_MANY_PARENTS", "TOO_FAR_TO_NARROW")
+        for name in (*limits, "NONE", *refusals):
             self.assertEqual(getattr(library, name), int(numbers[name]), name)
 
 
@@ -109,6 +112,62 @@ class Calls(unittest.TestCase):
             with self.assertRaises(library.Refused) as caught:
                 call()
             self.assertEqual(caught.exception.number, number)
+
+
+class Conversions(unittest.TestCase):
+    """The bundled plan as RRP2, and back."""
+
+    def setUp(self) -> None:
+        with open(f"{EXAMPLES}/m3.plan", "rb") as file:
+            self.plan = file.read()
+        contents = bytes.fromhex("03 3400 4000 04 7400 0600")
+        words = [self.plan[place : place + 2] for place in range(52, 84, 2)]
+        distances = b"".join(word + b"\0\0" for word in words)
+        self.wide = b"RRP2" + self.plan[4:16] + contents + self.plan[26:52] + distances
+        self.wide += self.plan[84:]
+
+    def refused(self, call: Callable[[bytes], bytes], plan: bytes) -> int:
+        """The number with which a call refuses a plan."""
+        with self.assertRaises(library.Refused) as caught:
+            call(plan)
+        return caught.exception.number
+
+    def with_words(self, *words: str) -> bytes:
+        """The RRP2 plan with other distances from router 0, from router 1 on."""
+        stated = bytes.fromhex("".join(words))
+        return self.wide[:56] + stated + self.wide[56 + len(stated) :]
+
+    def test_bytes(self) -> None:
+        self.assertEqual(library.widen(self.plan), self.wide)
+        self.assertEqual(library.narrow(self.wide), self.plan)
+        self.assertEqual(library.verdict(self.wide, 0), library.verdict(self.plan, 0))
+
+    def test_no_way_stays_no_way(self) -> None:
+        cut = self.plan[:54] + b"\xff\xff" + self.plan[56:]
+        wide = self.with_words("ffffffff")
+        self.assertEqual(library.widen(cut), wide)
+        self.assertEqual(library.narrow(wide), cut)
+
+    def test_boundaries(self) -> None:
+        longest = self.plan[:54] + b"\xfe\xff" + self.plan[56:]
+        self.assertEqual(library.narrow(self.with_words("feff0000")), longest)
+        for words in (["ffff0000"], ["00000100"], ["feffffff"], ["ffffffff", "ffff0000"]):
+            plan = self.with_words(*words)
+            self.assertEqual(library.refusal(plan), 0, words)
+            self.assertEqual(self.refused(library.narrow, plan), 14, words)
+
+    def test_refusals(self) -> None:
+        self.assertEqual(self.refused(library.widen, self.wide), 1)
+        self.assertEqual(self.refused(library.narrow, self.plan), 1)
+        self.assertEqual(self.refused(library.widen, b"RRP3" + self.plan[4:]), 1)
+        far = self.with_words("ffff0000")
+        self.assertEqual(self.refused(library.narrow, far[:-1] + b"\4"), 7)
+        self.assertEqual(self.refused(library.narrow, far[:52] + b"\1" + far[53:]), 6)
+
+    def test_margins(self) -> None:
+        far = self.with_words("00000000", "feffffff", "00000000")
+        self.assertEqual(library.compare(far, 0, 2, 3), (2, 4294967294))
+        self.assertEqual(library.compare(far, 0, 3, 2), (1, -4294967294))
 
 
 class Missing(unittest.TestCase):

@@ -134,7 +134,8 @@ class Construction(unittest.TestCase):
                 Plan(data, routers=names)
 
     def test_refused(self) -> None:
-        with self.assertRaisesRegex(Refused, "x.plan: refused 1: the length is not 26") as caught:
+        said = "x.plan: refused 1: the plan does not start RRP1 or RRP2, is shorter than 26"
+        with self.assertRaisesRegex(Refused, said) as caught:
             Plan.from_bytes(b"RRP1", "x.plan")
         self.assertEqual(caught.exception.number, 1)
 

@@ -9,18 +9,19 @@ import unittest
 from itertools import permutations
 
 from rrp import Plan
-from rrp.library import NO_WAY
+from rrp.encoding import NARROW, WIDE, longest
 from rrp.remedies import Change, Remedy, recommended, smallest_remedy
 from rrp.text.assembly import assemble
 from rrp.text.changes import with_changes
 from rrp.text.reading import read_draft
 
 from .networks import random_network
-from .support import EXAMPLES, STORED_PLANS, TESTS, rrp
+from .support import EXAMPLES, STORED_PLANS, TESTS, read, rrp
 
 SUSPECT = (
     (f"{EXAMPLES}/net.rrp", "transit"),
     (f"{EXAMPLES}/m3.plan", "l0"),
+    (f"{EXAMPLES}/wide.rrp", "transit"),
     (f"{TESTS}/plans/reasons.rrp", "tie"),
     (f"{TESTS}/plans/far.rrp", "all"),
     (f"{STORED_PLANS}/cycle-of-four.plan", "l0"),
@@ -34,7 +35,8 @@ def smaller_changes(plan: Plan, size: int) -> list[Change]:
     for start, end in permutations(plan.routers, 2):
         was = plan.distance(start, end)
         if was is not None:
-            values = range(max(0, was - size + 1), min(NO_WAY, was + size))
+            most = longest(plan.width)
+            values = range(max(0, was - size + 1), min(most + 1, was + size))
             changes += [Change(start, end, was, value) for value in values if value != was]
     return changes
 
@@ -120,10 +122,54 @@ class Smallest(unittest.TestCase):
         plan = Plan.read(f"{TESTS}/plans/far.rrp")
         remedy = self.hold(plan, "all", ("a", "b"))
         self.assertEqual(remedy.change.statement, "distance a > cb none")
-        for value in range(0, NO_WAY, 5):
+        for value in range(0, longest(NARROW) + 1, 5):
             for end, was in (("cb", 0), ("ca", 65534)):
                 changed = Change("a", end, was, value).applied(plan)
                 self.assertTrue(changed.relies("all", "a", "b"))
+
+    def test_only_no_way_ends_it_in_rrp2(self) -> None:
+        text = read(f"{TESTS}/plans/far.rrp").replace("65534", "4294967294")
+        plan = Plan.parse(text)
+        self.assertEqual(plan.mark, "RRP2")
+        remedy = self.hold(plan, "all", ("a", "b"))
+        self.assertEqual(remedy.change.statement, "distance a > cb none")
+        self.assertGreater(remedy.change.size, longest(WIDE))
+
+    def test_what_ends_it_in_rrp2_alone(self) -> None:
+        plan = Plan.parse(f"{read(f'{TESTS}/plans/far.rrp')}wide\n")
+        remedy = self.hold(plan, "all", ("a", "b"))
+        self.assertEqual(remedy.change.statement, "distance a > cb 65535")
+
+    def test_a_distance_may_become_the_longest(self) -> None:
+        for width in (NARROW, WIDE):
+            most = longest(width)
+            text = read(f"{TESTS}/plans/far.rrp").replace("65534", str(most))
+            text = text.replace("cb 3 of", "cb 5 of").replace("a > cb 0", f"a > cb {most - 4}")
+            remedy = self.hold(Plan.parse(text), "all", ("a", "b"))
+            self.assertEqual(remedy.change.statement, f"distance a > cb {most}")
+
+    def test_the_longest_distances_of_each_mark(self) -> None:
+        for width in (NARROW, WIDE):
+            draw, cycles, marks = random.Random(4456), 0, set()
+            while cycles < 12:
+                plan = random_network(draw, longest(width) - 12, width)
+                for verdict in plan.verdicts():
+                    cycles += not verdict.stable
+                    for pair in zip(verdict.cycle, [*verdict.cycle[1:], *verdict.cycle[:1]]):
+                        remedy = self.hold(plan, verdict.name, pair)
+                        marks.add(remedy.change.applied(plan).width)
+            self.assertEqual(marks, {width})
+
+    def test_widened_it_is_the_same(self) -> None:
+        draw, cycles = random.Random(4456), 0
+        while cycles < 40:
+            plan = random_network(draw)
+            for verdict in plan.verdicts():
+                cycles += not verdict.stable
+                for pair in zip(verdict.cycle, [*verdict.cycle[1:], *verdict.cycle[:1]]):
+                    remedy = smallest_remedy(plan, verdict.name, *pair)
+                    wide = smallest_remedy(plan.widened(), verdict.name, *pair)
+                    self.assertEqual(wide, remedy)
 
     def test_none_ends_it(self) -> None:
         net = Plan.read(f"{EXAMPLES}/net.rrp")

@@ -35,8 +35,10 @@ def stored_plans() -> list[tuple[str, bytes]]:
 
 
 def random_model(draw: random.Random) -> encoding.Model:
-    """A model whose bytes are a plan: any roles, identifiers and distances."""
-    count = draw.choice([1, 2, 3, 5, 9, 16])
+    """A model whose bytes are a plan of either mark: any roles, identifiers and distances. Those of
+    an RRP2 plan may fit into RRP1."""
+    count, width = draw.choice([1, 2, 3, 5, 9, 16]), draw.choice([encoding.NARROW, encoding.WIDE])
+    most = encoding.longest(draw.choice([encoding.NARROW, width]))
     pairs = list(combinations(range(count), 2))
     roles = [draw.choice([1, 2, 2, 3]) for _ in range(count)]
     sessions = sorted(draw.sample(pairs, draw.randint(0, len(pairs))))
@@ -44,8 +46,9 @@ def random_model(draw: random.Random) -> encoding.Model:
         roles=roles,
         identifiers=sorted(draw.sample(range(draw.choice([64, 2**25, 2**32])), count)),
         sessions=few_parents(sessions, roles),
-        distances=[random_row(draw, router, count) for router in range(count)],
+        distances=[random_row(draw, router, count, most) for router in range(count)],
         lists=[random_list(draw, count) for _ in range(draw.randint(1, 4))],
+        width=width,
     )
 
 
@@ -61,9 +64,10 @@ def few_parents(sessions: list[tuple[int, int]], roles: list[int]) -> list[tuple
     return kept
 
 
-def random_row(draw: random.Random, router: int, count: int) -> list[int | None]:
-    """The distances from a router: 0 to itself, to others anything, or no way."""
-    choices = [None, 0, 65534, draw.randint(0, 30), draw.randint(0, 65534)]
+def random_row(draw: random.Random, router: int, count: int, most: int) -> list[int | None]:
+    """The distances from a router: 0 to itself, to others anything up to the most, or no way."""
+    choices = [None, 0, 65534, most, draw.randint(0, 30), draw.randint(0, most)]
+    choices += [65535, 65536] if most > 65536 else []
     return [0 if other == router else draw.choice(choices) for other in range(count)]
 
 
@@ -78,6 +82,9 @@ def rough_text(model: encoding.Model, draw: random.Random) -> str:
     names = [f"{''.join(draw.choices(letters, k=draw.randint(0, 4)))}:{n}" for n in range(99)]
     draw.shuffle(names)
     lines = [rough_router(model, names, number, draw) for number in range(len(model.roles))]
+    needed = encoding.width_for(model.distances) == encoding.WIDE
+    if model.width == encoding.WIDE and (not needed or draw.random() < 0.5):
+        lines.append("wide")
     for one, other in model.sessions:
         ends = draw.sample([names[one], names[other]], 2)
         lines.append(" ".join([draw.choice(["session", "mesh", " session\t"]), *ends]))
@@ -149,14 +156,47 @@ class RoundTrip(unittest.TestCase):
             self.assertEqual("".join(f"{line}\n" for line in lines), read(f"{path[:-5]}.expected"))
 
     def test_random_models(self) -> None:
-        draw = random.Random(4456)
-        for number in range(200):
+        draw, kinds = random.Random(4456), set()
+        for number in range(300):
             model = random_model(draw)
+            kinds.add((model.width, encoding.width_for(model.distances)))
             data = encoding.encode(model)
             self.assertEqual(library.refusal(data), 0, number)
+            self.assertEqual(data[:4], b"RRP1" if model.width == 2 else b"RRP2", number)
             self.assertEqual(encoding.decode(data), model, number)
             self.assertEqual(Plan.parse(write(Plan.from_bytes(data))).data, data, number)
             self.assertEqual(Plan.parse(rough_text(model, draw)).data, data, number)
+        self.assertEqual(kinds, {(2, 2), (4, 2), (4, 4)})
+
+    def converts(self, plan: Plan, what: object) -> bool:
+        """Whether a plan has one of the other mark. That is then the same in all else, and leads
+        back to the same bytes."""
+        there, back, other = Plan.widened, Plan.narrowed, encoding.WIDE
+        if plan.width == encoding.WIDE:
+            there, back, other = back, there, encoding.NARROW
+        if encoding.width_for(plan.model.distances) > other:
+            with self.assertRaisesRegex(library.Refused, "refused 14", msg=what):
+                there(plan)
+            return False
+        converted = there(plan)
+        due = encoding.encode(plan.model._replace(width=other))
+        self.assertEqual(converted.data, due, what)
+        self.assertEqual(converted.verdicts(), plan.verdicts(), what)
+        self.assertEqual(back(converted).data, plan.data, what)
+        return True
+
+    def test_conversions_of_stored_plans(self) -> None:
+        for path, data in stored_plans():
+            plan = Plan.from_bytes(data)
+            if self.converts(plan, path):
+                self.assertTrue(self.converts(Plan.parse(write(plan)), path))
+
+    def test_conversions_of_random_models(self) -> None:
+        draw, found = random.Random(4456), set()
+        for number in range(300):
+            plan = Plan(encoding.encode(random_model(draw)))
+            found.add((plan.mark, self.converts(plan, number)))
+        self.assertEqual(found, {("RRP1", True), ("RRP2", True), ("RRP2", False)})
 
     def test_text_to_text(self) -> None:
         net = Plan.read(f"{EXAMPLES}/net.rrp")

@@ -36,6 +36,8 @@ class Meaning(unittest.TestCase):
         self.assertEqual(distances("link a b none"), (None, None))
         self.assertEqual(distances("distance a b 0"), (0, 0))
         self.assertEqual(distances("distance b > a 65534"), (None, 65534))
+        self.assertEqual(distances("distance b > a 65535"), (None, 65535))
+        self.assertEqual(distances("link a b 5\ndistance a > b 4294967294"), (4294967294, 5))
         self.assertEqual(distances("link a b 5\ndistance a > b 9"), (9, 5))
         self.assertEqual(distances("link a b 5\ndistance a b none"), (None, None))
         self.assertEqual(distances("link a b 5\ndistance a > b none"), (None, 5))

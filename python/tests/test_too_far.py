@@ -5,6 +5,7 @@ from __future__ import annotations
 import re
 import unittest
 from collections.abc import Callable
+from itertools import permutations
 
 from rrp import Plan, TextErrors
 
@@ -12,12 +13,29 @@ from .support import EXAMPLES, read
 
 NET = read(f"{EXAMPLES}/net.rrp")
 
+_STATE = "state distances in place of links, which may be up to 4,294,967,294"
+
 _WEIGHT = re.compile(r"^((?:link|distance) .*? )([0-9]+)$", re.M)
 
 
 def weighed(text: str, weight: Callable[[int], int]) -> str:
     """A plan's text with other weights and stated distances."""
     return _WEIGHT.sub(lambda found: f"{found.group(1)}{weight(int(found.group(2)))}", text)
+
+
+def without_links(text: str) -> list[str]:
+    """The lines of a plan's text that are no links."""
+    return [line for line in text.splitlines() if not line.startswith("link ")]
+
+
+def stated(text: str, factor: int) -> str:
+    """A plan's text with the distances stated in place of links, so many times as far."""
+    plan = Plan.parse(text)
+    ways = [
+        f"distance {router} > {other} {factor * plan.distance(router, other)}"
+        for router, other in permutations(plan.routers, 2)
+    ]
+    return "\n".join([*without_links(text), *ways])
 
 
 def verdicts(text: str) -> list[tuple]:
@@ -42,7 +60,9 @@ class TooFar(unittest.TestCase):
         for text, what in ((NET, "weight"), (stated, "weight and distance")):
             large = weighed(text, lambda weight: 1500 * weight)
             said = f"divide every {what} by a common divisor only, here by 1,500; never round, "
-            self.assertIn(f"a distance is at most 65,534: {said}", self.advice(large))
+            advice = self.advice(large)
+            self.assertIn(f"a sum of weights is at most 65,534: {said}", advice)
+            self.assertTrue(advice.endswith(f"stable; or {_STATE}"), advice)
             divided = weighed(large, lambda weight: weight // 1500)
             self.assertEqual(verdicts(divided), verdicts(text))
 
@@ -61,13 +81,19 @@ class TooFar(unittest.TestCase):
             "reflector a 1\nreflector b 2\nreflector c 3\nlist l a\nlink a b 65535\nlink b c 1\n",
         ):
             advice = self.advice(text)
-            self.assertIn("no common divisor of the weights is enough: state distances", advice)
-            self.assertIn("keep at each router what is nearer and what is as far; never", advice)
+            said = f"no common divisor of the weights is enough: {_STATE}; never round, or a "
+            self.assertIn(f"a sum of weights is at most 65,534, and {said}", advice)
             self.assertNotIn("divide every", advice)
+
+    def test_the_sums_may_be_stated_instead(self) -> None:
+        for factor in (1500, 1501 * 1499, 4294967294 // 57):
+            large = stated(NET, factor)
+            self.assertEqual(Plan.parse(large).mark, "RRP2")
+            self.assertEqual(verdicts(large), verdicts(NET))
 
     def test_stated_distances_that_keep_the_order_keep_the_verdicts(self) -> None:
         plan = Plan.parse(NET)
-        lines = [line for line in NET.splitlines() if not line.startswith("link ")]
+        lines = without_links(NET)
         for router in plan.routers:
             order = sorted({plan.distance(router, other) for other in plan.routers})
             for other in (each for each in plan.routers if each != router):

@@ -23,6 +23,8 @@ WRONG = (
     (["chek", "--help"], "rrp: there is no command chek", "did you mean check?"),
     (["xyz", NET], "rrp: there is no command xyz", _ALL),
     (["check"], "rrp check: PLAN is missing", "name a file that has a plan"),
+    (["convert", "-o", "x"], "rrp convert: PLAN is missing", "name a file that has a plan"),
+    (["pack", NET, "--wider"], "rrp pack: there is no option --wider", "did you mean --wide?"),
     (["run", NET], "rrp run: LIST is missing", "rrp show PLAN names the lists of a plan"),
     (
         ["why", NET, "0"],

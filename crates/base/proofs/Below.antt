@@ -1,9 +1,10 @@
 -- Laws of `allBelow` and `anyBelow`: what a loop needs at its start, after a turn and at its ways out, and the plain facts the tests stand for.
-use Prim.Native.Nat.{ℕ, zero, suc, _+_, _≤_, _<_}
+use Prim.Native.Nat.{ℕ, zero, suc, _+_, _*_, _≤_, _<_}
+use native.Mathlib.Nat.{add-zero, add-suc, zero-mul, suc-mul}
 use native.Mathlib.Numerals.{add-one}
 use native.Mathlib.Omega.{arith}
 use mathlib.Core.Path.{_≡_, refl, _∙_, sym, ap, ap₂}
-use mathlib.Core.Bool.{Bool, true, false, not, _&&_, _||_, and-true, or-true}
+use mathlib.Core.Bool.{Bool, true, false, not, _&&_, _||_, and-true, and-assoc, or-true}
 use mathlib.Core.Logic.{⊎-elim}
 use Rattle.base.specs.Below.{allBelow, anyBelow}
 use Rattle.base.proofs.Numbers.{both, both-left, both-right, eq-or-ne, not-both, yes, no}
@@ -16,8 +17,11 @@ pub all-suc : (p : ℕ → Bool) (i : ℕ) → allBelow p (suc i) ≡ (allBelow 
 unfolding allBelow
 all-suc p i = refl
 
+pub all-next : (p : ℕ → Bool) (i : ℕ) → allBelow p (i + 1) ≡ (allBelow p i && p i)
+all-next p i = ap (allBelow p) (add-one i) ∙ all-suc p i
+
 pub all-more : (p : ℕ → Bool) (i : ℕ) → allBelow p i ≡ true → p i ≡ true → allBelow p (i + 1) ≡ true
-all-more p i h q = ap (allBelow p) (add-one i) ∙ all-suc p i ∙ both _ _ h q
+all-more p i h q = all-next p i ∙ both _ _ h q
 
 pub all-at : (p : ℕ → Bool) (n : ℕ) → allBelow p n ≡ true → (i : ℕ) → i < n → p i ≡ true
 all-at p zero h i l = absurd (omega arith)
@@ -55,6 +59,18 @@ all-upto p m (suc n) l h =
     all-suc p n ∙ ap₂ _&&_ (all-upto p m n (omega arith) (λ i a b. h i a (omega arith))) (h n (omega arith) (omega arith))
     ∙ and-true (allBelow p m))
     (eq-or-ne m (suc n))
+
+-- m rows of n numbers, read row by row
+all-add : (p : ℕ → Bool) (m n : ℕ) → allBelow p (m + n) ≡ (allBelow p m && allBelow (λ e. p (m + e)) n)
+all-add p m zero = rw (add-zero, all-none (λ e. p (m + e)), and-true)
+all-add p m (suc n) =
+    rw (add-suc, all-suc p (m + n), all-add p m n, all-suc (λ e. p (m + e)) n)
+    (and-assoc (allBelow p m) (allBelow (λ e. p (m + e)) n) (p (m + n)))
+
+pub all-rows : (p : ℕ → Bool) (n m : ℕ) → allBelow (λ u. allBelow (λ e. p (u * n + e)) n) m ≡ allBelow p (m * n)
+all-rows p n zero = all-none _ ∙ sym (rw zero-mul (all-none p))
+all-rows p n (suc m) =
+    all-suc _ m ∙ ap (λ t. t && allBelow (λ e. p (m * n + e)) n) (all-rows p n m) ∙ sym (rw suc-mul (all-add p (m * n) n))
 
 -- a loop that returns no at the first number below n at which p fails, and yes at its end: p holds of every number below i.
 -- `r` is the answer to p, on whose negation the loop branches.

@@ -1,15 +1,15 @@
 -- Laws of `joined` for lists of one length, and a loop that writes them to the front of a list.
 use Prim.Native.Nat.{ℕ, zero, suc, _+_, _*_, _≤_, _<_}
 use native.Mathlib.Numerals.{add-one}
-use native.Mathlib.Nat.{add-zero, add-assoc, mul-zero, mul-suc, mul-le-mul-left}
+use native.Mathlib.Nat.{add-zero, add-suc, add-assoc, zero-mul, suc-mul, mul-zero, mul-suc, mul-le-mul-left}
 use native.Mathlib.Omega.{arith}
 use mathlib.Core.Path.{_≡_, refl, _∙_, sym, ap, ap₂}
 use mathlib.Core.List.{List, [], _∷_, _++_, append-nil, append-assoc}
 use mathlib.Core.Logic.{⊎-elim}
 use lib.ListN.{length, getD, take, drop, set, length-append, length-drop, take-append-drop, List·getD-append}
-use lib.Seq.{take-at, drop-drop, drop-append-add, getD-append-add, sets-eq, length-take-le}
+use lib.Seq.{take-at, take-add, drop-drop, drop-append-add, getD-append-add, sets-eq, length-take-le}
 use Rattle.base.specs.Tab.{joined}
-use Rattle.base.proofs.Numbers.{eq-or-ne}
+use Rattle.base.proofs.Numbers.{eq-or-ne, item-within}
 
 module _ {A : Type 0} where
   joined-none : (f : ℕ → List A) → joined f 0 ≡ []
@@ -25,6 +25,27 @@ module _ {A : Type 0} where
   joined-cong f g (suc n) h =
       joined-suc f n ∙ ap₂ _++_ (joined-cong f g n (λ i l. h i (omega arith))) (h n (omega arith)) ∙ sym (joined-suc g n)
 
+  -- m rows of n lists, read row by row
+  joined-add : (f : ℕ → List A) (m n : ℕ) → joined f (m + n) ≡ joined f m ++ joined (λ e. f (m + e)) n
+  joined-add f m zero = rw (add-zero, joined-none, append-nil)
+  joined-add f m (suc n) =
+      rw (add-suc, joined-suc f (m + n), joined-add f m n, joined-suc (λ e. f (m + e)) n)
+      (append-assoc (joined f m) (joined (λ e. f (m + e)) n) (f (m + n)))
+
+  pub joined-rows : (f : ℕ → List A) (n m : ℕ) → joined (λ u. joined (λ e. f (u * n + e)) n) m ≡ joined f (m * n)
+  joined-rows f n zero = joined-none _ ∙ sym (rw zero-mul (joined-none f))
+  joined-rows f n (suc m) =
+      joined-suc _ m ∙ ap (λ t. t ++ joined (λ e. f (m * n + e)) n) (joined-rows f n m) ∙ sym (rw suc-mul (joined-add f (m * n) n))
+
+  -- the parts of a list from `at` on, each of `size` items
+  pub joined-parts : (s : List A) (size at n : ℕ) → joined (λ i. take size (drop (at + size * i) s)) n ≡ take (size * n) (drop at s)
+  joined-parts s size at zero = joined-none _ ∙ rw mul-zero
+  joined-parts s size at (suc n) =
+      joined-suc _ n
+      ∙ ap₂ _++_ (joined-parts s size at n) (ap (take size) (sym (drop-drop (size * n) at s)))
+      ∙ sym (take-add (size * n) size (drop at s))
+      ∙ ap (λ k. take k (drop at s)) (sym (mul-suc size n))
+
 -- a loop that writes the lists f 0, .. , f (n - 1) over a list that was d, from `at` on, and has written i of them
 pub record Joining {A : Type 0} (f : ℕ → List A) (size n : ℕ) (d : List A) (at : ℕ) (l : List A) (i : ℕ) : Type 0 where
   pub upto : i ≤ n
@@ -38,9 +59,6 @@ module _ {A : Type 0} (f : ℕ → List A) (size : ℕ) (each : (i : ℕ) → le
   length-joined (suc n) =
       ap length (joined-suc f n) ∙ length-append (joined f n) (f n) ∙ ap₂ _+_ (length-joined n) (each n) ∙ sym (mul-suc size n)
 
-  item-within : (n i : ℕ) → i < n → size * i + size ≤ size * n
-  item-within n i h = let g : size * suc i ≤ size * n = mul-le-mul-left size h in omega (arith, mul-suc size i)
-
   pub getD-joined : (n i k : ℕ) (z : A) → i < n → k < size → getD (joined f n) (size * i + k) z ≡ getD (f i) k z
   getD-joined zero i k z l m = absurd (omega arith)
   getD-joined (suc n) i k z l m =
@@ -48,7 +66,7 @@ module _ {A : Type 0} (f : ℕ → List A) (size : ℕ) (each : (i : ℕ) → le
       ∙ ⊎-elim
       (λ (e : i ≡ n). rw (e, ← length-joined n) (getD-append-add (joined f n) (f n) k z))
       (λ (e : i ≡ n → ⊥).
-      List·getD-append (joined f n) (f n) z (size * i + k) (omega (arith, length-joined n, item-within n i (omega arith)))
+      List·getD-append (joined f n) (f n) z (size * i + k) (omega (arith, length-joined n, item-within size n i (omega arith)))
       ∙ getD-joined n i k z (omega arith) m)
       (eq-or-ne i n)
 
@@ -75,7 +93,7 @@ module _ {A : Type 0} (f : ℕ → List A) (size : ℕ) (each : (i : ℕ) → le
           ∙ omega (arith, length-front, length-drop (at + size * i) d, items-within, w .long)
 
       pub join-room : i < n → at + size * i + size ≤ length l
-      join-room h = omega (arith, join-length, w .long, item-within n i h)
+      join-room h = omega (arith, join-length, w .long, item-within size n i h)
 
       pub join-more :
           (after : List A) → i < n → after ≡ take (at + size * i) l ++ f i ++ drop (at + size * i + size) l →

@@ -1,6 +1,8 @@
 pub mod Lent
 pub mod Numbers
 pub mod Below
+pub mod Bytes
+pub mod Buffer
 pub mod Best
 pub mod Seek
 pub mod Tab

@@ -1,10 +1,10 @@
 -- Case distinctions on numbers and tests that the kit does not have.
 use Prim.Native.Nat.{ℕ, suc, _+_, _*_, _≤_, _<_}
 use native.Mathlib.Omega.{arith}
-use native.Mathlib.Nat.{mul-le-mul, mul-le-mul-right, suc-mul}
+use native.Mathlib.Nat.{mul-le-mul, mul-le-mul-left, mul-le-mul-right, mul-suc, suc-mul}
 use native.Mathlib.Decide.{decLt, ℕ-discrete}
 use mathlib.Core.Path.{_≡_, refl, _∙_, sym}
-use mathlib.Core.Bool.{Bool, true, false, not, _&&_}
+use mathlib.Core.Bool.{Bool, true, false, not, _&&_, _||_}
 use mathlib.Core.Logic.{_⊎_, inl, inr, _↔_}
 use borrow.Author.Tests.{lt-ltb, le-ltb, le-leb, lt-leb, eq-eqb, ne-eqb, leb-true, ltb-true, eqb-true}
 use lib.Dec.{leb, ltb, eqb}
@@ -34,6 +34,11 @@ both-right false b h = let z : _≡_ {A = ℕ} 0 1 = cc in absurd (omega arith)
 
 pub both : (a b : Bool) → a ≡ true → b ≡ true → (a && b) ≡ true
 both a b p q = cc
+
+-- one of two tests passes
+pub either-true : (a b : Bool) → (a || b) ≡ true → (a ≡ true) ⊎ (b ≡ true)
+either-true true b h = inl refl
+either-true false b h = inr h
 
 -- a test that is not true is false, and the other way round
 pub true-or-false : (b : Bool) → (b ≡ true) ⊎ (b ≡ false)
@@ -69,6 +74,10 @@ pub eqb-iff : (a b : ℕ) → (eqb a b ≡ true) ↔ (a ≡ b)
 eqb-iff a b = (eqb-true a b, eq-eqb a b)
 
 pub ruleset facts = (and-iff, leb-iff, ltb-iff, eqb-iff)
+
+-- item i of n items of one size ends within them
+pub item-within : (size n i : ℕ) → i < n → size * i + size ≤ size * n
+item-within size n i h = let g : size * suc i ≤ size * n = mul-le-mul-left size h in omega (arith, mul-suc size i)
 
 -- row u, column e lies within n rows of n
 pub cell-lt : (n u e : ℕ) → u < n → e < n → u * n + e < n * n

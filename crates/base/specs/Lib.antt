@@ -4,6 +4,7 @@ pub mod Seek
 pub mod Tab
 pub mod Elimination
 pub mod Bytes
+pub mod Buffer
 pub mod Bits
 pub mod Lent
 pub mod BitWalk

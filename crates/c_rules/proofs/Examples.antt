@@ -4,17 +4,19 @@ use Rattle.base.specs.Best.{keepBest, best}
 use Rattle.base.specs.Seek.{seek, highest, count}
 use Rattle.base.specs.Tab.{tab, joined}
 use Rattle.plan_examples.specs.Plans.{fourRouters, smallPlan, M3Plan}
-use Rattle.plan_contents.specs.Header.{headerOk, routerCountOk}
+use Rattle.plan_contents.specs.Header.{markOk, headerOk, routerCountOk}
 use Rattle.plan_contents.specs.Contents.{kindsOk, placesOk, sizesOk, contentsOk}
 use Rattle.plan_rules.specs.Routers.{routerOk, routersOk}
 use Rattle.plan_rules.specs.Sessions.{sessionOk, sessionsOk, pairs, inSession}
 use Rattle.plan_rules.specs.Parents.{parentCount, fewParents, parentsOk}
-use Rattle.plan_rules.specs.Distances.{distancesOk}
+use Rattle.plan_rules.specs.Distances.{distancesOk, rowOf, bodyOf}
 use Rattle.plan_rules.specs.Lists.{listPlace, memberOk, listAtOk, listOk, eachListOk, listsOk}
 use Rattle.plan_rules.specs.Refusal.{refuse, bodyChecks, planChecks, planRefusal}
+use Rattle.plan_rules.specs.Converted.{entryBytes, converted, distancesFit, widenRefusal, narrowRefusal}
+use Rattle.plan_rules.specs.ConvertedExamples.{withNarrow, withWide}
 use Rattle.links_rules.specs.Sheet.{linkOk, sheetOk}
 use Rattle.links_rules.specs.Sums.{direct, summing}
-use Rattle.links_rules.specs.Distances.{sumsOk, distancesRefusal, rowOf, bodyOf, sheetBody, distancesAfter}
+use Rattle.links_rules.specs.Distances.{sumsOk, distancesRefusal, sheetBody, distancesAfter}
 use Rattle.net_rules.specs.FromPlan.{named}
 use Rattle.route_rules.specs.Preference.{prefers, better, marginOf}
 use Rattle.route_rules.specs.Reliance.{listedClientOf, bestClient, offer, betterOffer, relies}
@@ -35,7 +37,8 @@ use Rattle.net_verdict.specs.Assessed.{labelsLeft, ranksLeft, tableLeft, cycleL
 use Rattle.call_verdict.specs.Verdict.{sizeOf}
 use Rattle.call_verdict.specs.Verdict.{labelsAfter, ranksAfter, tableAfter, cycleAfter}
 use Rattle.call_run.specs.Run.{runApplied, runRounds, runExhausted, runTable}
-use Rattle.c_rules.specs.Examples.{twoRouters, ExportExamples}
+use Rattle.call_convert.specs.Convert.{convertBuffer}
+use Rattle.c_rules.specs.Examples.{twoRouters, ExportExamples, ConvertExportExamples}
 
 pub export-examples : ExportExamples
 unfolding
@@ -47,7 +50,7 @@ unfolding
     rankOver ranksByChains rank together label stable grouped closing acted roundsFrom rounds
     reflects advertises hears senderOf routeTo choice choose entryOk tableOk listedClientOf bestClient offer betterOffer relies prefers better marginOf
     pairs inSession named refuse bodyChecks planChecks planRefusal
-    headerOk routerCountOk kindsOk placesOk sizesOk contentsOk routerOk routersOk sessionOk sessionsOk
+    markOk headerOk routerCountOk kindsOk placesOk sizesOk contentsOk routerOk routersOk sessionOk sessionsOk
     parentCount fewParents parentsOk count distancesOk
     linkOk sheetOk direct summing sumsOk distancesRefusal rowOf bodyOf sheetBody distancesAfter joined
     listPlace memberOk listAtOk listOk eachListOk listsOk allBelow anyBelow keepBest best seek highest tab
@@ -82,4 +85,17 @@ export-examples =
       distances = λ r o e. (e .number, e .bytes);
       refusedDistances = λ r o e. (e .number, e .bytes);
       noWayBack = λ r o e. (e .number, e .bytes);
+    }
+
+pub convert-export-examples : ConvertExportExamples
+unfolding
+    withNarrow withWide convertBuffer converted entryBytes rowOf bodyOf joined distancesFit widenRefusal narrowRefusal
+    refuse bodyChecks planChecks markOk headerOk routerCountOk kindsOk placesOk sizesOk contentsOk routerOk routersOk sessionOk sessionsOk
+    pairs inSession parentCount fewParents parentsOk count distancesOk listPlace memberOk listAtOk listOk eachListOk listsOk allBelow anyBelow
+convert-export-examples =
+    record {
+      widened = λ r o s e. (e .numbered, e .sized, e .bytes);
+      narrowed = λ r o s e. (e .numbered, e .sized, e .bytes);
+      refusedWiden = λ r o s e. (e .numbered, e .sized, e .bytes);
+      refusedNarrow = λ r o s e. (e .numbered, e .sized, e .bytes);
     }

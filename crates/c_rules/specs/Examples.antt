@@ -2,13 +2,16 @@
 -- `M3Plan` is that of document 01, "Small plans"; its lists are 2,3 and 3 and 0.
 use Prim.Native.Nat.{ℕ}
 use mathlib.Core.Path.{_≡_}
-use mathlib.Core.List.{List, [], _∷_}
+use mathlib.Core.List.{List, [], _∷_, _++_}
 use lib.IntN.{ℤ, pos, negℤ}
+use lib.ListN.{replicate}
 use Rattle.base.specs.Lent.{Lent}
 use Rattle.plan_examples.specs.Plans.{M3Plan}
+use Rattle.plan_rules.specs.ConvertedExamples.{withNarrow, withWide}
 use Rattle.links_rules.specs.Distances.{DistancesCall}
 use Rattle.call_run.specs.Activate.{Activates}
 use Rattle.c_rules.specs.Exports.{SizeExport, ListExport, CompareExport, ReliesExport, ExplainExport, VerdictExport, RunExport}
+use Rattle.c_rules.specs.Exports.{WidenExport, NarrowExport}
 
 -- two clients without a session; no way from 0 to 1, and back it is 7
 unfoldable pub twoRouters : List ℕ
@@ -143,3 +146,19 @@ pub record ExportExamples : Type 0 where
   -- from 1 to 0 there is no walk: 65,535, no way
   pub noWayBack : (r : ℕ) (out : List ℕ) → DistancesCall 2 (0 ∷ 1 ∷ 7 ∷ 0 ∷ []) r nineteen out
       → (r ≡ 0) × (out ≡ 0 ∷ 0 ∷ 7 ∷ 0 ∷ 255 ∷ 255 ∷ 0 ∷ 0 ∷ 9 ∷ 9 ∷ 9 ∷ 9 ∷ 9 ∷ 9 ∷ 9 ∷ 9 ∷ 9 ∷ 9 ∷ 9 ∷ [])
+
+-- the buffer lent to the converter: the RRP1 plan of two routers has 49 bytes, the RRP2 plan 57
+abbrev pub fiftyEight : List ℕ
+fiftyEight = replicate 58 9
+
+pub record ConvertExportExamples : Type 0 where
+  -- the distance from 0 to 1 is 5, and there is no way back
+  pub widened : (r : ℕ) (out : List ℕ) (size : Lent ℕ) → WidenExport (withNarrow 5 0 255 255) r (from fiftyEight out) size
+      → (r ≡ 0) × (size .after ≡ 57) × (out ≡ withWide 5 0 0 0 255 255 255 255 ++ (9 ∷ []))
+  pub narrowed : (r : ℕ) (out : List ℕ) (size : Lent ℕ) → NarrowExport (withWide 5 0 0 0 255 255 255 255) r (from fiftyEight out) size
+      → (r ≡ 0) × (size .after ≡ 49) × (out ≡ withNarrow 5 0 255 255 ++ replicate 9 9)
+  -- the buffer is a byte short; a distance of 65,535: numbers 9 and 14, and the variable and the buffer are left as they were
+  pub refusedWiden : (r : ℕ) (out : List ℕ) (size : Lent ℕ) → WidenExport (withNarrow 5 0 255 255) r (from (replicate 56 9) out) size
+      → (r ≡ 9) × (size .after ≡ size .before) × (out ≡ replicate 56 9)
+  pub refusedNarrow : (r : ℕ) (out : List ℕ) (size : Lent ℕ) → NarrowExport (withWide 255 255 0 0 5 0 0 0) r (from fiftyEight out) size
+      → (r ≡ 14) × (size .after ≡ size .before) × (out ≡ fiftyEight)

@@ -4,6 +4,7 @@ use Prim.Native.Nat.{ℕ}
 use mathlib.Core.List.{List}
 use mathlib.Core.Path.{_≡_}
 use lib.IntN.{ℤ}
+use lib.ListN.{length}
 use Rattle.base.specs.Lent.{Lent}
 use Rattle.base.specs.Seek.{flag}
 use Rattle.plan_contents.specs.Header.{routerCount}
@@ -13,6 +14,7 @@ use Rattle.route_rules.specs.Reliance.{relies}
 use Rattle.route_rules.specs.Instance.{Instance}
 use Rattle.net_rules.specs.FromPlan.{instanceOf}
 use Rattle.plan_rules.specs.Refused.{unlessRefused}
+use Rattle.plan_rules.specs.Converted.{converted, widenRefusal, narrowRefusal}
 use Rattle.call_rules.specs.Refusals.{egressListRefusal, compareRefusal, reliesRefusal, verdictRefusal, runRefusal}
 use Rattle.call_compare.specs.Compare.{whichBetter, hasMargin, marginNumber}
 use Rattle.route_explain_rules.specs.declared.explanation.Values.{Values}
@@ -21,6 +23,7 @@ use Rattle.route_explain_rules.specs.Values.{valuesOf}
 use Rattle.net_verdict.specs.Assessed.{isStable}
 use Rattle.call_verdict.specs.Verdict.{sizeOf, labelsAfter, ranksAfter, tableAfter, cycleAfter}
 use Rattle.call_run.specs.Run.{runApplied, runRounds, runExhausted, runTable}
+use Rattle.call_convert.specs.Convert.{convertBuffer}
 
 -- a result variable of a call whose refusal is `number`: "unchanged" if refused, else the value
 abbrev pub VariableHolds : {A : Type 0} (number : ℕ) (variable : Lent A) (value : A) → Type 0
@@ -102,3 +105,16 @@ pub record RunWritten (number : ℕ) (plan : List ℕ) (k : ℕ) (acts : List �
 abbrev pub RunExport : (plan : List ℕ) (k : ℕ) (acts : List ℕ) (limit r : ℕ) (table : Lent (List ℕ))
     (applied rounds exhausted : Lent ℕ) → Type 0
 RunExport plan k acts limit r table = RunWritten (runRefusal plan k acts (table .before)) plan k acts limit r table
+
+-- rrp_widen and rrp_narrow: the length of the result, and every byte of the buffer. `to` is the width of the result's distances, `number`
+-- the call's refusal.
+pub record ConvertWritten (to : ℕ) (plan : List ℕ) (number r : ℕ) (out : Lent (List ℕ)) (size : Lent ℕ) : Type 0 where
+  pub numbered : r ≡ number
+  pub bytes : out .after ≡ convertBuffer number to plan (out .before)
+  pub sized : VariableHolds number size (length (converted to plan))
+
+abbrev pub WidenExport : (plan : List ℕ) (r : ℕ) (out : Lent (List ℕ)) (size : Lent ℕ) → Type 0
+WidenExport plan r out = ConvertWritten 4 plan (widenRefusal plan (length (out .before))) r out
+
+abbrev pub NarrowExport : (plan : List ℕ) (r : ℕ) (out : Lent (List ℕ)) (size : Lent ℕ) → Type 0
+NarrowExport plan r out = ConvertWritten 2 plan (narrowRefusal plan (length (out .before))) r out

@@ -1,5 +1,5 @@
 -- The answers of a comparison, case by case.
-use Prim.Native.Nat.{ℕ, _≤_, _<_}
+use Prim.Native.Nat.{ℕ, _-_, _<_}
 use native.Mathlib.Omega.{arith}
 use mathlib.Core.Path.{_≡_, refl, _∙_, sym, ap}
 use mathlib.Core.Bool.{Bool, true, false, cond, _&&_}
@@ -7,11 +7,15 @@ use mathlib.Core.Option.{Option, none, some, Option·getD}
 use mathlib.Core.List.{List}
 use mathlib.Core.Logic.{_⊎_}
 use lib.IntN.{ℤ, pos, natAbs, _-ℤ_}
-use borrow.Author.Tests.{eqb-false, not-true}
+use Rattle.plan_contents.specs.Header.{mark, width, routerCount}
+use Rattle.plan_contents.specs.Contents.{distancesBody}
+use Rattle.plan_rules.specs.Distances.{highest, Bounded}
+use Rattle.plan_rules.proofs.Widths.{highest-some}
 use Rattle.route_rules.specs.Instance.{Instance}
 use Rattle.route_rules.specs.Preference.{better, marginOf}
 use Rattle.route_rules.proofs.Margins.{margin-both, margin-absent, known, margins}
 use Rattle.net_rules.specs.FromPlan.{instanceOf}
+use Rattle.net_prefer.specs.Measured.{Measured}
 use Rattle.call_compare.specs.declared.compare.Preferred.{Preferred}
 use Rattle.call_compare.specs.declared.compare.Preferred.the-variants.{First, Second, Neither}
 use Rattle.call_compare.specs.declared.compare.Margin.{Margin}
@@ -20,6 +24,11 @@ use Rattle.call_compare.specs.declared.compare.CompareAnswer.the-variant
 use Rattle.call_rules.specs.Refusals.{compareRefusal}
 use Rattle.call_compare.specs.Compare.{compared, whichBetter, hasMargin, marginNumber, preferredOf, marginCase, preferredNumber, marginPresent, marginValue, Compares}
 use Rattle.plan_rules.proofs.Refused.{when-refused, when-given}
+
+-- the plan's network has the distances of its body of kind 3
+pub measured-of : (plan : List ℕ) {bytes n : ℕ} {s : List ℕ} → bytes ≡ width plan → s ≡ distancesBody plan → n ≡ routerCount plan
+    → Measured (instanceOf plan 0) bytes s n
+measured-of plan b d r = rw (b, d, r) (record { dist = refl; way = refl })
 
 module _ (I : Instance) (w e f : ℕ) where
   pub prefers-first : better I w e f ≡ true → preferredOf I w e f ≡ First
@@ -52,7 +61,7 @@ module _ (plan : List ℕ) (w e f : ℕ) where
         value = sym (when-refused _ _ _ k);
         present = sym (when-refused _ _ _ k);
         margin = sym (when-refused _ _ _ k);
-        range = omega arith;
+        range = highest-some (mark plan);
       })
 
   -- the values of the cases found
@@ -81,23 +90,25 @@ module _ (plan : List ℕ) (w e f : ℕ) where
       go none = refl
       go (some m) = refl
 
-  -- a distance of two bytes that is one of a way
-  way-most : (u : ℕ) → instanceOf plan 0 .dist w u < 65536 → instanceOf plan 0 .way w u ≡ true → instanceOf plan 0 .dist w u ≤ 65534
-  way-most u l h = omega (arith, eqb-false (instanceOf plan 0 .dist w u) 65535 (not-true _ h))
+  -- what is learnt of the two distances read
+  abbrev DistanceTo : ℕ → Type 0
+  DistanceTo u = Bounded (width plan) (instanceOf plan 0 .dist w u)
 
-  margin-within : instanceOf plan 0 .dist w e < 65536 → instanceOf plan 0 .dist w f < 65536
-      → natAbs (marginValue (marginCase (marginOf (instanceOf plan 0) w e f))) ≤ 65534
+  margin-within : DistanceTo e → DistanceTo f → natAbs (marginValue (marginCase (marginOf (instanceOf plan 0) w e f))) < highest (width plan)
   margin-within p q = go (marginOf (instanceOf plan 0) w e f) refl
     where
-      go : (m : Option ℤ) → marginOf (instanceOf plan 0) w e f ≡ m → natAbs (marginValue (marginCase m)) ≤ 65534
-      go none h = omega arith
+      go : (m : Option ℤ) → marginOf (instanceOf plan 0) w e f ≡ m → natAbs (marginValue (marginCase m)) < highest (width plan)
+      go none h = highest-some (mark plan)
       go (some m) h =
           let k = known (instanceOf plan 0) w e f m h in
-          margins (instanceOf plan 0) w e f .range 65534 (way-most e p (k .toFirst)) (way-most f q (k .toSecond)) m h
+          let most = margins (instanceOf plan 0) w e f .range (highest (width plan) - 1) in
+          let first = p .way (k .toFirst) in
+          let second = q .way (k .toSecond) in
+          omega (arith, highest-some (mark plan), most (omega arith) (omega arith) m h)
 
   pub compares-given : (preferred : Preferred) (margin : Margin) → compareRefusal plan w e f ≡ 0
       → preferred ≡ preferredOf (instanceOf plan 0) w e f → margin ≡ marginCase (marginOf (instanceOf plan 0) w e f)
-      → instanceOf plan 0 .dist w e < 65536 → instanceOf plan 0 .dist w f < 65536
+      → DistanceTo e → DistanceTo f
       → Compares plan w e f (Compared preferred margin)
   unfolding compared
   compares-given preferred margin given p m p₁ p₂ =

@@ -1,12 +1,14 @@
 -- Document 01: "two egress routers compared at a router (the first is better, the second, or neither if they are the same)". Document
 -- 02: "a way beats none, and of two without a way neither is better"; "The comparison of two routes at a router now gives the first
--- distance minus the second, from minus 65,534 to 65,534, and which of the two is better."
-use Prim.Native.Nat.{ℕ, _≤_}
+-- distance minus the second, from minus 65,534 to 65,534, and which of the two is better."; and of 4-byte distances "Margins grow to match".
+use Prim.Native.Nat.{ℕ, _<_}
 use mathlib.Core.List.{List}
 use mathlib.Core.Path.{_≡_}
 use mathlib.Core.Bool.{Bool, true, false, cond, _&&_}
 use mathlib.Core.Option.{Option, none, some, Option·getD}
 use lib.IntN.{ℤ, pos, natAbs}
+use Rattle.plan_contents.specs.Header.{width}
+use Rattle.plan_rules.specs.Distances.{highest}
 use Rattle.route_rules.specs.Instance.{Instance}
 use Rattle.route_rules.specs.Preference.{better, marginOf}
 use Rattle.net_rules.specs.FromPlan.{instanceOf}
@@ -80,5 +82,5 @@ pub record Compares (plan : List ℕ) (w e f : ℕ) (r : CompareAnswer) : Type 0
   pub value : compareBetter r ≡ field (compareRefusal plan w e f) (whichBetter plan w e f)
   pub present : compareHasMargin r ≡ flagField (compareRefusal plan w e f) (hasMargin plan w e f)
   pub margin : compareMargin r ≡ unlessRefused (compareRefusal plan w e f) (pos 0) (marginNumber plan w e f)
-  -- "from minus 65,534 to 65,534"
-  pub range : natAbs (compareMargin r) ≤ 65534
+  -- "from minus 65,534 to 65,534"; of 4-byte distances "Margins grow to match": from minus 4,294,967,294 to 4,294,967,294
+  pub range : natAbs (compareMargin r) < highest (width plan)

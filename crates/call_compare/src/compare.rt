@@ -29,7 +29,7 @@ pub enum CompareAnswer {
 
 // The margin of two routes at any router with these distances to them.
 fn margin_of(first: usize, second: usize) -> Margin
-    requires { ⌜ (first < 65536) × (second < 65536) ⌝ }
+    requires { ⌜ (first < 4294967296) × (second < 4294967296) ⌝ }
     ensures { λ r. ⌜ ((I : Instance) (w e f : ℕ) → ReadAs I w e first → ReadAs I w f second → r ≡ marginCase (marginOf I w e f)) ⌝ }
 {
     if !plan_distances::is_way(first) {
@@ -64,9 +64,10 @@ pub fn compare(plan: &[u8], router: usize, first: usize, second: usize) -> Compa
         return CompareAnswer::Refused(refused);
     }
     let n = checked.n as usize;
+    let width = checked.width as usize;
     let distances = plan_read::parts::part(plan, checked, DISTANCES);
-    let to_first = plan_distances::distance(distances, n, router, first);
-    let to_second = plan_distances::distance(distances, n, router, second);
+    let to_first = plan_distances::distance(distances, width, n, router, first);
+    let to_second = plan_distances::distance(distances, width, n, router, second);
     let preferred = which_better(to_first, to_second, first, second);
     let margin = margin_of(to_first, to_second);
     CompareAnswer::Compared(preferred, margin)

@@ -4,13 +4,13 @@ ghost use mathlib.Core.Path.{_≡_};
 ghost use mathlib.Core.List.{_++_};
 ghost use Prim.Native.Nat.{_+_, _*_, _≤_, _<_};
 ghost use lib.ListN.{length, take, drop};
-ghost use Rattle.links_rules.specs.Distances.{rowOf, bodyOf};
+ghost use Rattle.plan_rules.specs.Distances.{rowOf, bodyOf};
 ghost use Rattle.links_words.specs.Lowered.{wordAt};
 
 // Writes row u from `at` on, each word in two bytes, low byte first.
 fn write_row(words: &[u16], n: usize, u: usize, out: &mut [u8], at: usize)
     requires { ⌜ (n ≤ 64) × (u < n) × (64 * n ≤ length (now words)) × (at + 2 * n ≤ length (now out)) ⌝ }
-    ensures { λ _. ⌜ now (out .exit) ≡ take at (now (out .entry)) ++ rowOf (wordAt (now (words .entry)) u) n
+    ensures { λ _. ⌜ now (out .exit) ≡ take at (now (out .entry)) ++ rowOf 2 (wordAt (now (words .entry)) u) n
         ++ drop (at + 2 * n) (now (out .entry)) ⌝ }
 {
     let mut e = 0;
@@ -25,7 +25,7 @@ fn write_row(words: &[u16], n: usize, u: usize, out: &mut [u8], at: usize)
 // Writes all rows, one after the other.
 pub fn write_body(words: &[u16], n: usize, out: &mut [u8])
     requires { ⌜ (n ≤ 64) × (64 * n ≤ length (now words)) × (2 * (n * n) ≤ length (now out)) ⌝ }
-    ensures { λ _. ⌜ now (out .exit) ≡ bodyOf (wordAt (now (words .entry))) n ++ drop (2 * (n * n)) (now (out .entry)) ⌝ }
+    ensures { λ _. ⌜ now (out .exit) ≡ bodyOf 2 (wordAt (now (words .entry))) n ++ drop (2 * (n * n)) (now (out .entry)) ⌝ }
 {
     let mut row = 0;
     while row < n {

@@ -3,7 +3,7 @@ use mathlib.Core.Path.{refl}
 use Rattle.base.specs.Below.{allBelow, anyBelow}
 use Rattle.base.specs.Seek.{count}
 use Rattle.base.specs.Tab.{tab}
-use Rattle.plan_contents.specs.Header.{headerOk, routerCountOk}
+use Rattle.plan_contents.specs.Header.{markOk, headerOk, routerCountOk}
 use Rattle.plan_contents.specs.Contents.{kindsOk, placesOk, sizesOk, contentsOk}
 use Rattle.plan_rules.specs.Routers.{routerOk, routersOk}
 use Rattle.plan_rules.specs.Sessions.{sessionOk, sessionsOk, pairs, inSession}
@@ -23,7 +23,7 @@ unfolding
     threeRouters lent broken short three two
     sequenceOk egressListRefusal compareRefusal reliesRefusal buffersOk verdictRefusal tableChecks activateRefusal runRefusal
     readRoute tableOf entryOk tableOk pairs inSession named refuse bodyChecks planChecks
-    headerOk routerCountOk kindsOk placesOk sizesOk contentsOk routerOk routersOk sessionOk sessionsOk
+    markOk headerOk routerCountOk kindsOk placesOk sizesOk contentsOk routerOk routersOk sessionOk sessionsOk
     parentCount fewParents parentsOk count distancesOk
     listPlace memberOk listAtOk listOk eachListOk listsOk allBelow anyBelow tab
 refusals-examples =

@@ -1,5 +1,5 @@
 -- Every call's refusal is given exactly if the row of that number is the first that fails.
-use Prim.Native.Nat.{ℕ, zero, suc, _+_, _*_, _≤_, _<_}
+use Prim.Native.Nat.{ℕ, _*_, _≤_, _<_}
 use native.Mathlib.Omega.{arith}
 use mathlib.Core.Path.{_≡_, refl, _∙_, sym, ap}
 use mathlib.Core.Bool.{Bool, true, false, _&&_}
@@ -13,8 +13,8 @@ use Rattle.base.proofs.Numbers.{facts, eq-or-ne, lt-or-le, true-or-false, both,
 use Rattle.plan_contents.specs.Header.{routerCount}
 use Rattle.plan_rules.specs.EgressLists.{listCount}
 use Rattle.plan_rules.specs.Refusal.{planRefusal}
-use Rattle.plan_rules.specs.Passed.{Passed, rowNumber, OneOfTheRows}
-use Rattle.plan_rules.proofs.Passed.{passed, accepted, refusal-is-one}
+use Rattle.plan_rules.specs.Passed.{Passed}
+use Rattle.plan_rules.proofs.Passed.{passed, accepted, refusal-numbers}
 use Rattle.route_rules.specs.Instance.{Instance}
 use Rattle.route_rules.specs.Rounds.{ActsBelow}
 use Rattle.route_rules.specs.Activation.{entryOk, tableOk, held}
@@ -27,22 +27,9 @@ use Rattle.call_rules.specs.RowsExactly.{RowsExactly, BuffersLong, egres
 use Rattle.call_rules.proofs.InOrder.{list-in-order, compare-in-order, relies-in-order, verdict-in-order, activate-in-order, run-in-order}
 
 -- no row of a plan's own has the number of a call's
-row-no-call : (place : ℕ) → place < 8 → 8 ≤ rowNumber place → rowNumber place ≤ 10 → ⊥
-row-no-call zero l a b = omega (arith, a)
-row-no-call (suc zero) l a b = omega (arith, a)
-row-no-call (suc (suc zero)) l a b = omega (arith, a)
-row-no-call (suc (suc (suc zero))) l a b = omega (arith, a)
-row-no-call (suc (suc (suc (suc zero)))) l a b = omega (arith, a)
-row-no-call (suc (suc (suc (suc (suc zero))))) l a b = omega (arith, b)
-row-no-call (suc (suc (suc (suc (suc (suc zero)))))) l a b = omega (arith, a)
-row-no-call (suc (suc (suc (suc (suc (suc (suc zero))))))) l a b = omega (arith, a)
-row-no-call (suc (suc (suc (suc (suc (suc (suc (suc place)))))))) l a b = omega (arith, l)
-
 plan-no-call : (plan : List ℕ) → 8 ≤ planRefusal plan → planRefusal plan ≤ 10 → ⊥
 plan-no-call plan a b =
-    ⊎-elim (λ (z : planRefusal plan ≡ 0). omega arith)
-    (λ (one : OneOfTheRows plan). row-no-call (one .place) (one .below) (omega (arith, one .number)) (omega (arith, one .number)))
-    (refusal-is-one plan)
+    ⊎-elim (λ (h : planRefusal plan ≤ 7). omega arith) (λ (h : planRefusal plan ≡ 13). omega arith) (refusal-numbers plan)
 
 -- a test that is passed exactly if its facts hold
 pub record Tested (facts : Type 0) (test : Bool) : Type 0 where

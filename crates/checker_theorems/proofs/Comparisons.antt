@@ -69,7 +69,7 @@ module _ (plan : List ℕ) (w e f : ℕ) where
 
 module _ (plan : List ℕ) (w e f : ℕ) (r : CompareAnswer) (call : Compares plan w e f r) where
   -- where there is no margin it is given as zero, and says nothing
-  without : compareMargin r ≡ pos 0 → compareHasMargin r ≡ false → MarginSays e f r
+  without : compareMargin r ≡ pos 0 → compareHasMargin r ≡ false → MarginSays plan e f r
   without m h =
       record {
         negative = λ l. absurd (<ℤ-irrefl (rw m at l));
@@ -80,7 +80,7 @@ module _ (plan : List ℕ) (w e f : ℕ) (r : CompareAnswer) (call : Compares pl
 
   -- the margin m of two routes with a way
   with-margin : (m : ℤ) → compareMargin r ≡ m → compareBetter r ≡ whichBetter plan w e f
-      → marginOf (instanceOf plan 0) w e f ≡ some m → MarginSays e f r
+      → marginOf (instanceOf plan 0) w e f ≡ some m → MarginSays plan e f r
   with-margin m is value h =
       let says = margins (instanceOf plan 0) w e f in
       let k = known (instanceOf plan 0) w e f m h in
@@ -98,17 +98,17 @@ module _ (plan : List ℕ) (w e f : ℕ) (r : CompareAnswer) (call : Compares pl
       }
 
   -- the call is not refused
-  given-says : compareRefusal plan w e f ≡ 0 → MarginSays e f r
+  given-says : compareRefusal plan w e f ≡ 0 → MarginSays plan e f r
   given-says given = go (marginOf (instanceOf plan 0) w e f) refl
     where
-      go : (m : Option ℤ) → marginOf (instanceOf plan 0) w e f ≡ m → MarginSays e f r
+      go : (m : Option ℤ) → marginOf (instanceOf plan 0) w e f ≡ m → MarginSays plan e f r
       go none h =
           without (call .margin ∙ when-given _ _ _ given ∙ number-of plan w e f h)
           (call .present ∙ when-given _ _ _ given ∙ none-present plan w e f h)
       go (some m) h =
           with-margin m (call .margin ∙ when-given _ _ _ given ∙ number-of plan w e f h) (call .value ∙ when-given _ _ _ given) h
 
-  says : MarginSays e f r
+  says : MarginSays plan e f r
   says = ⊎-elim given-says
       (λ (ne : compareRefusal plan w e f ≡ 0 → ⊥). without (call .margin ∙ when-refused _ _ _ ne) (call .present ∙ when-refused _ _ _ ne))
       (eq-or-ne (compareRefusal plan w e f) 0)

@@ -8,12 +8,14 @@ use Rattle.call_query.specs.Size.{sizeRouters, sizeLists}
 use Rattle.call_verdict.specs.Verdict.{verdictAnswer, labelsAfter, ranksAfter, tableAfter, cycleAfter}
 use Rattle.call_run.specs.Activate.{activateTable}
 use Rattle.call_run.specs.Run.{runApplied, runRounds, runExhausted, runTable}
+use Rattle.call_convert.specs.Convert.{convertLength, convertBuffer}
 use Rattle.plan_rules.proofs.Refused.{when-refused}
 use Rattle.checker_theorems.specs.RefusedCalls.{RefusedCalls}
 
 pub refused-calls : RefusedCalls
 unfolding
     egressListStart egressListSize sizeRouters sizeLists verdictAnswer labelsAfter ranksAfter tableAfter cycleAfter activateTable runApplied runRounds runExhausted runTable
+    convertLength convertBuffer
 refused-calls =
     record {
       list = λ plan k part s ne. (
@@ -46,4 +48,6 @@ refused-calls =
         s .exhausted ∙ when-refused _ _ _ ne,
         s .bytes ∙ when-refused _ _ _ ne,
       );
+      widen = λ plan out r after s ne. (s .numbered, s .long ∙ when-refused _ _ _ ne, s .bytes ∙ when-refused _ _ _ ne);
+      narrow = λ plan out r after s ne. (s .numbered, s .long ∙ when-refused _ _ _ ne, s .bytes ∙ when-refused _ _ _ ne);
     }

@@ -6,6 +6,7 @@ use mathlib.Core.Path.{_≡_}
 use mathlib.Core.Bool.{false}
 use mathlib.Core.List.{List, []}
 use lib.IntN.{pos}
+use lib.ListN.{length}
 use denote.Ref.{RefT, ptr, now}
 use Rattle.base.specs.Bytes.{bytesOn}
 use Rattle.base.specs.Lent.{Lent}
@@ -30,6 +31,9 @@ use Rattle.route_explain_rules.specs.Values.{bare, valuesOf}
 use Rattle.call_explain.specs.Explain.{Explains}
 use Rattle.call_run.specs.Activate.{Activates}
 use Rattle.call_run.specs.Run.{Runs}
+use Rattle.plan_rules.specs.Converted.{widenRefusal, narrowRefusal}
+use Rattle.call_convert.specs.declared.convert.ConvertAnswer.{ConvertAnswer}
+use Rattle.call_convert.specs.Convert.{Widens, Narrows}
 
 pub record RefusedCalls : Type 0 where
   -- "If refused, the stretch is empty": at the plan's own start
@@ -56,3 +60,7 @@ pub record RefusedCalls : Type 0 where
   pub run : (plan : List ℕ) (k : ℕ) (acts : List ℕ) (limit : ℕ) (table : List ℕ) (r : RunAnswer) (after : List ℕ)
       → Runs plan k acts limit table r after → (runRefusal plan k acts table ≡ 0 → ⊥)
       → (r .refused ≡ runRefusal plan k acts table) × (r .applied ≡ 0) × (r .rounds ≡ 0) × (r .exhausted ≡ false) × (after ≡ table)
+  pub widen : (plan out : List ℕ) (r : ConvertAnswer) (after : List ℕ) → Widens plan out r after → (widenRefusal plan (length out) ≡ 0 → ⊥)
+      → (r .refused ≡ widenRefusal plan (length out)) × (r .length ≡ 0) × (after ≡ out)
+  pub narrow : (plan out : List ℕ) (r : ConvertAnswer) (after : List ℕ) → Narrows plan out r after → (narrowRefusal plan (length out) ≡ 0 → ⊥)
+      → (r .refused ≡ narrowRefusal plan (length out)) × (r .length ≡ 0) × (after ≡ out)

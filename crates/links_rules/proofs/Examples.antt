@@ -3,10 +3,11 @@ use mathlib.Core.Path.{refl}
 use Rattle.base.specs.Below.{allBelow}
 use Rattle.base.specs.Tab.{tab, joined}
 use Rattle.plan_contents.specs.Header.{routerCountOk}
+use Rattle.plan_rules.specs.Distances.{rowOf, bodyOf}
 use Rattle.plan_rules.specs.Refusal.{refuse}
 use Rattle.links_rules.specs.Sheet.{linkOk, sheetOk}
 use Rattle.links_rules.specs.Sums.{direct, summing}
-use Rattle.links_rules.specs.Distances.{sumsOk, distancesRefusal, rowOf, bodyOf, sheetBody, distancesAfter}
+use Rattle.links_rules.specs.Distances.{sumsOk, distancesRefusal, sheetBody, distancesAfter}
 use Rattle.links_rules.specs.Examples.{bothWays, eight, seven, eighteen, LinksExamples, RouterCountExamples}
 
 pub links-examples : LinksExamples

@@ -7,8 +7,9 @@ use mathlib.Core.List.{List}
 use mathlib.Core.Logic.{_↔_}
 use mathlib.Core.Option.{Option, none, some}
 use borrow.Author.Tests.{le-leb, leb-true, leb-false, not-true}
-use lib.ListN.{length, getD}
+use lib.ListN.{length}
 use Rattle.base.specs.Below.{allBelow}
+use Rattle.base.specs.Bytes.{Bytes}
 use Rattle.base.proofs.Below.{all-at, all-intro, all-broken}
 use Rattle.base.proofs.Numbers.{facts, not-both}
 use Rattle.plan_rules.specs.Rising.{risesAt}
@@ -56,7 +57,7 @@ module _ (s : List ℕ) (n : ℕ) where
             )),
       )
 
-pub weight-most : (s : List ℕ) → ((p : ℕ) → getD s p 0 < 256) → (k : ℕ) → linkWeight s k ≤ 65535
+pub weight-most : (s : List ℕ) → Bytes s → (k : ℕ) → linkWeight s k ≤ 65535
 weight-most s bytes k = omega (arith, bytes (4 * k + 2), bytes (4 * k + 2 + 1))
 
 -- 12

@@ -1,6 +1,5 @@
 pub mod Examples
 pub mod LeastSums
-pub mod KindThree
 pub mod Facts
 pub mod InOrder
 pub mod Loops

@@ -6,10 +6,11 @@ use mathlib.Core.List.{List, _++_}
 use lib.Dec.{leb}
 use lib.ListN.{length, drop}
 use Rattle.plan_contents.specs.Header.{routerCountOk}
+use Rattle.plan_rules.specs.Distances.{bodyOf}
 use Rattle.plan_rules.specs.Refusal.{refuse}
 use Rattle.links_rules.specs.Sheet.{sheetOk}
 use Rattle.links_rules.specs.Sums.{leastSums}
-use Rattle.links_rules.specs.Distances.{sumsOk, bodyOf, distanceOf, distancesRefusal, sheetBody, distancesAfter, DistancesCall}
+use Rattle.links_rules.specs.Distances.{sumsOk, distanceOf, distancesRefusal, sheetBody, distancesAfter, DistancesCall}
 
 module _ (n : ℕ) (s out : List ℕ) where
   pub after-refused : (number : ℕ) → distancesRefusal n s (length out) ≡ suc number → distancesAfter n s out ≡ out
@@ -44,7 +45,7 @@ module _ (n : ℕ) (s out : List ℕ) where
 
         pub call-made :
             (body after : List ℕ) → leb (2 * (n * n)) (length out) ≡ true → after ≡ body ++ drop (2 * (n * n)) out →
-            body ≡ bodyOf (λ u e. distanceOf (leastSums s n u e)) n →
+            body ≡ bodyOf 2 (λ u e. distanceOf (leastSums s n u e)) n →
             DistancesCall n s 0 out after
         unfolding distancesRefusal refuse sheetBody
         call-made body after r e b =

@@ -1,14 +1,14 @@
 -- Document 02, "Distances from the link sheet" and "Cut-off routers": what the call returns and writes.
-use Prim.Native.Nat.{ℕ, _*_, _/_, _%_}
+use Prim.Native.Nat.{ℕ, _*_}
 use mathlib.Core.Path.{_≡_}
 use mathlib.Core.Bool.{Bool, true}
-use mathlib.Core.List.{List, [], _∷_, _++_}
+use mathlib.Core.List.{List, _++_}
 use mathlib.Core.Option.{Option, none, some}
 use lib.Dec.{leb}
 use lib.ListN.{length, drop}
-use Rattle.base.specs.Tab.{joined}
 use Rattle.base.specs.Below.{allBelow}
 use Rattle.plan_contents.specs.Header.{routerCountOk}
+use Rattle.plan_rules.specs.Distances.{bodyOf}
 use Rattle.plan_rules.specs.Refusal.{refuse}
 use Rattle.links_rules.specs.Sheet.{sheetOk}
 use Rattle.plan_rules.specs.Refused.{unlessRefused}
@@ -32,23 +32,14 @@ distancesRefusal n s room =
     (refuse (sumsOk (leastSums s n) n) 12
     (refuse (leb (2 * (n * n)) room) 9 0)))
 
--- "It writes a kind 3 body": row by row, each distance in two bytes, low byte first
-abbrev pub wordOf : ℕ → List ℕ
-wordOf d = d % 256 ∷ d / 256 % 256 ∷ []
-
-unfoldable pub rowOf : (ℕ → ℕ) → ℕ → List ℕ
-rowOf distance n = joined (λ e. wordOf (distance e)) n
-
-unfoldable pub bodyOf : (ℕ → ℕ → ℕ) → ℕ → List ℕ
-bodyOf distance n = joined (λ u. rowOf (distance u) n) n
-
 -- "each entry is the least sum of weights over all walks", "65,535 for a pair with no walk"
 abbrev pub distanceOf : Option ℕ → ℕ
 distanceOf none = 65535
 distanceOf (some d) = d
 
+-- "It writes a kind 3 body": row by row, each distance in two bytes, low byte first
 unfoldable pub sheetBody : List ℕ → ℕ → List ℕ
-sheetBody s n = bodyOf (λ u e. distanceOf (leastSums s n u e)) n
+sheetBody s n = bodyOf 2 (λ u e. distanceOf (leastSums s n u e)) n
 
 -- what the call leaves of the buffer: "later ones are untouched"
 unfoldable pub distancesAfter : ℕ → List ℕ → List ℕ → List ℕ

@@ -1,7 +1,7 @@
 -- What a link sheet that is not refused is, in plain facts, check by check: document 02, "Distances from the link sheet" and "Cut-off
 -- routers".
 -- `..-facts` and `..-holds` say that a check passes exactly if its facts hold.
-use Prim.Native.Nat.{ℕ, _*_, _%_, _≤_, _<_}
+use Prim.Native.Nat.{ℕ, _+_, _*_, _%_, _≤_, _<_}
 use mathlib.Core.Path.{_≡_}
 use mathlib.Core.Bool.{true}
 use mathlib.Core.List.{List}
@@ -9,7 +9,7 @@ use mathlib.Core.Logic.{_↔_}
 use lib.ListN.{length, take, drop}
 use Rattle.plan_contents.specs.HeaderFacts.{RouterCount}
 use Rattle.plan_rules.specs.Rising.{PairBefore}
-use Rattle.plan_rules.specs.Distances.{distanceIn, wayIn, distancesOk}
+use Rattle.plan_rules.specs.Distances.{numberAt, distanceIn, wayIn, distancesOk}
 use Rattle.links_rules.specs.Sheet.{linksMost, linkCount, linkFrom, linkTo, linkWeight}
 use Rattle.links_rules.specs.Walks.{Walk, sum, Least}
 
@@ -54,15 +54,15 @@ pub record FirstDecides (n : ℕ) (s : List ℕ) (room number : ℕ) : Type 0 wh
   pub nine : (number ≡ 9) ↔ (RouterCount n × Sheet s n × AllNear s n × (room < 2 * (n * n)))
   pub none : (number ≡ 0) ↔ (RouterCount n × Sheet s n × AllNear s n × (2 * (n * n) ≤ room))
 
--- a kind 3 body of n routers: "each entry is the least sum of weights over all walks, 0 on the diagonal", and "65,535 for a pair with no
--- walk" and for no other. So there is a way exactly if there is a walk; and the body passes row 6.
+-- a kind 3 body of n routers in two bytes a distance: "each entry is the least sum of weights over all walks, 0 on the diagonal", and
+-- "65,535 for a pair with no walk" and for no other. So there is a way exactly if there is a walk; and the body passes row 6.
 pub record LeastBody (s : List ℕ) (n : ℕ) (body : List ℕ) : Type 0 where
   pub long : length body ≡ 2 * (n * n)
-  pub least : (u e : ℕ) → u < n → e < n → Walk s u e → Least s u e (distanceIn body n u e)
-  pub noWalk : (u e : ℕ) → u < n → e < n → (distanceIn body n u e ≡ 65535) ↔ (Walk s u e → ⊥)
-  pub ways : (u e : ℕ) → u < n → e < n → (wayIn body n u e ≡ true) ↔ Walk s u e
-  pub diagonal : (u : ℕ) → u < n → distanceIn body n u u ≡ 0
-  pub passes : distancesOk body n ≡ true
+  pub least : (u e : ℕ) → u < n → e < n → Walk s u e → Least s u e (distanceIn 2 body n u e)
+  pub noWalk : (u e : ℕ) → u < n → e < n → (numberAt 2 body (u * n + e) ≡ 65535) ↔ (Walk s u e → ⊥)
+  pub ways : (u e : ℕ) → u < n → e < n → (wayIn 2 body n u e ≡ true) ↔ Walk s u e
+  pub diagonal : (u : ℕ) → u < n → distanceIn 2 body n u u ≡ 0
+  pub passes : distancesOk 2 body n ≡ true
 
 -- a call that returns r and leaves `after` of the buffer `out`: the first check that fails decides; a refused call changes no byte; one
 -- that is not refused has written such a body, and "later ones are untouched"

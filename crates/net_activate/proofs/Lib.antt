@@ -1,2 +1,3 @@
 pub mod OnePass
+pub mod Numbers
 pub mod MayAdvertise

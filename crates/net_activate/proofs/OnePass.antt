@@ -3,26 +3,19 @@ use Prim.Native.Nat.{ℕ, zero, suc, _+_, _-_, _*_, _%_, _≤_, _<_, min}
 use native.Mathlib.Omega.{arith}
 use mathlib.Core.Path.{_≡_, refl, _∙_, sym, ap, ap₂}
 use mathlib.Core.Bool.{Bool, true, false, not, cond, _&&_, and-false}
-use mathlib.Core.List.{List}
 use mathlib.Core.Option.{Option, none, some}
 use mathlib.Core.Logic.{_⊎_, inl, inr, ⊎-elim}
 use lib.Dec.{eqb}
-use lib.ListN.{getD}
 use borrow.Author.Tests.{eqb-false, eq-eqb, ne-eqb, le-leb, lt-leb, le-ltb, not-true}
 use Rattle.base.proofs.Numbers.{not-both, eq-or-ne, lt-or-le}
-use Rattle.plan_rules.specs.Distances.{distanceIn}
 use Rattle.route_rules.specs.Instance.{Instance, Route, nothing, via, RouterBelow}
 use Rattle.route_rules.specs.Preference.{prefers}
 use Rattle.route_rules.specs.Activation.{reflects, advertises, hears, choose}
 use Rattle.net_tables.specs.TableBytes.{RouteBelow, readRoute}
-use Rattle.net_activate.specs.OnePass.{senderMark, routeKey, noKey, toldKey, advertisedKey, leastKey, egressIn, senderIn, keyRoute}
+use Rattle.net_activate.specs.OnePass.{senderMark, routeKey, Numbers, noKey, toldKey, advertisedKey, leastKey, egressIn, senderIn, keyRoute}
 use Rattle.net_tables.proofs.TableBytes.{read-via}
 use Rattle.route_rules.proofs.Preference.{prefers-order, prefers-farther, prefers-tie}
 use Rattle.route_rules.proofs.Routes.{hears-neighbour, hears-told, hears-way, hears-intro, ChoiceIs, choice-unique, choose-is, advertises-listed, advertises-client, advertises-reflector}
-
--- a distance of two bytes
-pub distance-below : (s : List ℕ) (n w e : ℕ) → ((i : ℕ) → getD s i 0 < 256) → distanceIn s n w e < 65536
-distance-below s n w e b = omega (arith, b (2 * (w * n + e)), b (2 * (w * n + e) + 1))
 
 -- a sender's mark
 pub mark-itself : (e s : ℕ) → e ≡ s → senderMark e s ≡ 0
@@ -48,8 +41,8 @@ module _ (d e s : ℕ) where
 
   module _ (egress : e < 64) (sender : s < 64) where
     -- a route with a way has a lower key than none
-    key-way : d < 65535 → routeKey d e s < noKey
-    key-way l = omega (arith, key-is, mark-below e s sender)
+    key-way : (N : Numbers) → d < N .most → routeKey d e s < noKey N
+    key-way N l = omega (arith, key-is, mark-below e s sender)
 
     key-egress : egressIn (routeKey d e s) ≡ e
     key-egress = omega (arith, key-is, mark-below e s sender)
@@ -68,24 +61,24 @@ module _ (d e s : ℕ) where
             cc (ne-eqb (routeKey d e s % 256) 0 (omega arith))
 
     -- the route of a key is the one it was made of
-    key-back : d < 65535 → keyRoute (routeKey d e s) ≡ via e s
+    key-back : (N : Numbers) → d < N .most → keyRoute N (routeKey d e s) ≡ via e s
     unfolding keyRoute
-    key-back l =
-        cc (lt-leb noKey (routeKey d e s) (key-way l), ap₂ readRoute key-egress key-sender, read-via e s (omega arith))
+    key-back N l =
+        cc (lt-leb (noKey N) (routeKey d e s) (key-way N l), ap₂ readRoute key-egress key-sender, read-via e s (omega arith))
 
 -- the route of any number
-module _ (k : ℕ) where
-  pub key-none : noKey ≤ k → keyRoute k ≡ nothing
+module _ (N : Numbers) (k : ℕ) where
+  pub key-none : noKey N ≤ k → keyRoute N k ≡ nothing
   unfolding keyRoute
-  key-none l = cc (le-leb noKey k l)
+  key-none l = cc (le-leb (noKey N) k l)
 
-  pub key-itself : k < noKey → k % 256 ≡ 0 → keyRoute k ≡ readRoute (egressIn k) (egressIn k)
+  pub key-itself : k < noKey N → k % 256 ≡ 0 → keyRoute N k ≡ readRoute (egressIn k) (egressIn k)
   unfolding keyRoute
-  key-itself l h = cc (lt-leb noKey k l, eq-eqb (k % 256) 0 h)
+  key-itself l h = cc (lt-leb (noKey N) k l, eq-eqb (k % 256) 0 h)
 
-  pub key-other : k < noKey → (k % 256 ≡ 0 → ⊥) → keyRoute k ≡ readRoute (egressIn k) (k % 256 - 1)
+  pub key-other : k < noKey N → (k % 256 ≡ 0 → ⊥) → keyRoute N k ≡ readRoute (egressIn k) (k % 256 - 1)
   unfolding keyRoute
-  key-other l h = cc (lt-leb noKey k l, ne-eqb (k % 256) 0 h)
+  key-other l h = cc (lt-leb (noKey N) k l, ne-eqb (k % 256) 0 h)
 
 module _ (I : Instance) where
   -- what a reflector v passes on, by whom it has it from
@@ -122,41 +115,48 @@ module _ (I : Instance) where
       go false p true r = rw (advertises-reflector I v x w p r) (reflects-below v x w b)
       go false p false r = rw (advertises-client I v x w p r) tt
 
-  module _ (w v : ℕ) where
-    pub told-nothing : toldKey I w v none ≡ noKey
-    unfolding toldKey
-    told-nothing = refl
+module _ (N : Numbers) where
+  pub told-nothing : (v : ℕ) → toldKey N v none ≡ noKey N
+  unfolding toldKey
+  told-nothing v = refl
 
-    pub told-egress : (e : ℕ) → toldKey I w v (some e) ≡ routeKey (I .dist w e) e v
-    unfolding toldKey
-    told-egress e = refl
+  pub told-egress : (v e : ℕ) → toldKey N v (some e) ≡ routeKey (N .to e) e v
+  unfolding toldKey
+  told-egress v e = refl
 
-    pub from-neighbour : (x : Route) → I .neighbour w v ≡ true → advertisedKey I w v x ≡ toldKey I w v (advertises I v x w)
+  module _ (I : Instance) (w v : ℕ) (x : Route) where
+    pub from-neighbour : I .neighbour w v ≡ true → advertisedKey N I w v x ≡ toldKey N v (advertises I v x w)
     unfolding advertisedKey
-    from-neighbour x h = cc
+    from-neighbour h = cc
 
-    pub from-stranger : (x : Route) → I .neighbour w v ≡ false → advertisedKey I w v x ≡ noKey
+    pub from-stranger : I .neighbour w v ≡ false → advertisedKey N I w v x ≡ noKey N
     unfolding advertisedKey
-    from-stranger x h = cc
+    from-stranger h = cc
 
-module _ (I : Instance) (w : ℕ) (view : ℕ → Route) where
+-- what the numbers are of w's distances
+pub record NumbersFrom (N : Numbers) (I : Instance) (w : ℕ) : Type 0 where
+  pub bounded : (e : ℕ) → N .to e ≤ N .most
+  pub ways : (e : ℕ) → I .way w e ≡ not (eqb (N .to e) (N .most))
+  pub distances : (e : ℕ) → I .way w e ≡ true → I .dist w e ≡ N .to e
+
+module _ (N : Numbers) (I : Instance) (w : ℕ) (view : ℕ → Route) where
   abbrev key : ℕ → ℕ
-  key v = advertisedKey I w v (view v)
+  key v = advertisedKey N I w v (view v)
 
-  pub least-none : leastKey I w view 0 ≡ noKey
+  pub least-none : leastKey N I w view 0 ≡ noKey N
   unfolding leastKey
   least-none = refl
 
-  pub least-more : (v : ℕ) → leastKey I w view (suc v) ≡ min (leastKey I w view v) (key v)
+  pub least-more : (v : ℕ) → leastKey N I w view (suc v) ≡ min (leastKey N I w view v) (key v)
   unfolding leastKey
   least-more v = refl
 
   -- it is no higher than any key, and that of some router if it is a key at all
-  pub least-none-le : (k : ℕ) → leastKey I w view k ≤ noKey
+  pub least-none-le : (k : ℕ) → leastKey N I w view k ≤ noKey N
   least-none-le zero = omega (arith, least-none)
   least-none-le (suc k) = omega (arith, least-more k, least-none-le k)
 
-  least-le : (k v : ℕ) → v < k → leastKey I w view k ≤ key v
+  least-le : (k v : ℕ) → v < k → leastKey N I w view k ≤ key v
   least-le zero v l = absurd (omega arith)
   least-le (suc k) v l =
       ⊎-elim (λ (e : v ≡ k). rw e (omega (arith, least-more k)))
@@ -166,64 +166,68 @@ module _ (I : Instance) (w : ℕ) (view : ℕ → Route) where
   record Least (k : ℕ) : Type 0 where
     at : ℕ
     below : at < k
-    same : leastKey I w view k ≡ key at
+    same : leastKey N I w view k ≡ key at
 
-  least-at : (k : ℕ) → leastKey I w view k < noKey → Least k
+  least-at : (k : ℕ) → leastKey N I w view k < noKey N → Least k
   least-at zero l = absurd (omega (arith, least-none))
   least-at (suc k) l =
-      ⊎-elim (λ (h : key k < leastKey I w view k). record { at = k; below = omega arith; same = omega (arith, least-more k) })
-      (λ (h : leastKey I w view k ≤ key k).
+      ⊎-elim (λ (h : key k < leastKey N I w view k). record { at = k; below = omega arith; same = omega (arith, least-more k) })
+      (λ (h : leastKey N I w view k ≤ key k).
       let f : Least k = least-at k (omega (arith, least-more k)) in
       record { at = f .at; below = omega (arith, f .below); same = omega (arith, least-more k, f .same) })
-      (lt-or-le (key k) (leastKey I w view k))
+      (lt-or-le (key k) (leastKey N I w view k))
 
   -- w hears e from v
   module _ (v e : ℕ) (h : hears I view w v e ≡ true) where
-    heard-key : key v ≡ routeKey (I .dist w e) e v
+    heard-key : key v ≡ routeKey (N .to e) e v
     heard-key =
-        from-neighbour I w v (view v) (hears-neighbour I view w v e h)
-        ∙ ap (toldKey I w v) (hears-told I view w v e h)
-        ∙ told-egress I w v e
+        from-neighbour N I w v (view v) (hears-neighbour I view w v e h)
+        ∙ ap (toldKey N v) (hears-told I view w v e h)
+        ∙ told-egress N v e
 
-  -- distances are of two bytes, 65,535 is no way, and every route names routers
-  module _ (small : I .n ≤ 64) (bytes : (e : ℕ) → I .dist w e < 65536) (ways : (e : ℕ) → I .way w e ≡ not (eqb (I .dist w e) 65535))
+  -- the numbers are w's, and every route names routers
+  module _ (small : I .n ≤ 64) (numbers : NumbersFrom N I w)
       (below : (v : ℕ) → v < I .n → RouteBelow (I .n) (view v)) where
-    way-near : (e : ℕ) → I .way w e ≡ true → I .dist w e < 65535
-    way-near e h = omega (arith, bytes e, eqb-false (I .dist w e) 65535 (not-true _ (sym (ways e) ∙ h)))
+    way-near : (e : ℕ) → I .way w e ≡ true → N .to e < N .most
+    way-near e h = omega (arith, numbers .bounded e, eqb-false (N .to e) (N .most) (not-true _ (sym (numbers .ways e) ∙ h)))
 
-    near-way : (e : ℕ) → I .dist w e < 65535 → I .way w e ≡ true
-    near-way e l = ways e ∙ ap not (ne-eqb (I .dist w e) 65535 (omega arith))
+    near-way : (e : ℕ) → N .to e < N .most → I .way w e ≡ true
+    near-way e l = numbers .ways e ∙ ap not (ne-eqb (N .to e) (N .most) (omega arith))
+
+    -- of two routers to which w has a way, the numbers are the distances
+    far : (e : ℕ) → I .way w e ≡ true → I .dist w e ≡ N .to e
+    far e h = numbers .distances e h
 
     -- what is heard has a key below none's, and only that
-    heard-low : (v e : ℕ) → v < I .n → e < I .n → hears I view w v e ≡ true → key v < noKey
+    heard-low : (v e : ℕ) → v < I .n → e < I .n → hears I view w v e ≡ true → key v < noKey N
     heard-low v e l m h =
-        omega (arith, heard-key v e h, key-way (I .dist w e) e v (omega arith) (omega arith) (way-near e (hears-way I view w v e h)))
+        omega (arith, heard-key v e h, key-way (N .to e) e v (omega arith) (omega arith) N (way-near e (hears-way I view w v e h)))
 
     record Heard (v : ℕ) : Type 0 where
       egress : ℕ
       router : egress < I .n
       hears-it : hears I view w v egress ≡ true
 
-    low-heard : (v : ℕ) → v < I .n → key v < noKey → Heard v
+    low-heard : (v : ℕ) → v < I .n → key v < noKey N → Heard v
     low-heard v l h = go (I .neighbour w v) refl (advertises I v (view v) w) refl (advertises-below I v (view v) w l (below v l))
       where
         go : (a : Bool) → I .neighbour w v ≡ a → (o : Option ℕ) → advertises I v (view v) w ≡ o → RouterBelow (I .n) o → Heard v
-        go false p o q b = absurd (omega (arith, from-stranger I w v (view v) p))
+        go false p o q b = absurd (omega (arith, from-stranger N I w v (view v) p))
         go true p none q b =
-            absurd (omega (arith, from-neighbour I w v (view v) p ∙ ap (toldKey I w v) q ∙ told-nothing I w v))
+            absurd (omega (arith, from-neighbour N I w v (view v) p ∙ ap (toldKey N v) q ∙ told-nothing N v))
         go true p (some e) q b =
-            let k : key v ≡ routeKey (I .dist w e) e v = from-neighbour I w v (view v) p ∙ ap (toldKey I w v) q ∙ told-egress I w v e in
+            let k : key v ≡ routeKey (N .to e) e v = from-neighbour N I w v (view v) p ∙ ap (toldKey N v) q ∙ told-egress N v e in
             record {
               egress = e;
               router = b;
-              hears-it = hears-intro I view w v e p q (near-way e (omega (arith, key-is (I .dist w e) e v)));
+              hears-it = hears-intro I view w v e p q (near-way e (omega (arith, key-is (N .to e) e v)));
             }
 
     -- the route of the least key is the choice
     abbrev least : ℕ
-    least = leastKey I w view (I .n)
+    least = leastKey N I w view (I .n)
 
-    none-chosen : noKey ≤ least → ChoiceIs (prefers I w) (hears I view w) (I .n) nothing
+    none-chosen : noKey N ≤ least → ChoiceIs (prefers I w) (hears I view w) (I .n) nothing
     none-chosen l v f m b = go (hears I view w v f) refl
       where
         go : (a : Bool) → hears I view w v f ≡ a → hears I view w v f ≡ false
@@ -235,25 +239,33 @@ module _ (I : Instance) (w : ℕ) (view : ℕ → Route) where
       e = x .egress
 
       -- no key that is heard is lower
-      unbeaten : (v f : ℕ) → v < I .n → hears I view w v f ≡ true → routeKey (I .dist w e) e s ≤ routeKey (I .dist w f) f v
+      unbeaten : (v f : ℕ) → v < I .n → hears I view w v f ≡ true → routeKey (N .to e) e s ≤ routeKey (N .to f) f v
       unbeaten v f m h = omega (arith, least-le (I .n) v m, heard-key s e (x .hears-it), heard-key v f h)
+
+      way-e : I .way w e ≡ true
+      way-e = hears-way I view w s e (x .hears-it)
 
       preferred : (v f : ℕ) → v < I .n → f < I .n → hears I view w v f ≡ true → prefers I w f e ≡ false
       preferred v f m b h =
-          let near : I .dist w e * 65536 + e * 256 ≤ I .dist w f * 65536 + f * 256 + 64 =
-          omega (arith, unbeaten v f m h, key-is (I .dist w e) e s, key-is (I .dist w f) f v, mark-below f v (omega arith)) in
-          go near (lt-or-le (I .dist w e) (I .dist w f))
+          let near : N .to e * 65536 + e * 256 ≤ N .to f * 65536 + f * 256 + 64 =
+          omega (arith, unbeaten v f m h, key-is (N .to e) e s, key-is (N .to f) f v, mark-below f v (omega arith)) in
+          go near (lt-or-le (N .to e) (N .to f))
         where
-          go : I .dist w e * 65536 + e * 256 ≤ I .dist w f * 65536 + f * 256 + 64
-              → (I .dist w e < I .dist w f) ⊎ (I .dist w f ≤ I .dist w e) → prefers I w f e ≡ false
-          go near (inl d) = prefers-farther I w f e d
+          to-e : I .dist w e ≡ N .to e
+          to-e = far e way-e
+
+          to-f : I .dist w f ≡ N .to f
+          to-f = far f (hears-way I view w v f h)
+
+          go : N .to e * 65536 + e * 256 ≤ N .to f * 65536 + f * 256 + 64 → (N .to e < N .to f) ⊎ (N .to f ≤ N .to e) → prefers I w f e ≡ false
+          go near (inl d) = prefers-farther I w f e (omega (arith, to-e, to-f))
           go near (inr d) =
-              let same-far : I .dist w f ≡ I .dist w e = omega arith in
+              let same-far : I .dist w f ≡ I .dist w e = omega (arith, to-e, to-f) in
               prefers-tie I w f e same-far ∙ le-ltb f e (omega arith)
 
       -- of the same egress, the sender's mark is the least
       marked : (v : ℕ) → v < I .n → hears I view w v e ≡ true → senderMark e s ≤ senderMark e v
-      marked v m h = omega (arith, unbeaten v e m h, key-is (I .dist w e) e s, key-is (I .dist w e) e v)
+      marked v m h = omega (arith, unbeaten v e m h, key-is (N .to e) e s, key-is (N .to e) e v)
 
       itself : hears I view w e e ≡ true → (e ≡ s) ⊎ (e ≡ s → ⊥) → s ≡ e
       itself h (inl q) = sym q
@@ -277,23 +289,23 @@ module _ (I : Instance) (w : ℕ) (view : ℕ → Route) where
             lowest = lowest;
           }
 
-      key-chosen : keyRoute least ≡ via e s
+      key-chosen : keyRoute N least ≡ via e s
       key-chosen =
-          ap keyRoute (same ∙ heard-key s e (x .hears-it))
-          ∙ key-back (I .dist w e) e s (omega (arith, x .router)) (omega arith) (way-near e (hears-way I view w s e (x .hears-it)))
+          ap (keyRoute N) (same ∙ heard-key s e (x .hears-it))
+          ∙ key-back (N .to e) e s (omega (arith, x .router)) (omega arith) N (way-near e way-e)
 
-    pub least-choice : I .listed w ≡ false → keyRoute least ≡ choose I w view
-    least-choice p = go (lt-or-le least noKey)
+    pub least-choice : I .listed w ≡ false → keyRoute N least ≡ choose I w view
+    least-choice p = go (lt-or-le least (noKey N))
       where
         is-choice : (x : Route) → ChoiceIs (prefers I w) (hears I view w) (I .n) x → x ≡ choose I w view
         is-choice x h = choice-unique (prefers I w) (hears I view w) (I .n) (prefers-order I w) x (choose I w view) h (choose-is I w view p)
 
-        go : (least < noKey) ⊎ (noKey ≤ least) → keyRoute least ≡ choose I w view
+        go : (least < noKey N) ⊎ (noKey N ≤ least) → keyRoute N least ≡ choose I w view
         go (inl l) =
             let f : Least (I .n) = least-at (I .n) l in
             let x : Heard (f .at) = low-heard (f .at) (f .below) (omega (arith, f .same)) in
             key-chosen (f .at) (f .below) (f .same) x ∙ is-choice (via (x .egress) (f .at)) (chosen (f .at) (f .below) (f .same) x)
-        go (inr l) = key-none least l ∙ is-choice nothing (none-chosen l)
+        go (inr l) = key-none N least l ∙ is-choice nothing (none-chosen l)
 
 -- a route in two bytes that names routers below n
 module _ (n e s : ℕ) (small : n ≤ 64) (b : RouteBelow n (readRoute e s)) where

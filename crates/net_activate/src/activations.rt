@@ -4,20 +4,18 @@
 use net_rules::NO_ROUTER;
 use net_rules::Network;
 use net_tables::RouteBytes;
-use plan_distances::NO_WAY;
 ghost use mathlib.Core.Path.{_≡_};
 ghost use mathlib.Core.Bool.{cond};
 ghost use mathlib.Core.List.{List};
 ghost use mathlib.Core.Option.{none, some};
-ghost use Prim.Native.Nat.{ℕ, _*_, _≤_, _<_, min, max};
-ghost use lib.ListN.{length};
+ghost use Prim.Native.Nat.{ℕ, _+_, _*_, _≤_, _<_, min, max};
 ghost use Rattle.base.specs.Bits.{bitN};
-ghost use Rattle.plan_rules.specs.Distances.{distanceIn};
+ghost use Rattle.plan_rules.specs.Distances.{highest, numberAt, TwoOrFour, DistanceTable};
 ghost use Rattle.route_rules.specs.Instance.{via};
 ghost use Rattle.route_rules.specs.Activation.{reflects, advertises};
 ghost use Rattle.net_rules.specs.Decoded.{decoded, instance};
 ghost use Rattle.net_tables.specs.TableBytes.{RouteBelow, RoutesIn, TableIn, routeAt, routeOf, activateBytes};
-ghost use Rattle.net_activate.specs.OnePass.{senderMark, routeKey, toldKey, leastKey, keyRoute};
+ghost use Rattle.net_activate.specs.OnePass.{senderMark, routeKey, Numbers, numbersOf, noKey, toldKey, leastKey, keyRoute};
 ghost use Rattle.net_rules.specs.WellFormed.{WellFormed};
 
 // A key holds the sender's mark in its lowest byte, then the egress in a byte, then the distance.
@@ -25,8 +23,14 @@ const EGRESS_PLACE: usize = 256;
 
 const DISTANCE_PLACE: usize = 65536;
 
-// Where there is no way, no way is the distance: such a route's key is not lower than this one, and with a way it is lower.
-const NO_KEY: usize = NO_WAY * DISTANCE_PLACE;
+// A route without a way has a key that is not lower than this one, and with a way it is lower: the highest number of a distance's bytes is
+// no way.
+fn no_key(width: usize) -> usize
+    requires { ⌜ TwoOrFour width ⌝ }
+    ensures { λ r. ⌜ r ≡ highest width * 65536 ⌝ }
+{
+    plan_distances::highest(width) * DISTANCE_PLACE
+}
 
 // Of several senders of one egress, that egress itself has the least mark, then the lowest.
 fn sender_mark(egress: usize, sender: usize) -> usize
@@ -40,19 +44,26 @@ fn sender_mark(egress: usize, sender: usize) -> usize
 }
 
 // At w, the key of the route to an egress from a sender.
-fn route_key(distances: &[u8], n: usize, w: usize, egress: usize, sender: usize) -> usize
-    requires { ⌜ (w < n) × (egress < n) × (sender < n) × (n ≤ 64) × (2 * (n * n) ≤ length (now distances)) ⌝ }
-    ensures { λ r. ⌜ r ≡ routeKey (distanceIn (now (distances .entry)) n w egress) egress sender ⌝ }
+fn route_key(
+    distances: &[u8],
+    width: usize,
+    n: usize,
+    w: usize,
+    egress: usize,
+    sender: usize,
+) -> usize
+    requires { ⌜ (w < n) × (egress < n) × (sender < n) × (n ≤ 64) × DistanceTable width (now distances) n ⌝ }
+    ensures { λ r. ⌜ r ≡ routeKey (numberAt width (now (distances .entry)) (w * n + egress)) egress sender ⌝ }
 {
-    let distance = plan_distances::distance(distances, n, w, egress);
-    distance * DISTANCE_PLACE + egress * EGRESS_PLACE + sender_mark(egress, sender)
+    let number = plan_distances::number(distances, width, n, w, egress);
+    number * DISTANCE_PLACE + egress * EGRESS_PLACE + sender_mark(egress, sender)
 }
 
-// The route of a key.
-fn key_route(key: usize) -> RouteBytes
-    ensures { λ r. ⌜ routeOf r ≡ keyRoute key ⌝ }
+// The route of a key, where `none` is that of nothing.
+fn key_route(key: usize, none: usize) -> RouteBytes
+    ensures { λ r. ⌜ ((N : Numbers) → none ≡ noKey N → routeOf r ≡ keyRoute N key) ⌝ }
 {
-    if NO_KEY <= key {
+    if none <= key {
         return RouteBytes {
             egress: NO_ROUTER,
             sender: NO_ROUTER,
@@ -87,35 +98,50 @@ fn passes_on(net: Network, v: usize, sender: usize, w: usize) -> bool
     sender != w
 }
 
-// The key of what an unlisted reflector v, holding a route, passes on to w; NO_KEY is nothing. The distance is read before it is known
+// The key of what an unlisted reflector v, holding a route, passes on to w; `none` is nothing. The distance is read before it is known
 // whether the route is passed on: that compiles to code without a branch.
-fn reflected(net: Network, distances: &[u8], w: usize, v: usize, route: RouteBytes) -> usize
-    requires { ⌜ (net .n ≤ 64) × (w < net .n) × (v < net .n) × (2 * (net .n * net .n) ≤ length (now distances))
-        × RouteBelow (net .n) (routeOf route) ⌝ }
-    ensures { λ r. ⌜ ((rows : List ℕ) → r ≡ toldKey (decoded net rows (now (distances .entry))) w v
+fn reflected(
+    net: Network,
+    distances: &[u8],
+    w: usize,
+    v: usize,
+    route: RouteBytes,
+    none: usize,
+) -> usize
+    requires { ⌜ (net .n ≤ 64) × (w < net .n) × (v < net .n) × DistanceTable (net .width) (now distances) (net .n)
+        × RouteBelow (net .n) (routeOf route) × (none ≡ noKey (numbersOf net (now distances) w)) ⌝ }
+    ensures { λ r. ⌜ ((rows : List ℕ) → r ≡ toldKey (numbersOf net (now (distances .entry)) w) v
         (reflects (decoded net rows (now (distances .entry))) v (routeOf route) w)) ⌝ }
 {
     if route.egress == NO_ROUTER {
-        return NO_KEY;
+        return none;
     }
-    let key = route_key(distances, net.n, w, base::wide(route.egress), v);
+    let key = route_key(distances, net.width, net.n, w, base::wide(route.egress), v);
     if passes_on(net, v, base::wide(route.sender), w) {
         return key;
     }
-    NO_KEY
+    none
 }
 
-// The key of what router v, a listed router or a reflector, advertises to its neighbour w, holding a route; NO_KEY is nothing.
-fn advertised(net: Network, distances: &[u8], w: usize, v: usize, route: RouteBytes) -> usize
-    requires { ⌜ (net .n ≤ 64) × (w < net .n) × (v < net .n) × (2 * (net .n * net .n) ≤ length (now distances))
-        × RouteBelow (net .n) (routeOf route) × (max (bitN (net .listed) v) (bitN (net .reflectors) v) ≡ 1) ⌝ }
-    ensures { λ r. ⌜ ((rows : List ℕ) → r ≡ toldKey (decoded net rows (now (distances .entry))) w v
+// The key of what router v, a listed router or a reflector, advertises to its neighbour w, holding a route; `none` is nothing.
+fn advertised(
+    net: Network,
+    distances: &[u8],
+    w: usize,
+    v: usize,
+    route: RouteBytes,
+    none: usize,
+) -> usize
+    requires { ⌜ (net .n ≤ 64) × (w < net .n) × (v < net .n) × DistanceTable (net .width) (now distances) (net .n)
+        × RouteBelow (net .n) (routeOf route) × (max (bitN (net .listed) v) (bitN (net .reflectors) v) ≡ 1)
+        × (none ≡ noKey (numbersOf net (now distances) w)) ⌝ }
+    ensures { λ r. ⌜ ((rows : List ℕ) → r ≡ toldKey (numbersOf net (now (distances .entry)) w) v
         (advertises (decoded net rows (now (distances .entry))) v (routeOf route) w)) ⌝ }
 {
     if base::bits::has_bit(net.listed, v) {
-        return route_key(distances, net.n, w, v, v);
+        return route_key(distances, net.width, net.n, w, v, v);
     }
-    reflected(net, distances, w, v, route)
+    reflected(net, distances, w, v, route, none)
 }
 
 fn lesser(a: usize, b: usize) -> usize
@@ -127,18 +153,27 @@ fn lesser(a: usize, b: usize) -> usize
     a
 }
 
-// The least key advertised to w: of its neighbours only listed routers and reflectors advertise any.
-fn best_heard(net: Network, rows: &[u64; 64], distances: &[u8], w: usize, table: &[u8]) -> usize
-    requires { ⌜ WellFormed net (now rows) (now distances) × (w < net .n) × RoutesIn (net .n) (now table) ⌝ }
-    ensures { λ r. ⌜ r ≡ leastKey (instance net (rows .entry) (distances .entry)) w (routeAt (now (table .entry))) (net .n) ⌝ }
+// The least key advertised to w, `none` if nothing is: of its neighbours only listed routers and reflectors advertise any.
+fn best_heard(
+    net: Network,
+    rows: &[u64; 64],
+    distances: &[u8],
+    w: usize,
+    table: &[u8],
+    none: usize,
+) -> usize
+    requires { ⌜ WellFormed net (now rows) (now distances) × (w < net .n) × RoutesIn (net .n) (now table)
+        × (none ≡ noKey (numbersOf net (now distances) w)) ⌝ }
+    ensures { λ r. ⌜ r ≡ leastKey (numbersOf net (now (distances .entry)) w) (instance net (rows .entry) (distances .entry)) w
+        (routeAt (now (table .entry))) (net .n) ⌝ }
 {
-    let mut least = NO_KEY;
+    let mut least = none;
     let mut left = rows[w] & (net.listed | net.reflectors);
     while left != 0 {
         let v = base::bits::lowest_bit(left);
         least = lesser(
             least,
-            advertised(net, distances, w, v, net_tables::route_at(table, v)),
+            advertised(net, distances, w, v, net_tables::route_at(table, v), none),
         );
         left = base::bits::without_lowest(left);
     }
@@ -161,6 +196,7 @@ pub fn activate(net: Network, rows: &[u64; 64], distances: &[u8], w: usize, tabl
         );
         return;
     }
-    let best = key_route(best_heard(net, rows, distances, w, table));
+    let none = no_key(net.width);
+    let best = key_route(best_heard(net, rows, distances, w, table, none), none);
     net_tables::put_route(table, w, best);
 }

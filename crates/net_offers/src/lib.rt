@@ -8,9 +8,9 @@ use route_explain_rules::explanation::Rule;
 ghost use mathlib.Core.Path.{_≡_};
 ghost use mathlib.Core.Bool.{true};
 ghost use mathlib.Core.List.{List};
-ghost use Prim.Native.Nat.{ℕ, _*_, _≤_, _<_};
-ghost use lib.ListN.{length};
+ghost use Prim.Native.Nat.{ℕ, _≤_, _<_};
 ghost use Rattle.base.specs.Best.{keepBest};
+ghost use Rattle.plan_rules.specs.Distances.{DistanceTable};
 ghost use Rattle.route_rules.specs.Instance.{Instance, RouterBelow};
 ghost use Rattle.route_rules.specs.Preference.{prefers};
 ghost use Rattle.route_rules.specs.Reliance.{bestClient, offer};
@@ -31,18 +31,18 @@ fn listed_clients(net: Network, rows: &[u64; 64], v: usize) -> u64
 }
 
 // Of the best client so far and e, another, to which there may be no way.
-fn keep_client(distances: &[u8], n: usize, v: usize, e: usize, best: u8) -> u8
-    requires { ⌜ (v < n) × (e < n) × (n ≤ 64) × (2 * (n * n) ≤ length (now distances)) × RouterBelow n (asRouter best) ⌝ }
-    ensures { λ r. ⌜ ((I : Instance) → Measured I (now (distances .entry)) n
+fn keep_client(distances: &[u8], width: usize, n: usize, v: usize, e: usize, best: u8) -> u8
+    requires { ⌜ (v < n) × (e < n) × (n ≤ 64) × DistanceTable width (now distances) n × RouterBelow n (asRouter best) ⌝ }
+    ensures { λ r. ⌜ ((I : Instance) → Measured I width (now (distances .entry)) n
         → asRouter r ≡ keepBest (prefers I v) (I .way v e) e (asRouter best)) ⌝ }
 {
-    if !plan_distances::has_way(distances, n, v, e) {
+    if !plan_distances::has_way(distances, width, n, v, e) {
         return best;
     }
     if best == NO_ROUTER {
         return e as u8;
     }
-    if net_prefer::prefers(distances, n, v, e, base::wide(best)) {
+    if net_prefer::prefers(distances, width, n, v, e, base::wide(best)) {
         return e as u8;
     }
     best
@@ -56,7 +56,7 @@ pub fn best_client(net: Network, rows: &[u64; 64], distances: &[u8], v: usize) -
     let mut left = listed_clients(net, rows, v);
     while left != 0 {
         let e = base::bits::lowest_bit(left);
-        best = keep_client(distances, net.n, v, e, best);
+        best = keep_client(distances, net.width, net.n, v, e, best);
         left = base::bits::without_lowest(left);
     }
     best
@@ -101,18 +101,25 @@ pub fn offered(net: Network, v: usize, own: u8) -> u8
     own
 }
 
-// Rule 3 where w has a way to its neighbour's offer, and `own` is its own best client.
-fn against_own(distances: &[u8], n: usize, w: usize, offer: usize, own: u8) -> Explanation
-    requires { ⌜ (w < n) × (n ≤ 64) × (2 * (n * n) ≤ length (now distances)) × (offer < n) × RouterBelow n (asRouter own) ⌝ }
-    ensures { λ r. ⌜ ((I : Instance) → Measured I (now (distances .entry)) n → I .way w offer ≡ true → WayTo I w (asRouter own)
+// Rule 3 where w has a way to its neighbour's offer, and `own` is its own best client: the numbers of ways are their distances.
+fn against_own(
+    distances: &[u8],
+    width: usize,
+    n: usize,
+    w: usize,
+    offer: usize,
+    own: u8,
+) -> Explanation
+    requires { ⌜ (w < n) × DistanceTable width (now distances) n × (offer < n) × RouterBelow n (asRouter own) ⌝ }
+    ensures { λ r. ⌜ ((I : Instance) → Measured I width (now (distances .entry)) n → I .way w offer ≡ true → WayTo I w (asRouter own)
         → r ≡ againstOwn I w offer (asRouter own)) ⌝ }
 {
     if own == NO_ROUTER {
         return Explanation::Yes(Rule::AnyOffer(offer));
     }
     let client = base::wide(own);
-    let to_offer = plan_distances::distance(distances, n, w, offer);
-    let to_client = plan_distances::distance(distances, n, w, client);
+    let to_offer = plan_distances::number(distances, width, n, w, offer);
+    let to_client = plan_distances::number(distances, width, n, w, client);
     if net_prefer::nearer(to_offer, to_client, offer, client) {
         return Explanation::Yes(Rule::BetterOffer(
             offer,
@@ -124,20 +131,26 @@ fn against_own(distances: &[u8], n: usize, w: usize, offer: usize, own: u8) -> E
 }
 
 // Rule 3 on the offer of a neighbouring reflector, where `own` is the own best client of w.
-pub fn by_offer(distances: &[u8], n: usize, w: usize, offer: u8, own: u8) -> Explanation
-    requires { ⌜ (w < n) × (n ≤ 64) × (2 * (n * n) ≤ length (now distances))
-        × RouterBelow n (asRouter offer) × RouterBelow n (asRouter own) ⌝ }
-    ensures { λ r. ⌜ ((I : Instance) → Measured I (now (distances .entry)) n → WayTo I w (asRouter own)
+pub fn by_offer(
+    distances: &[u8],
+    width: usize,
+    n: usize,
+    w: usize,
+    offer: u8,
+    own: u8,
+) -> Explanation
+    requires { ⌜ (w < n) × DistanceTable width (now distances) n × RouterBelow n (asRouter offer) × RouterBelow n (asRouter own) ⌝ }
+    ensures { λ r. ⌜ ((I : Instance) → Measured I width (now (distances .entry)) n → WayTo I w (asRouter own)
         → r ≡ byOffer I w (asRouter offer) (asRouter own)) ⌝ }
 {
     if offer == NO_ROUTER {
         return Explanation::No(Reason::NoOffer);
     }
     let egress = base::wide(offer);
-    if !plan_distances::has_way(distances, n, w, egress) {
+    if !plan_distances::has_way(distances, width, n, w, egress) {
         return Explanation::No(Reason::NoWayToTheOffer);
     }
-    against_own(distances, n, w, egress, own)
+    against_own(distances, width, n, w, egress, own)
 }
 
 // Whether an answer is yes.

@@ -89,6 +89,7 @@ pub fn open_plan(plan: &[u8], checked: CheckedPlan, list: usize, rows: &mut [u64
     let listed = listed_word(list_numbers(plan, checked, list));
     Network {
         n,
+        width: checked.width as usize,
         reflectors: roles.reflectors,
         skips: roles.skips,
         listed,

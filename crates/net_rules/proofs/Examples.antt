@@ -1,7 +1,7 @@
 -- The examples, worked out from the bytes.
 use mathlib.Core.Path.{refl}
 use Rattle.base.specs.Below.{anyBelow}
-use Rattle.plan_examples.specs.Plans.{threeRouters}
+use Rattle.plan_examples.specs.Plans.{threeRouters, wideEnds}
 use Rattle.plan_rules.specs.Sessions.{pairs, inSession}
 use Rattle.plan_rules.specs.Lists.{listPlace}
 use Rattle.net_rules.specs.FromPlan.{named}
@@ -9,7 +9,7 @@ use Rattle.net_rules.specs.RouterBytes.{asRouter}
 use Rattle.net_rules.specs.Examples.{NetworkExamples}
 
 pub network-examples : NetworkExamples
-unfolding threeRouters pairs inSession named listPlace anyBelow asRouter
+unfolding threeRouters wideEnds pairs inSession named listPlace anyBelow asRouter
 network-examples =
     record {
       count = refl;
@@ -27,6 +27,12 @@ network-examples =
       wayBack = refl;
       otherWays = refl;
       longWay = refl;
+      wideDistance = refl;
+      wideFarthest = refl;
+      twoBytesFull = refl;
+      twoBytesFullIsAWay = refl;
+      wideNoWay = refl;
+      wideWayOn = refl;
       listed = refl;
       notByPosition = refl;
       ofTheListAsked = refl;

@@ -11,10 +11,11 @@ use lib.ListN.{length, getD}
 use Rattle.base.proofs.Below.{Witness, any-at}
 use Rattle.base.proofs.Numbers.{eq-or-ne}
 use Rattle.plan_contents.specs.Header.{routerCount}
-use Rattle.plan_contents.specs.Contents.{routersBody, sessionsBody, distancesBody}
+use Rattle.plan_contents.specs.Contents.{routersBody, sessionsBody}
 use Rattle.plan_rules.specs.Routers.{role}
 use Rattle.plan_rules.specs.Sessions.{sessionCount, sessionFirst, sessionSecond, pairs, inSession}
 use Rattle.plan_rules.proofs.Neighbours.{pairs-are, session-swap}
+use Rattle.plan_rules.specs.Distances.{isWay}
 use Rattle.plan_rules.specs.EgressLists.{listCount, listNumbers}
 use Rattle.plan_rules.specs.Refusal.{planRefusal}
 use Rattle.plan_rules.specs.Passed.{Passed}
@@ -88,10 +89,6 @@ trusted plan k accepted l =
       neighbourBelow = λ w v h. neighbour-bounds plan p w v h .1;
       listedBelow = listed-below plan p k l;
       distanceOwn = p .distances .diagonal;
-      wayOwn = λ u l. ap (λ d. not (eqb d 65535)) (p .distances .diagonal u l);
+      wayOwn = λ u l. ap isWay (p .distances .diagonal u l);
       roles = roles plan p k;
     }
-
--- the body of kind 3 has a distance for every pair
-pub distances-length : (plan : List ℕ) → planRefusal plan ≡ 0 → length (distancesBody plan) ≡ 2 * (routerCount plan * routerCount plan)
-distances-length plan h = part-length plan (passed plan h) 2 (lit< tt) ∙ passed plan h .contents .distancesSize

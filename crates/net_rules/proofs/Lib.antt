@@ -1,4 +1,5 @@
 pub mod Examples
+pub mod FromConverted
 pub mod FromPlan
 pub mod Opened
 pub mod RouterBytes

@@ -1,28 +1,29 @@
 -- A plan opened with one of its lists.
 use Prim.Native.Nat.{ℕ, _<_}
 use native.Mathlib.Omega.{arith}
-use mathlib.Core.Path.{_≡_, _∙_, sym}
+use mathlib.Core.Path.{_≡_, refl, _∙_, sym}
 use mathlib.Core.List.{List}
 use borrow.Author.Tests.{eq-eqb}
 use lib.Dec.{eqb}
 use Rattle.base.specs.Bits.{bitN, bits}
-use Rattle.plan_contents.specs.Header.{routerCount}
+use Rattle.plan_contents.specs.Header.{width, routerCount}
 use Rattle.plan_contents.specs.Contents.{routersBody, sessionsBody, distancesBody}
 use Rattle.plan_rules.specs.Routers.{reflectorIn}
 use Rattle.plan_rules.specs.Sessions.{inSession}
 use Rattle.plan_rules.specs.Distances.{distanceIn, wayIn}
 use Rattle.plan_rules.specs.EgressLists.{listCount, listNumbers}
 use Rattle.plan_rules.specs.Refusal.{planRefusal}
-use Rattle.plan_rules.proofs.Passed.{passed}
+use Rattle.plan_rules.proofs.Passed.{passed, distance-table}
 use Rattle.net_rules.specs.declared.Network.{Network}
 use Rattle.net_rules.specs.Decoded.{decoded}
 use Rattle.net_rules.specs.FromPlan.{skipsIn, named, instanceOf}
 use Rattle.net_rules.specs.Opened.{Opened}
-use Rattle.net_rules.proofs.FromPlan.{trusted, distances-length}
+use Rattle.net_rules.proofs.FromPlan.{trusted}
 
--- n, the words and the rows are read bit by bit from the bodies of a plan that is not refused, and from its list k below m
+-- n, the width, the words and the rows are read bit by bit from the bodies of a plan that is not refused, and from its list k below m
 module _ (plan : List ℕ) (k : ℕ) (accepted : planRefusal plan ≡ 0) (asked : k < listCount plan) (net : Network) (rows : List ℕ)
     (count : net .n ≡ routerCount plan)
+    (bytes : net .width ≡ width plan)
     (reflectors : (v : ℕ) → eqb (bitN (net .reflectors) v) 1 ≡ reflectorIn (routersBody plan) (routerCount plan) v)
     (skips : (v : ℕ) → eqb (bitN (net .skips) v) 1 ≡ skipsIn (routersBody plan) (routerCount plan) v)
     (neighbours : (w v : ℕ) → eqb (bits rows w v) 1 ≡ inSession (sessionsBody plan) w v)
@@ -35,8 +36,8 @@ module _ (plan : List ℕ) (k : ℕ) (accepted : planRefusal plan ≡ 0) (asked 
         reflector = λ v. reflectors v i;
         skips = λ v. skips v i;
         neighbour = λ w v. neighbours w v i;
-        dist = distanceIn (distancesBody plan) (count i);
-        way = wayIn (distancesBody plan) (count i);
+        dist = distanceIn (bytes i) (distancesBody plan) (count i);
+        way = wayIn (bytes i) (distancesBody plan) (count i);
         listed = λ v. listed v i;
       }
 
@@ -50,7 +51,7 @@ module _ (plan : List ℕ) (k : ℕ) (accepted : planRefusal plan ≡ 0) (asked 
             record {
               count = omega (arith, passed plan accepted .count .most);
               neighbours = λ w v b. rw count (t .neighbourBelow w v (sym (neighbours w v) ∙ eq-eqb _ 1 b));
-              pairs = rw (count, distances-length plan accepted) (omega arith);
+              pairs = distance-table plan accepted bytes refl count;
             };
         count = count;
       }

@@ -16,8 +16,8 @@ decoded net rows distances =
       reflector = λ v. eqb (bitN (net .reflectors) v) 1;
       skips = λ v. eqb (bitN (net .skips) v) 1;
       neighbour = λ w v. eqb (bits rows w v) 1;
-      dist = distanceIn distances (net .n);
-      way = wayIn distances (net .n);
+      dist = distanceIn (net .width) distances (net .n);
+      way = wayIn (net .width) distances (net .n);
       listed = λ v. eqb (bitN (net .listed) v) 1;
     }
 

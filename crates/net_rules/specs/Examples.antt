@@ -6,7 +6,7 @@ use mathlib.Core.Bool.{true, false}
 use mathlib.Core.Option.{none, some}
 use mathlib.Core.List.{List, [], _∷_}
 use lib.ListN.{set}
-use Rattle.plan_examples.specs.Plans.{threeRouters}
+use Rattle.plan_examples.specs.Plans.{threeRouters, wideEnds}
 use Rattle.route_rules.specs.Instance.{Instance}
 use Rattle.net_rules.specs.FromPlan.{instanceOf}
 use Rattle.net_rules.specs.RouterBytes.{asRouter}
@@ -28,6 +28,10 @@ withNoWay = instanceOf (set (set threeRouters 49 255) 50 255) 0
 
 abbrev pub withALongWay : Instance
 withALongWay = instanceOf (set (set threeRouters 49 254) 50 255) 0
+
+-- .. and an RRP2 plan
+abbrev pub wide : Instance
+wide = instanceOf wideEnds 0
 
 pub record NetworkExamples : Type 0 where
   -- "n, the number of routers"
@@ -51,6 +55,13 @@ pub record NetworkExamples : Type 0 where
   pub wayBack : withNoWay .way 2 0 ≡ true  -- by the distance back, or cut off both ways: false
   pub otherWays : withNoWay .way 0 1 ≡ true  -- a router cut off from all: false
   pub longWay : withALongWay .way 0 2 ≡ true  -- from 65,534 on: false
+  -- "4-byte distances, low byte first", "4,294,967,295 is no way"
+  pub wideDistance : wide .dist 2 0 ≡ 70000  -- by two bytes: 4,464
+  pub wideFarthest : wide .dist 0 1 ≡ 4294967294
+  pub twoBytesFull : wide .dist 0 2 ≡ 65535  -- no way by 65,535: 4,294,967,295
+  pub twoBytesFullIsAWay : wide .way 0 2 ≡ true  -- no way by 65,535: false
+  pub wideNoWay : wide .way 1 0 ≡ false  -- a very long way: true
+  pub wideWayOn : wide .way 1 2 ≡ true  -- every distance of that router, or by two bytes: false
   -- "c router numbers", of the list asked for
   pub listed : withList0 .listed 1 ≡ true
   pub notByPosition : withList0 .listed 0 ≡ false  -- by its place in the list: true

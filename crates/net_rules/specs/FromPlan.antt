@@ -1,5 +1,5 @@
--- The network of a plan with one of its lists (document 01, "The plan's bytes"; document 02, "Cut-off routers" and
--- "Reflectors that skip their own clients").
+-- The network of a plan with one of its lists (document 01, "The plan's bytes"; document 02, "Cut-off routers", "Reflectors that skip
+-- their own clients" and "Wider distances").
 use Prim.Native.Nat.{ℕ, _<_}
 use mathlib.Core.Path.{_≡_}
 use mathlib.Core.Bool.{Bool, true, false, _&&_}
@@ -8,7 +8,7 @@ use mathlib.Core.Logic.{_⊎_}
 use lib.Dec.{ltb, eqb}
 use lib.ListN.{length, getD}
 use Rattle.base.specs.Below.{anyBelow}
-use Rattle.plan_contents.specs.Header.{routerCount}
+use Rattle.plan_contents.specs.Header.{width, routerCount}
 use Rattle.plan_contents.specs.Contents.{routersBody, sessionsBody, distancesBody}
 use Rattle.plan_rules.specs.Routers.{role, reflectorIn}
 use Rattle.plan_rules.specs.Sessions.{inSession}
@@ -36,9 +36,9 @@ instanceOf plan k =
       -- "Two routers of a pair are neighbours."
       neighbour = inSession (sessionsBody plan);
       -- "row u, column e is the distance from u to e"
-      dist = distanceIn (distancesBody plan) (routerCount plan);
-      -- "The distance 65,535 off the diagonal now means 'no way'"
-      way = wayIn (distancesBody plan) (routerCount plan);
+      dist = distanceIn (width plan) (distancesBody plan) (routerCount plan);
+      -- "The distance 65,535 off the diagonal now means 'no way'"; with 4 bytes "4,294,967,295 is no way"
+      way = wayIn (width plan) (distancesBody plan) (routerCount plan);
       -- "c router numbers": those of list k
       listed = named (listNumbers plan k);
     }

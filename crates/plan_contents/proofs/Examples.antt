@@ -1,16 +1,17 @@
 -- The examples, worked out from the rules.
 use mathlib.Core.Path.{refl}
 use Rattle.plan_examples.specs.Plans.{firstOfTwelve}
-use Rattle.plan_contents.specs.Header.{headerOk, routerCountOk}
+use Rattle.plan_contents.specs.Header.{markOk, headerOk, routerCountOk}
 use Rattle.plan_contents.specs.Contents.{kindsOk, placesOk, sizesOk, contentsOk}
-use Rattle.plan_contents.specs.Examples.{otherCount, otherLetter, oneByteShort, entriesOf, fourEntries, sixAnd, LengthExamples, ContentsExamples}
+use Rattle.plan_contents.specs.Examples.{otherCount, otherMark, firstOfWide, oneByteShort, entriesOf, fourEntries, marked, LengthExamples, ContentsExamples}
 
 pub length-examples : LengthExamples
-unfolding sixAnd headerOk
-length-examples = record { longest = refl; oneByteLonger = refl }
+unfolding marked headerOk markOk
+length-examples =
+    record { longest = refl; oneByteLonger = refl; longestWide = refl; oneByteLongerWide = refl }
 
 pub contents-examples : ContentsExamples
-unfolding firstOfTwelve otherCount otherLetter oneByteShort entriesOf fourEntries headerOk routerCountOk kindsOk placesOk sizesOk contentsOk
+unfolding firstOfTwelve otherCount otherMark firstOfWide oneByteShort entriesOf fourEntries headerOk markOk routerCountOk kindsOk placesOk sizesOk contentsOk
 contents-examples =
     record {
       header = refl;
@@ -18,7 +19,10 @@ contents-examples =
       otherSecondLetter = refl;
       otherThirdLetter = refl;
       anotherCount = refl;
-      anotherLetter = refl;
+      anotherMark = refl;
+      wide = refl;
+      narrowWidth = refl;
+      wideWidth = refl;
       tooShort = refl;
       count = refl;
       sixtyFour = refl;
@@ -34,5 +38,8 @@ contents-examples =
       oddSessions = refl;
       routersShort = refl;
       distancesLong = refl;
+      wideSize = refl;
+      narrowSizeInAWidePlan = refl;
+      wideSizeInANarrowPlan = refl;
       part = refl;
     }

@@ -14,8 +14,8 @@ pub record Within (table : List Entry) (planLength : ℕ) : Type 0 where
   pub distances : end (distancesEntry table) ≤ planLength
   pub lists : end (listsEntry table) ≤ planLength
 
-pub bodies-within : (table : List Entry) (n planLength : ℕ) → Contents table n planLength → Within table planLength
-bodies-within table n planLength f = omega arith
+pub bodies-within : (table : List Entry) (width n planLength : ℕ) → Contents table width n planLength → Within table planLength
+bodies-within table width n planLength f = omega arith
 
 pub body-length : (plan : List ℕ) (e : Entry) → end e ≤ length plan → length (body plan e) ≡ e .size
 body-length plan e h = simp (length-take, length-drop) (omega arith)

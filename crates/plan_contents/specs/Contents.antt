@@ -53,16 +53,16 @@ placesOk table planLength =
     && eqb (listsEntry table .offset) (end (distancesEntry table))
     && eqb (end (listsEntry table)) planLength
 
--- "Kind 1, routers, 5n bytes", "Kind 2, sessions: pairs", "Kind 3, distances, 2n² bytes"
-unfoldable pub sizesOk : List Entry → ℕ → Bool
-sizesOk table n =
+-- "Kind 1, routers, 5n bytes", "Kind 2, sessions: pairs", "Kind 3, distances, 2n² bytes"; with 4-byte distances "kind 3 has 4n² bytes"
+unfoldable pub sizesOk : List Entry → ℕ → ℕ → Bool
+sizesOk table width n =
     eqb (routersEntry table .size) (5 * n)
     && eqb (sessionsEntry table .size % 2) 0
-    && eqb (distancesEntry table .size) (2 * (n * n))
+    && eqb (distancesEntry table .size) (width * (n * n))
 
 -- Row 3 refuses "a contents entry breaks its rule, kind 1 or 3 has another length, or kind 2 an odd one".
-unfoldable pub contentsOk : List Entry → ℕ → ℕ → Bool
-contentsOk table n planLength = kindsOk table && placesOk table planLength && sizesOk table n
+unfoldable pub contentsOk : List Entry → ℕ → ℕ → ℕ → Bool
+contentsOk table width n planLength = kindsOk table && placesOk table planLength && sizesOk table width n
 
 -- "Each body is read as a part of the plan that starts at its offset."
 abbrev pub body : List ℕ → Entry → List ℕ

@@ -94,9 +94,9 @@ fn places_ok(table: [Entry; 4], plan_length: usize) -> bool
     lists.offset as usize + lists.size as usize == plan_length
 }
 
-fn sizes_ok(table: [Entry; 4], n: usize) -> bool
-    requires { ⌜ n ≤ 64 ⌝ }
-    ensures { λ r. ⌜ r ≡ sizesOk table n ⌝ }
+fn sizes_ok(table: [Entry; 4], width: usize, n: usize) -> bool
+    requires { ⌜ (width ≤ 4) × (n ≤ 64) ⌝ }
+    ensures { λ r. ⌜ r ≡ sizesOk table width n ⌝ }
 {
     let routers = table[ROUTERS];
     if routers.size as usize != 5 * n {
@@ -107,12 +107,12 @@ fn sizes_ok(table: [Entry; 4], n: usize) -> bool
         return false;
     }
     let distances = table[DISTANCES];
-    distances.size as usize == 2 * (n * n)
+    distances.size as usize == width * (n * n)
 }
 
-pub fn contents_ok(table: [Entry; 4], n: usize, plan_length: usize) -> bool
-    requires { ⌜ n ≤ 64 ⌝ }
-    ensures { λ r. ⌜ r ≡ contentsOk table n «plan_length» ⌝ }
+pub fn contents_ok(table: [Entry; 4], width: usize, n: usize, plan_length: usize) -> bool
+    requires { ⌜ (width ≤ 4) × (n ≤ 64) ⌝ }
+    ensures { λ r. ⌜ r ≡ contentsOk table width n «plan_length» ⌝ }
 {
     if !kinds_ok(table) {
         return false;
@@ -120,7 +120,7 @@ pub fn contents_ok(table: [Entry; 4], n: usize, plan_length: usize) -> bool
     if !places_ok(table, plan_length) {
         return false;
     }
-    sizes_ok(table, n)
+    sizes_ok(table, width, n)
 }
 
 // An entry's body, as a part of the plan itself.

@@ -65,6 +65,22 @@ threeRouters =
     ∷ 2 ∷ 1 ∷ 2  -- list 1
     ∷ []
 
+-- Three clients without a session, in an RRP2 plan. From 0 it is 4,294,967,294 to 1 and 65,535 to 2; from 1 there is no way to 0, and it is
+-- 7 to 2; from 2 it is 70,000 to 0, which a reader of two bytes takes for 4,464, and 5,000 to 1.
+unfoldable pub wideEnds : List ℕ
+wideEnds =
+    82 ∷ 82 ∷ 80 ∷ 50 ∷ 3 ∷ 4
+    ∷ 1 ∷ 26 ∷ 0 ∷ 15 ∷ 0
+    ∷ 2 ∷ 41 ∷ 0 ∷ 0 ∷ 0
+    ∷ 3 ∷ 41 ∷ 0 ∷ 36 ∷ 0
+    ∷ 4 ∷ 77 ∷ 0 ∷ 3 ∷ 0
+    ∷ 2 ∷ 10 ∷ 0 ∷ 0 ∷ 0 ∷ 2 ∷ 20 ∷ 0 ∷ 0 ∷ 0 ∷ 2 ∷ 30 ∷ 0 ∷ 0 ∷ 0
+    ∷ 0 ∷ 0 ∷ 0 ∷ 0 ∷ 254 ∷ 255 ∷ 255 ∷ 255 ∷ 255 ∷ 255 ∷ 0 ∷ 0
+    ∷ 255 ∷ 255 ∷ 255 ∷ 255 ∷ 0 ∷ 0 ∷ 0 ∷ 0 ∷ 7 ∷ 0 ∷ 0 ∷ 0
+    ∷ 112 ∷ 17 ∷ 1 ∷ 0 ∷ 136 ∷ 19 ∷ 0 ∷ 0 ∷ 0 ∷ 0 ∷ 0 ∷ 0
+    ∷ 1 ∷ 1 ∷ 0
+    ∷ []
+
 -- The first 26 bytes of a plan of twelve routers with no session: the distances have 32 + 256 bytes, and the lists start at 118 + 256.
 unfoldable pub firstOfTwelve : List ℕ
 firstOfTwelve =

@@ -27,6 +27,10 @@ unfolding planChecks bodyChecks
 plan-cascade plan =
     one-more _ _ (one-more _ _ (one-more _ _ (one-more _ _ (one-more _ _ (one-more _ _ (one-more _ _ (one-more _ _ no-checks)))))))
 
+-- the plan's checks after that of its mark
+pub marked-cascade : (plan : List ℕ) (ok : Bool) → Cascade (λ rest. refuse ok 1 (planChecks plan rest))
+marked-cascade plan ok = one-more ok 0 (plan-cascade plan)
+
 pub refuse-passed : (ok : Bool) (number rest : ℕ) → refuse ok (suc number) rest ≡ 0 → (ok ≡ true) × (rest ≡ 0)
 unfolding refuse
 refuse-passed true number rest h = (refl, h)

@@ -7,11 +7,11 @@ use Rattle.plan_rules.specs.Sessions.{sessionOk, sessionsOk, pairs, inSe
 use Rattle.plan_rules.specs.Parents.{parentCount, fewParents, parentsOk}
 use Rattle.plan_rules.specs.Distances.{distancesOk}
 use Rattle.plan_rules.specs.Lists.{listPlace, memberOk, listAtOk, listOk, eachListOk, listsOk}
-use Rattle.plan_rules.specs.Examples.{aroundClient2, allWith2, listsOfOne, BodiesExamples}
+use Rattle.plan_rules.specs.Examples.{aroundClient2, allWith2, wideRow, listsOfOne, BodiesExamples}
 
 pub bodies-examples : BodiesExamples
 unfolding
-    aroundClient2 allWith2 listsOfOne
+    aroundClient2 allWith2 wideRow listsOfOne
     routerOk routersOk sessionOk sessionsOk pairs inSession parentCount fewParents parentsOk distancesOk
     listPlace memberOk listAtOk listOk eachListOk listsOk allBelow anyBelow count
 bodies-examples =
@@ -43,11 +43,23 @@ bodies-examples =
       highByte = refl;
       rowThenColumn = refl;
       farthest = refl;
+      farthestIsAWay = refl;
       noWay = refl;
+      noWayNumber = refl;
       wayBack = refl;
       cutOff = refl;
       diagonal = refl;
       cutOffFromItself = refl;
+      fourByteDistance = refl;
+      wideRowThenColumn = refl;
+      wideFarthest = refl;
+      wideFarthestIsAWay = refl;
+      wideNoWay = refl;
+      twoBytesFull = refl;
+      twoBytesFullIsAWay = refl;
+      wideCutOff = refl;
+      wideDiagonal = refl;
+      wideCutOffFromItself = refl;
       secondList = refl;
       itsNumber = refl;
       lastNumber = refl;

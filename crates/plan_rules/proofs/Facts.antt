@@ -73,14 +73,14 @@ module _ (s : List ℕ) where
       ))
 
 -- row 6
-module _ (s : List ℕ) (n : ℕ) where
-  pub distances-facts : distancesOk s n ≡ true → Distances s n
+module _ (width : ℕ) (s : List ℕ) (n : ℕ) where
+  pub distances-facts : distancesOk width s n ≡ true → Distances width s n
   unfolding distancesOk
-  distances-facts h = record { diagonal = λ u l. eqb-true _ 0 (all-at (diagonalOk s n) n h u l) }
+  distances-facts h = record { diagonal = λ u l. eqb-true _ 0 (all-at (diagonalOk width s n) n h u l) }
 
-  pub distances-holds : Distances s n → distancesOk s n ≡ true
+  pub distances-holds : Distances width s n → distancesOk width s n ≡ true
   unfolding distancesOk
-  distances-holds f = all-intro (diagonalOk s n) n (λ u l. eq-eqb _ 0 (f .diagonal u l))
+  distances-holds f = all-intro (diagonalOk width s n) n (λ u l. eq-eqb _ 0 (f .diagonal u l))
 
 -- row 7
 module _ (s : List ℕ) (n : ℕ) where

@@ -1,6 +1,11 @@
 pub mod Examples
+pub mod ConvertedExamples
+pub mod AllExamples
 pub mod Rising
 pub mod Facts
+pub mod Widths
+pub mod DistanceNumbers
+pub mod KindThree
 pub mod Neighbours
 pub mod Parents
 pub mod ListWalk
@@ -8,4 +13,11 @@ pub mod Refused
 pub mod Cascade
 pub mod Table
 pub mod Passed
+pub mod Longest
+pub mod ConverterRows
+pub mod ConvertedParts
+pub mod ConvertedDistances
+pub mod ConvertedPasses
+pub mod ConvertedBack
+pub mod Converted
 pub mod ListWithin

@@ -41,9 +41,9 @@ pub record FiveParents (routers sessions : List ℕ) (n : ℕ) : Type 0 where
   pub noClient : (k : ℕ) (l : k < 5) → role routers (parent k l) ≡ 2 → ⊥
   pub neighbour : (k : ℕ) (l : k < 5) → inSession sessions client (parent k l) ≡ true
 
--- row 6: the distance of every router to itself is 0
-pub record Distances (s : List ℕ) (n : ℕ) : Type 0 where
-  pub diagonal : (u : ℕ) → u < n → distanceIn s n u u ≡ 0
+-- row 6: the distance of every router to itself is 0, in bytes as many as the plan's distances have
+pub record Distances (width : ℕ) (s : List ℕ) (n : ℕ) : Type 0 where
+  pub diagonal : (u : ℕ) → u < n → distanceIn width s n u u ≡ 0
 
 -- one list, its count byte at `place`: 1 to n numbers below n, strictly rising, within the body
 pub record ListAt (s : List ℕ) (n place : ℕ) : Type 0 where

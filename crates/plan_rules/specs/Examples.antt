@@ -25,6 +25,10 @@ aroundClient2 =
 unfoldable pub allWith2 : List ℕ
 allWith2 = 0 ∷ 2 ∷ 1 ∷ 2 ∷ 2 ∷ 3 ∷ 2 ∷ 4 ∷ 2 ∷ 5 ∷ []
 
+-- the 4-byte distances of two routers: those bytes from 0 to 1, and 7 back
+unfoldable pub wideRow : (a b c d : ℕ) → List ℕ
+wideRow a b c d = 0 ∷ 0 ∷ 0 ∷ 0 ∷ a ∷ b ∷ c ∷ d ∷ 7 ∷ 0 ∷ 0 ∷ 0 ∷ 0 ∷ 0 ∷ 0 ∷ 0 ∷ []
+
 -- a body of so many lists, each of router 0 alone
 unfoldable pub listsOfOne : ℕ → List ℕ
 listsOfOne zero = []
@@ -63,16 +67,30 @@ pub record BodiesExamples : Type 0 where
   pub fiveOfARole3Reflector : parentsOk (set aroundClient2 10 3) allWith2 6 ≡ true  -- role 3 held to it too: false
   pub threeEach : parentsOk (set aroundClient2 15 2) (0 ∷ 2 ∷ 0 ∷ 3 ∷ 1 ∷ 2 ∷ 1 ∷ 3 ∷ 2 ∷ 4 ∷ 3 ∷ 5 ∷ []) 6 ≡ true  -- of all clients: false
   -- "row u, column e is the distance from u to e", two bytes, low byte first
-  pub highByte : distanceIn (0 ∷ 0 ∷ 2 ∷ 1 ∷ 7 ∷ 0 ∷ 0 ∷ 0 ∷ []) 2 0 1 ≡ 258  -- by the low byte: 2
-  pub rowThenColumn : distanceIn (0 ∷ 0 ∷ 2 ∷ 1 ∷ 7 ∷ 0 ∷ 0 ∷ 0 ∷ []) 2 1 0 ≡ 7  -- column, then row: 258
+  pub highByte : distanceIn 2 (0 ∷ 0 ∷ 2 ∷ 1 ∷ 7 ∷ 0 ∷ 0 ∷ 0 ∷ []) 2 0 1 ≡ 258  -- by the low byte: 2; high byte first: 513
+  pub rowThenColumn : distanceIn 2 (0 ∷ 0 ∷ 2 ∷ 1 ∷ 7 ∷ 0 ∷ 0 ∷ 0 ∷ []) 2 1 0 ≡ 7  -- column, then row: 258
   -- "0 to 65,534"; "The distance 65,535 off the diagonal now means 'no way'"
-  pub farthest : wayIn (0 ∷ 0 ∷ 254 ∷ 255 ∷ 7 ∷ 0 ∷ 0 ∷ 0 ∷ []) 2 0 1 ≡ true  -- below 65,534: false
-  pub noWay : wayIn (0 ∷ 0 ∷ 255 ∷ 255 ∷ 7 ∷ 0 ∷ 0 ∷ 0 ∷ []) 2 0 1 ≡ false  -- a very long way: true
-  pub wayBack : wayIn (0 ∷ 0 ∷ 255 ∷ 255 ∷ 7 ∷ 0 ∷ 0 ∷ 0 ∷ []) 2 1 0 ≡ true  -- cut off both ways: false
-  pub cutOff : distancesOk (0 ∷ 0 ∷ 255 ∷ 255 ∷ 7 ∷ 0 ∷ 0 ∷ 0 ∷ []) 2 ≡ true  -- 65,535 refused: false
+  pub farthest : distanceIn 2 (0 ∷ 0 ∷ 254 ∷ 255 ∷ 7 ∷ 0 ∷ 0 ∷ 0 ∷ []) 2 0 1 ≡ 65534  -- no way from 65,534 on: 4,294,967,295
+  pub farthestIsAWay : wayIn 2 (0 ∷ 0 ∷ 254 ∷ 255 ∷ 7 ∷ 0 ∷ 0 ∷ 0 ∷ []) 2 0 1 ≡ true  -- below 65,534: false
+  pub noWay : wayIn 2 (0 ∷ 0 ∷ 255 ∷ 255 ∷ 7 ∷ 0 ∷ 0 ∷ 0 ∷ []) 2 0 1 ≡ false  -- a very long way: true
+  pub noWayNumber : distanceIn 2 (0 ∷ 0 ∷ 255 ∷ 255 ∷ 7 ∷ 0 ∷ 0 ∷ 0 ∷ []) 2 0 1 ≡ 4294967295  -- as two bytes have it: 65,535
+  pub wayBack : wayIn 2 (0 ∷ 0 ∷ 255 ∷ 255 ∷ 7 ∷ 0 ∷ 0 ∷ 0 ∷ []) 2 1 0 ≡ true  -- cut off both ways: false
+  pub cutOff : distancesOk 2 (0 ∷ 0 ∷ 255 ∷ 255 ∷ 7 ∷ 0 ∷ 0 ∷ 0 ∷ []) 2 ≡ true  -- 65,535 refused: false
   -- "The diagonal is 0."; "refusal 6 covers 65,535 on the diagonal only"
-  pub diagonal : distancesOk (0 ∷ 0 ∷ 2 ∷ 1 ∷ 7 ∷ 0 ∷ 0 ∷ 1 ∷ []) 2 ≡ false  -- by the low byte: true
-  pub cutOffFromItself : distancesOk (0 ∷ 0 ∷ 2 ∷ 1 ∷ 7 ∷ 0 ∷ 255 ∷ 255 ∷ []) 2 ≡ false  -- 65,535 anywhere: true
+  pub diagonal : distancesOk 2 (0 ∷ 0 ∷ 2 ∷ 1 ∷ 7 ∷ 0 ∷ 0 ∷ 1 ∷ []) 2 ≡ false  -- by the low byte: true
+  pub cutOffFromItself : distancesOk 2 (0 ∷ 0 ∷ 2 ∷ 1 ∷ 7 ∷ 0 ∷ 255 ∷ 255 ∷ []) 2 ≡ false  -- 65,535 anywhere: true
+  -- "4-byte distances, low byte first, up to 4,294,967,294; 4,294,967,295 is no way"
+  pub fourByteDistance : distanceIn 4 (wideRow 4 3 2 1) 2 0 1 ≡ 16909060  -- high byte first: 67,305,985; cut to two bytes: 772
+  pub wideRowThenColumn : distanceIn 4 (wideRow 4 3 2 1) 2 1 0 ≡ 7
+  pub wideFarthest : distanceIn 4 (wideRow 254 255 255 255) 2 0 1 ≡ 4294967294
+  pub wideFarthestIsAWay : wayIn 4 (wideRow 254 255 255 255) 2 0 1 ≡ true  -- below 4,294,967,294: false
+  pub wideNoWay : wayIn 4 (wideRow 255 255 255 255) 2 0 1 ≡ false  -- a very long way: true
+  pub twoBytesFull : distanceIn 4 (wideRow 255 255 0 0) 2 0 1 ≡ 65535  -- no way by 65,535: 4,294,967,295
+  pub twoBytesFullIsAWay : wayIn 4 (wideRow 255 255 0 0) 2 0 1 ≡ true  -- no way by 65,535: false
+  pub wideCutOff : distancesOk 4 (wideRow 255 255 255 255) 2 ≡ true  -- 4,294,967,295 refused: false
+  -- "The diagonal is 0.", in all four bytes
+  pub wideDiagonal : distancesOk 4 (set (wideRow 4 3 2 1) 2 1) 2 ≡ false  -- by two bytes: true
+  pub wideCutOffFromItself : distancesOk 4 (0 ∷ 0 ∷ 0 ∷ 0 ∷ 7 ∷ 0 ∷ 0 ∷ 0 ∷ 7 ∷ 0 ∷ 0 ∷ 0 ∷ 255 ∷ 255 ∷ 255 ∷ 255 ∷ []) 2 ≡ false  -- no way anywhere: true
   -- "one byte m, 1 to 64, then m lists, each a count byte c from 1 to n and c router numbers below n, rising strictly"
   pub secondList : listPlace (2 ∷ 2 ∷ 0 ∷ 1 ∷ 1 ∷ 3 ∷ []) 1 ≡ 4  -- by lists of one number: 3
   pub itsNumber : member (2 ∷ 2 ∷ 0 ∷ 1 ∷ 1 ∷ 3 ∷ []) 4 0 ≡ 3  -- the count byte: 1

@@ -7,6 +7,10 @@ pub mod Lists
 pub mod BodyFacts
 pub mod Examples
 pub mod Refusal
+pub mod Converted
 pub mod Refused
 pub mod Passed
 pub mod EgressLists
+pub mod ConvertedFacts
+pub mod ConverterRows
+pub mod ConvertedExamples

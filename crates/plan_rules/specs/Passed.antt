@@ -4,7 +4,7 @@ use Prim.Native.Nat.{ℕ, _<_}
 use mathlib.Core.List.{List, [], _∷_}
 use mathlib.Core.Path.{_≡_}
 use lib.ListN.{length, getD}
-use Rattle.plan_contents.specs.Header.{routerCount}
+use Rattle.plan_contents.specs.Header.{width, routerCount}
 use Rattle.plan_contents.specs.Contents.{contentsOf, routersBody, sessionsBody, distancesBody, listsBody}
 use Rattle.plan_contents.specs.HeaderFacts.{Header, RouterCount, Contents}
 use Rattle.plan_rules.specs.BodyFacts.{Routers, Sessions, Parents, Distances, Lists}
@@ -13,11 +13,11 @@ use Rattle.plan_rules.specs.Refusal.{planRefusal}
 pub record Passed (plan : List ℕ) : Type 0 where
   pub header : Header plan
   pub count : RouterCount (routerCount plan)
-  pub contents : Contents (contentsOf plan) (routerCount plan) (length plan)
+  pub contents : Contents (contentsOf plan) (width plan) (routerCount plan) (length plan)
   pub routers : Routers (routersBody plan) (routerCount plan)
   pub sessions : Sessions (sessionsBody plan) (routerCount plan)
   pub parents : Parents (routersBody plan) (sessionsBody plan) (routerCount plan)
-  pub distances : Distances (distancesBody plan) (routerCount plan)
+  pub distances : Distances (width plan) (distancesBody plan) (routerCount plan)
   pub lists : Lists (listsBody plan) (routerCount plan)
 
 -- the numbers of the rows, in the table's order
@@ -29,11 +29,11 @@ abbrev pub tableFacts : List ℕ → List (Type 0)
 tableFacts plan =
     Header plan
     ∷ RouterCount (routerCount plan)
-    ∷ Contents (contentsOf plan) (routerCount plan) (length plan)
+    ∷ Contents (contentsOf plan) (width plan) (routerCount plan) (length plan)
     ∷ Routers (routersBody plan) (routerCount plan)
     ∷ Sessions (sessionsBody plan) (routerCount plan)
     ∷ Parents (routersBody plan) (sessionsBody plan) (routerCount plan)
-    ∷ Distances (distancesBody plan) (routerCount plan)
+    ∷ Distances (width plan) (distancesBody plan) (routerCount plan)
     ∷ Lists (listsBody plan) (routerCount plan)
     ∷ []
 

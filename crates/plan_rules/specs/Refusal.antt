@@ -4,7 +4,7 @@ use mathlib.Core.List.{List}
 use mathlib.Core.Bool.{Bool, true, false}
 use lib.ListN.{length}
 use Rattle.plan_contents.specs.declared.entries.Entry.{Entry}
-use Rattle.plan_contents.specs.Header.{headerOk, routerCount, routerCountOk}
+use Rattle.plan_contents.specs.Header.{headerOk, width, routerCount, routerCountOk}
 use Rattle.plan_contents.specs.Contents.{contentsOf, contentsOk, body, routersEntry, sessionsEntry, distancesEntry, listsEntry}
 use Rattle.plan_rules.specs.Routers.{routersOk}
 use Rattle.plan_rules.specs.Sessions.{sessionsOk}
@@ -18,12 +18,12 @@ refuse true number rest = rest
 refuse false number rest = number
 
 -- rows 4, 5, 13, 6 and 7: the four bodies, each read as its part of the plan
-unfoldable pub bodyChecks : List ℕ → List Entry → ℕ → ℕ → ℕ
-bodyChecks plan table n rest =
+unfoldable pub bodyChecks : List ℕ → List Entry → ℕ → ℕ → ℕ → ℕ
+bodyChecks plan table width n rest =
     refuse (routersOk (body plan (routersEntry table)) n) 4
     (refuse (sessionsOk (body plan (sessionsEntry table)) n) 5
     (refuse (parentsOk (body plan (routersEntry table)) (body plan (sessionsEntry table)) n) 13
-    (refuse (distancesOk (body plan (distancesEntry table)) n) 6
+    (refuse (distancesOk width (body plan (distancesEntry table)) n) 6
     (refuse (listsOk (body plan (listsEntry table)) n) 7 rest))))
 
 -- a plan's own checks in order, before those of a call, which are `rest`
@@ -31,8 +31,8 @@ unfoldable pub planChecks : List ℕ → ℕ → ℕ
 planChecks plan rest =
     refuse (headerOk plan) 1
     (refuse (routerCountOk (routerCount plan)) 2
-    (refuse (contentsOk (contentsOf plan) (routerCount plan) (length plan)) 3
-    (bodyChecks plan (contentsOf plan) (routerCount plan) rest)))
+    (refuse (contentsOk (contentsOf plan) (width plan) (routerCount plan) (length plan)) 3
+    (bodyChecks plan (contentsOf plan) (width plan) (routerCount plan) rest)))
 
 -- the number that a plan is refused with, 0 for none
 unfoldable pub planRefusal : List ℕ → ℕ

@@ -7,7 +7,7 @@ ghost use Rattle.plan_rules.specs.Refusal.{planRefusal};
 ghost use Rattle.call_run.specs.Activate.{Activates};
 ghost use Rattle.links_rules.specs.Distances.{DistancesCall};
 ghost use Rattle.c_rules.specs.Exports.{SizeExport, ListExport, CompareExport, ReliesExport, ExplainExport};
-ghost use Rattle.c_rules.specs.Exports.{VerdictExport, RunExport};
+ghost use Rattle.c_rules.specs.Exports.{VerdictExport, RunExport, WidenExport, NarrowExport};
 
 #[no_mangle]
 pub extern "C" fn rrp_check(plan: &[u8]) -> u8
@@ -143,4 +143,18 @@ pub extern "C" fn rrp_distances(n: usize, links: &[u8], out: &mut [u8]) -> u8
     ensures { λ r. ⌜ DistancesCall n (now (links .entry)) r (now (out .entry)) (now (out .exit)) ⌝ }
 {
     checker::distances(n, links, out)
+}
+
+#[no_mangle]
+pub extern "C" fn rrp_widen(plan: &[u8], out: &mut [u8], length: &mut u64) -> u8
+    ensures { λ r. ⌜ WidenExport (now (plan .entry)) r (lent out) (lent length) ⌝ }
+{
+    c_convert::widen(plan, out, length)
+}
+
+#[no_mangle]
+pub extern "C" fn rrp_narrow(plan: &[u8], out: &mut [u8], length: &mut u64) -> u8
+    ensures { λ r. ⌜ NarrowExport (now (plan .entry)) r (lent out) (lent length) ⌝ }
+{
+    c_convert::narrow(plan, out, length)
 }

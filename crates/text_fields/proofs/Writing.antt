@@ -4,35 +4,12 @@ use native.Mathlib.Numerals.{add-one}
 use native.Mathlib.Nat.{zero-add, add-zero, mul-suc}
 use native.Mathlib.Omega.{arith}
 use mathlib.Core.Path.{_≡_, refl, _∙_, sym, ap, ap₂}
-use mathlib.Core.List.{List, [], _∷_, _++_, append-assoc, append-nil}
-use lib.ListN.{length, take, drop, set, length-append, length-drop, take-append-drop}
-use lib.Seq.{set-split, append-snoc, take-at, drop-drop, drop-append-add, length-take-le}
-use Rattle.text_fields.specs.Buffer.{written, Put, AtFront}
-
-module _ (d : List ℕ) (at : ℕ) (s : List ℕ) (h : at + length s ≤ length d) where
-  -- the bytes that are written, after those before them, end at the next place
-  length-front : length (take at d ++ s) ≡ at + length s
-  length-front = length-append (take at d) s ∙ omega (arith, length-take-le at d (omega arith))
-
-  length-written : length (written d at s) ≡ length d
-  unfolding written
-  length-written =
-      length-append (take at d ++ s) (drop (at + length s) d) ∙ omega (arith, length-front, length-drop (at + length s) d)
-
-  written-then : (t : List ℕ) → written (written d at s) (at + length s) t ≡ written d at (s ++ t)
-  unfolding written
-  written-then t =
-      let k : ℕ = at + length s in
-      let p : List ℕ = take at d ++ s in
-      let far : k + length t ≡ at + length (s ++ t) = omega (arith, length-append s t) in
-      let after : drop (k + length t) (p ++ drop k d) ≡ drop (at + length (s ++ t)) d =
-      ap (λ n. drop (n + length t) (p ++ drop k d)) (sym length-front)
-      ∙ drop-append-add p (drop k d) (length t)
-      ∙ drop-drop (length t) k d
-      ∙ ap (λ n. drop n d) far
-      in
-      ap₂ (λ x y. x ++ t ++ y) (take-at p (drop k d) k length-front) after
-      ∙ ap (λ x. x ++ drop (at + length (s ++ t)) d) (append-assoc (take at d) s t)
+use mathlib.Core.List.{List, [], _∷_, _++_, append-nil}
+use lib.ListN.{length, take, drop, set, length-append, take-append-drop}
+use lib.Seq.{set-split, append-snoc}
+use Rattle.base.specs.Buffer.{written}
+use Rattle.base.proofs.Buffer.{length-written, written-then}
+use Rattle.text_fields.specs.Buffer.{Put, AtFront}
 
 module _ {d : List ℕ} {at : ℕ} where
   pub put-none : at ≤ length d → Put 0 d at [] d at

@@ -2,11 +2,8 @@
 use Prim.Native.Nat.{ℕ, _+_, _≤_}
 use mathlib.Core.Path.{_≡_}
 use mathlib.Core.List.{List, _++_}
-use lib.ListN.{length, take, drop}
-
--- the buffer with the bytes laid over it from `at` on
-unfoldable pub written : List ℕ → ℕ → List ℕ → List ℕ
-written buffer at bytes = take at buffer ++ bytes ++ drop (at + length bytes) buffer
+use lib.ListN.{length, drop}
+use Rattle.base.specs.Buffer.{written}
 
 -- bytes were written from `at` on, within the buffer, at most `room` of them, and `next` is the place after them
 pub record Put (room : ℕ) (buffer : List ℕ) (at : ℕ) (bytes after : List ℕ) (next : ℕ) : Type 0 where

@@ -25,13 +25,8 @@ pub fn put_bytes(out: &mut [u8], at: usize, bytes: &[u8]) -> usize
     requires { ⌜ at + length (now bytes) ≤ length (now out) ⌝ }
     ensures { λ r. ⌜ Put (length (now (bytes .entry))) (now (out .entry)) at (now (bytes .entry)) (now (out .exit)) r ⌝ }
 {
-    let mut next = at;
-    let mut i = 0;
-    while i < bytes.len() {
-        next = put_byte(out, next, bytes[i]);
-        i += 1;
-    }
-    next
+    base::write_bytes(out, at, bytes);
+    at + bytes.len()
 }
 
 // Writes a decimal digit.

@@ -2,8 +2,8 @@
 use mathlib.Core.Path.{refl}
 use Rattle.base.specs.Below.{allBelow, anyBelow}
 use Rattle.base.specs.Seek.{count}
-use Rattle.plan_examples.specs.Plans.{fourRouters}
-use Rattle.plan_contents.specs.Header.{headerOk, routerCountOk}
+use Rattle.plan_examples.specs.Plans.{fourRouters, wideEnds}
+use Rattle.plan_contents.specs.Header.{markOk, headerOk, routerCountOk}
 use Rattle.plan_contents.specs.Contents.{kindsOk, placesOk, sizesOk, contentsOk}
 use Rattle.plan_rules.specs.Routers.{routerOk, routersOk}
 use Rattle.plan_rules.specs.Sessions.{sessionOk, sessionsOk, pairs, inSession}
@@ -20,9 +20,9 @@ use Rattle.text_margin_rules.specs.Examples.{cutOff, MarginTextExamples}
 
 pub margin-text-examples : MarginTextExamples
 unfolding
-    fourRouters cutOff marginText compareLine marginOf refusedLine marginLine noneLine spaced digits decimal compareRefusal
+    fourRouters wideEnds cutOff marginText compareLine marginOf refusedLine marginLine noneLine spaced digits decimal compareRefusal
     refuse bodyChecks planChecks
-    headerOk routerCountOk kindsOk placesOk sizesOk contentsOk routerOk routersOk sessionOk sessionsOk
+    markOk headerOk routerCountOk kindsOk placesOk sizesOk contentsOk routerOk routersOk sessionOk sessionsOk
     pairs inSession parentCount fewParents parentsOk count distancesOk
     listPlace memberOk listAtOk listOk eachListOk listsOk allBelow anyBelow
 margin-text-examples =
@@ -33,6 +33,9 @@ margin-text-examples =
       equalDistances = refl;
       least = refl;
       greatest = refl;
+      wideLeast = refl;
+      wideGreatest = refl;
+      wideNoWay = refl;
       noWayToTheFirst = refl;
       noWayToTheSecond = refl;
       noWayToEither = refl;

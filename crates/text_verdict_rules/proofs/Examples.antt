@@ -5,7 +5,7 @@ use Rattle.base.specs.Best.{keepBest, best}
 use Rattle.base.specs.Seek.{seek, highest, count}
 use Rattle.base.specs.Tab.{tab}
 use Rattle.plan_examples.specs.Plans.{fourRouters, smallPlan}
-use Rattle.plan_contents.specs.Header.{headerOk, routerCountOk}
+use Rattle.plan_contents.specs.Header.{markOk, headerOk, routerCountOk}
 use Rattle.plan_contents.specs.Contents.{kindsOk, placesOk, sizesOk, contentsOk}
 use Rattle.plan_rules.specs.Routers.{routerOk, routersOk}
 use Rattle.plan_rules.specs.Sessions.{sessionOk, sessionsOk, pairs, inSession}
@@ -32,7 +32,7 @@ unfolding
     planText listLines listLine headLine refusedLine stableLine suspectLine spaced digits decimal
     isStable highestOf cycleOf start next walk metAgainAt metFirstAt repeatedPart cycleIn cycle rankOver ranksByChains rank together label stable grouped closing
     listedClientOf bestClient offer betterOffer relies prefers pairs inSession named refuse bodyChecks planChecks planRefusal
-    headerOk routerCountOk kindsOk placesOk sizesOk contentsOk routerOk routersOk sessionOk sessionsOk
+    markOk headerOk routerCountOk kindsOk placesOk sizesOk contentsOk routerOk routersOk sessionOk sessionsOk
     parentCount fewParents parentsOk count distancesOk
     listPlace memberOk listAtOk listOk eachListOk listsOk allBelow anyBelow keepBest best seek highest tab
 text-examples = refl

@@ -6,7 +6,8 @@ from argparse import ArgumentParser, Namespace
 
 from ..columns import left, widest
 from ..effects import Effect, effect_on
-from ..output import sizes, sizes_line, verdict_lines, verdict_values, verdict_words
+from ..encoding import NARROW, WIDE, longest
+from ..output import plan_line, plan_values, verdict_lines, verdict_values, verdict_words
 from ..output import write_json, write_notes
 from ..plan import Plan, Verdict
 
@@ -47,10 +48,10 @@ def _run_plain(options: Namespace) -> tuple[Verdict, ...]:
     verdicts = plan.verdicts()
     if options.json:
         lists = [{"list": verdict.name, **verdict_values(verdict)} for verdict in verdicts]
-        write_json({"plan": plan.source, "sizes": sizes(plan), "lists": lists, "notes": plan.notes})
+        write_json({**plan_values(plan), "lists": lists, "notes": plan.notes})
     else:
         write_notes(plan.notes)
-        print(sizes_line(plan))
+        print(plan_line(plan))
         _print_rows([row for each in verdicts for row in _rows(each)])
     return verdicts
 
@@ -65,13 +66,16 @@ def _run_changed(options: Namespace) -> tuple[Verdict, ...]:
     effects = [effect_on(name, plan, changed) for name in changed.lists]
     if options.json:
         lists = [{"list": each.after.name, **each.values()} for each in effects]
-        answer = {"plan": changed.source, "changes": options.set, "sizes": sizes(changed)}
+        answer = {**plan_values(changed), "mark_before": plan.mark, "changes": options.set}
         write_json({**answer, "lists": lists, "notes": changed.notes})
     else:
         write_notes(changed.notes)
-        print(sizes_line(changed))
+        print(plan_line(changed))
         for text in options.set:
             print(f"with {' '.join(text.split())}")
+        if plan.mark != changed.mark:
+            why = f"{'a' if changed.width == WIDE else 'no'} distance is above {longest(NARROW):,}"
+            print(f"the plan is then {changed.mark} and no longer {plan.mark}, as {why}")
         _print_rows([row for each in effects for row in _effect_rows(each)])
     return tuple(each.after for each in effects)
 

@@ -2,28 +2,36 @@
 
 from __future__ import annotations
 
-import sys
 from argparse import ArgumentParser, Namespace
 
-from ..errors import RrpError
+from ..encoding import NARROW, WIDE, longest
 from ..files import keep_input, write_file
-from ..output import sizes_line, write_json, write_notes
+from ..output import bytes_for_output, sizes_line, write_json, write_notes
 from ..plan import Plan
+
+_RRP1, _RRP2 = f"{longest(NARROW):,}", f"{longest(WIDE):,}"
 
 
 def arguments(parser: ArgumentParser) -> None:
     """Adds what `pack` takes."""
     parser.add_argument("plan", metavar="PLAN", help="a plan in text; - is standard input")
     parser.add_argument("-o", "--output", metavar="OUT", default="-", help="the file to write")
+    wide = "write RRP2 also where RRP1 would do, as the statement wide in the plan does"
+    parser.add_argument("--wide", action="store_true", help=wide)
+    parser.epilog = (
+        f"The bytes start RRP1, if no distance is above {_RRP1} and RRP2 is not asked for, else "
+        f"RRP2, which holds distances up to {_RRP2}. Exit status: 0 written; 2 error."
+    )
 
 
 def run(options: Namespace) -> int:
     """Writes the bytes of a plan."""
     plan = Plan.read(options.plan)
     keep_input(options.plan, options.output)
+    bytes_for_output(options)
+    if options.wide and plan.width == NARROW:
+        plan = plan.widened()
     to_output = options.output == "-"
-    if to_output and sys.stdout.isatty() and not options.json:
-        raise RrpError("a plan's bytes are not for a terminal: name a file with -o")
     if not to_output or not options.json:
         write_file(options.output, plan.data)
     if options.json:
@@ -31,13 +39,21 @@ def run(options: Namespace) -> int:
     else:
         write_notes(plan.notes)
         if not to_output:
-            print(f"{options.output}: {len(plan.data)} bytes, from {sizes_line(plan)}")
+            size = f"{len(plan.data)} bytes of {plan.mark}"
+            print(f"{options.output}: {size}, from {sizes_line(plan)}")
+            _print_why(plan)
     return 0
+
+
+def _print_why(plan: Plan) -> None:
+    """Why a plan has to be RRP2, if it has to."""
+    for start, end, way in plan.too_far_for_rrp1()[:1]:
+        print(f"    RRP2, as it is {way:,} from {start} to {end}, and RRP1 goes up to {_RRP1}")
 
 
 def _write_values(plan: Plan, output: str | None) -> None:
     """The names by number, which the bytes lack; and the bytes themselves, if no file has them."""
-    values = {"plan": plan.source, "output": output, "length": len(plan.data)}
+    values = {"plan": plan.source, "mark": plan.mark, "output": output, "length": len(plan.data)}
     if output is None:
         values["bytes"] = plan.data.hex()
     write_json({**values, "routers": plan.routers, "lists": plan.lists, "notes": plan.notes})

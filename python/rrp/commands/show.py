@@ -9,7 +9,7 @@ from textwrap import wrap
 
 from ..accounts import Account, account
 from ..columns import left, right, widest
-from ..output import sizes, sizes_line, verdict_lines, verdict_values, verdict_words
+from ..output import plan_line, plan_values, verdict_lines, verdict_values, verdict_words
 from ..output import without_route_lines, write_json, write_notes
 from ..plan import Plan, Verdict
 from ..remedies import Remedy, recommended, smallest_remedy
@@ -28,7 +28,8 @@ def arguments(parser: ArgumentParser) -> None:
     parser.add_argument("list", metavar="LIST", nargs="?", help=which)
     parser.epilog = (
         "Routers that a stable list leaves without a route are named. A change that is shown was "
-        "tried, and there is no smaller one of one distance. Exit "
+        "tried, and there is no smaller one of one distance that a plan of the same mark holds: up "
+        "to 65,534 in RRP1, 4,294,967,294 in RRP2. Exit "
         "status: 0 the list is stable, or all are where none is given; 1 suspect; 2 error."
     )
 
@@ -55,10 +56,10 @@ def _show_lists(plan: Plan, options: Namespace) -> int:
             {"list": each.name, "routers": plan.egresses(each.name), **verdict_values(each)}
             for each in verdicts
         ]
-        write_json({"plan": plan.source, "sizes": sizes(plan), "lists": lists, "notes": plan.notes})
+        write_json({**plan_values(plan), "lists": lists, "notes": plan.notes})
     else:
         write_notes(plan.notes)
-        print(sizes_line(plan))
+        print(plan_line(plan))
         width = widest(["list", *plan.lists])
         print(f"{left('list', width)}  verdict  routers")
         for each in verdicts:

@@ -41,6 +41,7 @@ def values(plan: Plan) -> dict[str, object]:
     rows = zip(plan.routers, plan.model.distances)
     return {
         "plan": plan.source,
+        "mark": plan.mark,
         "routers": routers,
         "sessions": plan.sessions,
         "distances": {name: dict(zip(plan.routers, row)) for name, row in rows},

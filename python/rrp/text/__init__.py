@@ -20,7 +20,7 @@ def decode_text(data: bytes, filename: str) -> str:
         rest = data[failure.start :].split(b"\n", 1)[0].decode("utf-8", "replace")
         number, start = before.count("\n") + 1, before.rpartition("\n")[2]
         word = Word("?", Line(filename, number, start + rest), len(start) + 1)
-        advice = "a plan is text in UTF-8, or bytes that start with RRP1"
+        advice = "a plan is text in UTF-8, or bytes that start with RRP1 or RRP2"
         raise TextErrors([Problem(word, "here the file is no text", advice)]) from None
 
 

@@ -10,7 +10,7 @@ from collections.abc import Iterable
 from math import gcd
 
 from .. import encoding, library
-from ..encoding import CLIENT, Model, Rows
+from ..encoding import CLIENT, NARROW, WIDE, Model, Rows, longest
 from ..errors import cut_names
 from ..plan import Plan
 from .draft import Draft, Way
@@ -32,13 +32,15 @@ def assemble(draft: Draft) -> Plan:
 
 
 def _model(draft: Draft, names: list[str]) -> Model:
-    numbers = _numbers(names)
+    """The model of a draft: RRP2 where that is stated, or where a distance is too far for RRP1."""
+    numbers, distances = _numbers(names), _distances(draft, names)
     return Model(
         roles=[draft.routers[name].role for name in names],
         identifiers=[draft.routers[name].identifier for name in names],
         sessions=_sessions(draft.sessions, numbers),
-        distances=_distances(draft, names),
+        distances=distances,
         lists=[sorted(numbers[name] for name in each.routers) for each in draft.lists.values()],
+        width=encoding.width_for(distances) if draft.wide is None else WIDE,
     )
 
 
@@ -95,8 +97,9 @@ def _too_far(draft: Draft, names: list[str]) -> Problem:
 
 def _nearer(draft: Draft, names: list[str]) -> str:
     """How to bring the sums down so that every comparison stays as it is."""
-    most, divisor = f"a distance is at most {library.MAX_DISTANCE:,}", _common_divisor(draft)
+    most, divisor = f"a sum of weights is at most {longest(NARROW):,}", _common_divisor(draft)
     never = "never round, or a suspect list may look stable"
+    stated = f"state distances in place of links, which may be up to {longest(WIDE):,}"
     divided = {
         ends: way._replace(value=way.value and way.value // divisor)
         for ends, way in draft.links.items()
@@ -104,12 +107,11 @@ def _nearer(draft: Draft, names: list[str]) -> str:
     try:
         _from_links(divided, names)
     except library.Refused:
-        keep = "that keep at each router what is nearer and what is as far"
         none = f"{most}, and no common divisor of the weights is enough"
-        return f"{none}: state distances in place of links,\n{keep}; {never}"
+        return f"{none}:\n{stated}; {never}"
     every = "every weight and distance" if draft.distances else "every weight"
     divide = f"divide {every} by a common divisor only, here by {divisor:,};"
-    return f"{most}: {divide}\n{never}; or state distances in place of links"
+    return f"{most}: {divide}\n{never};\nor {stated}"
 
 
 def _common_divisor(draft: Draft) -> int:
@@ -181,6 +183,22 @@ def _bad_lists(draft: Draft, model: Model) -> list[Problem]:
 
 
 def _notes(draft: Draft, names: list[str], model: Model) -> list[str]:
+    """What may be a slip of the pen."""
+    return [*_note_on_no_way(draft, names, model), *_note_on_65535(draft)]
+
+
+def _note_on_65535(draft: Draft) -> list[str]:
+    """A note on a distance of 65,535, by which RRP1 says no way, unless the plan is stated to be
+    RRP2."""
+    for (start, end), way in draft.distances.items():
+        if draft.wide is None and way.value == library.NO_WAY:
+            it_is = f"from {start} to {end} it is {way.value:,}"
+            advice = "write none for no way; if it is meant, add a line: wide"
+            return [cut_names(f"{it_is}, a distance that makes the plan RRP2: {advice}")]
+    return []
+
+
+def _note_on_no_way(draft: Draft, names: list[str], model: Model) -> list[str]:
     """A note on the pairs without a way, but for those that are stated to have none."""
     cut = {
         (start, end): None

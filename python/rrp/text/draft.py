@@ -33,7 +33,8 @@ class Draft:
     """A plan before it becomes bytes.
 
     A session is known by its two names in order. A link or a distance is known by the router that
-    it leads from and the one that it leads to.
+    it leads from and the one that it leads to. `wide` is where it is stated that the plan is to be
+    RRP2, None if it is not.
     """
 
     def __init__(self, file: str) -> None:
@@ -43,6 +44,7 @@ class Draft:
         self.links: dict[tuple[str, str], Way] = {}
         self.distances: dict[tuple[str, str], Way] = {}
         self.lists: dict[str, EgressList] = {}
+        self.wide: Word | None = None
 
     def copy(self) -> Draft:
         """A draft of the same content."""
@@ -52,6 +54,7 @@ class Draft:
         copied.links = dict(self.links)
         copied.distances = dict(self.distances)
         copied.lists = dict(self.lists)
+        copied.wide = self.wide
         return copied
 
     def ways(self, kind: str) -> dict[tuple[str, str], Way]:

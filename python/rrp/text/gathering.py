@@ -15,6 +15,7 @@ from .statements import (
     SessionStatement,
     Statement,
     WayStatement,
+    WideStatement,
 )
 from .words import Word
 
@@ -49,6 +50,8 @@ class Gathering:
             self._stated_session(statement)
         elif isinstance(statement, WayStatement):
             self._way(statement)
+        elif isinstance(statement, WideStatement):
+            self._wide(statement)
         else:
             self._list(statement)
 
@@ -159,6 +162,13 @@ class Gathering:
                 self.problem(start, message, advice)
                 return
             ways[ends] = Way(statement.value, start)
+
+    def _wide(self, statement: WideStatement) -> None:
+        if self.draft.wide is not None:
+            advice = f"{_line(self.draft.wide)} has it already: leave one out"
+            self.problem(statement.word, "wide is given twice", advice)
+        else:
+            self.draft.wide = statement.word
 
     def _list(self, statement: ListStatement) -> None:
         name, lists = statement.name, self.draft.lists

@@ -5,7 +5,7 @@ from __future__ import annotations
 import re
 from typing import NamedTuple, Union
 
-from ..encoding import CLIENT, REFLECTOR, SKIPPING
+from ..encoding import CLIENT, REFLECTOR, SKIPPING, WIDE, longest
 from .problems import Problem, Slip, guess, printable
 from .words import Word, after
 
@@ -18,10 +18,11 @@ FORMS = {
     "link": "link NAME NAME WEIGHT, or one way: link NAME > NAME WEIGHT",
     "distance": "distance NAME NAME NUMBER, or one way: distance NAME > NAME NUMBER",
     "list": "list NAME ROUTER ..",
+    "wide": "wide",
 }
 
 #: What the number of a statement is called, the least that it may be, and the most.
-NUMBERS = {"link": ("weight", 1, 65535), "distance": ("distance", 0, 65534)}
+NUMBERS = {"link": ("weight", 1, 65535), "distance": ("distance", 0, longest(WIDE))}
 
 NO_REFLECTION = "no-client-reflection"
 NO_WAY = "none"
@@ -76,7 +77,15 @@ class ListStatement(NamedTuple):
     routers: list[Word]
 
 
-Statement = Union[RouterStatement, MeshStatement, SessionStatement, WayStatement, ListStatement]
+class WideStatement(NamedTuple):
+    """`wide`: the plan is to be RRP2, also where its distances fit into RRP1."""
+
+    word: Word
+
+
+Statement = Union[
+    RouterStatement, MeshStatement, SessionStatement, WayStatement, ListStatement, WideStatement
+]
 
 
 class Reader:
@@ -214,6 +223,11 @@ def _read_list(reader: Reader) -> ListStatement:
     return ListStatement(name, reader.names("a router's name") if reader.left() else [])
 
 
+def _read_wide(reader: Reader) -> WideStatement:
+    reader.end()
+    return WideStatement(reader.words[0])
+
+
 _READERS = {
     "reflector": _read_router,
     "client": _read_router,
@@ -222,6 +236,7 @@ _READERS = {
     "link": _read_way,
     "distance": _read_way,
     "list": _read_list,
+    "wide": _read_wide,
 }
 
 
@@ -246,6 +261,9 @@ def read_value(word: Word, kind: str) -> int | None:
     if not _INTEGER.fullmatch(word.text):
         raise Slip(word, f"{clear(word.text)} is no number", advice)
     if not _NUMBER.fullmatch(word.text) or not least <= int(word.text) <= most:
+        if kind == "link" and word.text.strip("-0") and not word.text.startswith("-"):
+            larger = "larger metrics are stated as distances in place of links"
+            advice += f";\n{larger}, up to {longest(WIDE):,}"
         raise Slip(word, f"the {noun} {clear(word.text)} is out of range", advice)
     return int(word.text)
 

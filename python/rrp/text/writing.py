@@ -6,7 +6,7 @@ from collections.abc import Iterator
 from itertools import combinations
 
 from ..columns import left, widest
-from ..encoding import CLIENT, SKIPPING
+from ..encoding import CLIENT, SKIPPING, WIDE
 from ..plan import Plan
 from .statements import NO_REFLECTION, NO_WAY
 
@@ -15,8 +15,8 @@ _FIRST_ADDRESS = 1 << 24
 
 
 def write(plan: Plan) -> str:
-    """The text of a plan: its routers, sessions, distances and lists."""
-    parts = [list(part(plan)) for part in (_routers, _sessions, _distances, _lists)]
+    """The text of a plan: that it is RRP2 if it is, its routers, sessions, distances and lists."""
+    parts = [list(part(plan)) for part in (_mark, _routers, _sessions, _distances, _lists)]
     return "\n".join("".join(f"{line}\n" for line in part) for part in parts if part)
 
 
@@ -25,6 +25,12 @@ def identifier_text(identifier: int) -> str:
     if identifier < _FIRST_ADDRESS:
         return str(identifier)
     return ".".join(str(byte) for byte in identifier.to_bytes(4, "big"))
+
+
+def _mark(plan: Plan) -> Iterator[str]:
+    """A line that says that an RRP2 plan is one, also where its distances alone would say so."""
+    if plan.width == WIDE:
+        yield "wide  # four bytes a distance: RRP2"
 
 
 def _routers(plan: Plan) -> Iterator[str]:

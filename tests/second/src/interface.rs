@@ -192,6 +192,12 @@ pub trait Checker {
 
     fn run(&mut self, plan: &[u8], list: usize, acts: Acts, table: &mut [u8], fields: &mut RunFields) -> u8;
 
+    /// Writes the plan of mark RRP2 with the same distances to `out`, by one of mark RRP1.
+    fn widen(&mut self, plan: &[u8], out: &mut [u8], length: &mut Lent<u64>) -> u8;
+
+    /// .. of mark RRP1, by one of mark RRP2.
+    fn narrow(&mut self, plan: &[u8], out: &mut [u8], length: &mut Lent<u64>) -> u8;
+
     /// Writes the distances of n routers to `out`, by a sheet of links.
     fn distances(&mut self, n: usize, links: &[u8], out: &mut [u8]) -> u8;
 }

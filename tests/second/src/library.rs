@@ -1,15 +1,56 @@
-//! The proved library, linked as a static C library.
+//! Libraries with the C interface: the proved one, linked as a static library, and
+//! another build of it, loaded as a shared one.
 
 use crate::interface::{
-    Acts, Checker, CompareFields, ExplainFields, ListFields, RunFields, SizeFields, VerdictBuffers, VerdictFields,
+    Acts, Checker, CompareFields, ExplainFields, Lent, ListFields, RunFields, SizeFields, VerdictBuffers,
+    VerdictFields,
 };
+use std::ffi::{c_char, c_int, c_void, CStr, CString};
+use std::mem::transmute;
 
-extern "C" {
-    fn rrp_check(plan: *const u8, plan_len: usize) -> u8;
+/// Declares the functions of the C interface, each of which returns its refusal number,
+/// and the library that has them.
+macro_rules! functions {
+    ($(fn $name:ident($($argument:ident: $type:ty),* $(,)?);)*) => {
+        mod linked {
+            extern "C" {
+                $(pub fn $name($($argument: $type),*) -> u8;)*
+            }
+        }
 
-    fn rrp_size(plan: *const u8, plan_len: usize, routers: *mut u64, lists: *mut u64) -> u8;
+        /// A library; an older build may lack functions. Each pointer handed over comes
+        /// from a slice or a reference that lives through the call, with that slice's
+        /// length.
+        #[derive(Clone, Copy)]
+        pub struct Library {
+            $($name: Option<unsafe extern "C" fn($($type),*) -> u8>,)*
+        }
 
-    fn rrp_list(plan: *const u8, plan_len: usize, list: usize, start: *mut u64, count: *mut u64) -> u8;
+        impl Library {
+            /// The library that this program is linked with.
+            pub fn linked() -> Self {
+                Library { $($name: Some(linked::$name),)* }
+            }
+
+            /// The library whose functions are found by name, at null if there is none.
+            fn found(find: impl Fn(&CString) -> *mut c_void) -> Self {
+                Library { $($name: {
+                    let name = CString::new(stringify!($name)).expect("a name without a byte 0");
+                    // SAFETY: a function of this name has this type in every build, and
+                    // null is none.
+                    unsafe { transmute::<*mut c_void, Option<unsafe extern "C" fn($($type),*) -> u8>>(find(&name)) }
+                },)* }
+            }
+        }
+    };
+}
+
+functions! {
+    fn rrp_check(plan: *const u8, plan_len: usize);
+
+    fn rrp_size(plan: *const u8, plan_len: usize, routers: *mut u64, lists: *mut u64);
+
+    fn rrp_list(plan: *const u8, plan_len: usize, list: usize, start: *mut u64, count: *mut u64);
 
     fn rrp_compare(
         plan: *const u8,
@@ -20,9 +61,9 @@ extern "C" {
         better: *mut u8,
         has_margin: *mut u8,
         margin: *mut i64,
-    ) -> u8;
+    );
 
-    fn rrp_relies(plan: *const u8, plan_len: usize, list: usize, router: usize, other: usize, relies: *mut u8) -> u8;
+    fn rrp_relies(plan: *const u8, plan_len: usize, list: usize, router: usize, other: usize, relies: *mut u8);
 
     fn rrp_explain(
         plan: *const u8,
@@ -36,7 +77,7 @@ extern "C" {
         has_own: *mut u8,
         own: *mut u64,
         margin: *mut i64,
-    ) -> u8;
+    );
 
     fn rrp_verdict(
         plan: *const u8,
@@ -52,16 +93,9 @@ extern "C" {
         cycle_len: usize,
         stable: *mut u8,
         size: *mut u64,
-    ) -> u8;
+    );
 
-    fn rrp_activate(
-        plan: *const u8,
-        plan_len: usize,
-        list: usize,
-        router: usize,
-        table: *mut u8,
-        table_len: usize,
-    ) -> u8;
+    fn rrp_activate(plan: *const u8, plan_len: usize, list: usize, router: usize, table: *mut u8, table_len: usize);
 
     fn rrp_run(
         plan: *const u8,
@@ -75,35 +109,64 @@ extern "C" {
         applied: *mut u64,
         rounds: *mut u64,
         exhausted: *mut u8,
-    ) -> u8;
+    );
 
-    fn rrp_distances(n: usize, links: *const u8, links_len: usize, out: *mut u8, out_len: usize) -> u8;
+    fn rrp_widen(plan: *const u8, plan_len: usize, out: *mut u8, out_len: usize, length: *mut u64);
+
+    fn rrp_narrow(plan: *const u8, plan_len: usize, out: *mut u8, out_len: usize, length: *mut u64);
+
+    fn rrp_distances(n: usize, links: *const u8, links_len: usize, out: *mut u8, out_len: usize);
 }
 
-/// The linked library. Each pointer handed over comes from a slice or a
-/// reference that lives through the call, with that slice's length.
-pub struct Library;
+extern "C" {
+    fn dlopen(path: *const c_char, flags: c_int) -> *mut c_void;
+    fn dlsym(library: *mut c_void, name: *const c_char) -> *mut c_void;
+    fn dlerror() -> *const c_char;
+}
+
+/// All of the library's own references are bound before the first call.
+const RTLD_NOW: c_int = 2;
+
+/// What a call says that the library does not have.
+const MISSING: &str = "a function that the build has";
+
+impl Library {
+    /// The shared library of this path, which stays loaded.
+    pub fn loaded(path: &str) -> Result<Self, String> {
+        let path = CString::new(path).map_err(|_| "a path with a byte 0")?;
+        // SAFETY: the path is a C string, and what loading runs is that library's own.
+        let library = unsafe { dlopen(path.as_ptr(), RTLD_NOW) };
+        if library.is_null() {
+            // SAFETY: after a failure there is a message, a C string.
+            return Err(unsafe { CStr::from_ptr(dlerror()) }.to_string_lossy().into_owned());
+        }
+        // SAFETY: the library is loaded, and the name is a C string.
+        Ok(Library::found(|name| unsafe { dlsym(library, name.as_ptr()) }))
+    }
+}
 
 impl Checker for Library {
     fn check(&mut self, plan: &[u8]) -> u8 {
         // SAFETY: pointer and length are those of one slice.
-        unsafe { rrp_check(plan.as_ptr(), plan.len()) }
+        unsafe { self.rrp_check.expect(MISSING)(plan.as_ptr(), plan.len()) }
     }
 
     fn size(&mut self, plan: &[u8], fields: &mut SizeFields) -> u8 {
         // SAFETY: as above; the results are two variables of their own.
-        unsafe { rrp_size(plan.as_ptr(), plan.len(), &mut fields.routers, &mut fields.lists) }
+        unsafe { self.rrp_size.expect(MISSING)(plan.as_ptr(), plan.len(), &mut fields.routers, &mut fields.lists) }
     }
 
     fn list(&mut self, plan: &[u8], list: usize, fields: &mut ListFields) -> u8 {
         // SAFETY: as above.
-        unsafe { rrp_list(plan.as_ptr(), plan.len(), list, &mut fields.start, &mut fields.count) }
+        unsafe {
+            self.rrp_list.expect(MISSING)(plan.as_ptr(), plan.len(), list, &mut fields.start, &mut fields.count)
+        }
     }
 
     fn compare(&mut self, plan: &[u8], router: usize, pair: (usize, usize), fields: &mut CompareFields) -> u8 {
         // SAFETY: as above.
         unsafe {
-            rrp_compare(
+            self.rrp_compare.expect(MISSING)(
                 plan.as_ptr(),
                 plan.len(),
                 router,
@@ -118,13 +181,13 @@ impl Checker for Library {
 
     fn relies(&mut self, plan: &[u8], list: usize, pair: (usize, usize), relies: &mut u8) -> u8 {
         // SAFETY: as above.
-        unsafe { rrp_relies(plan.as_ptr(), plan.len(), list, pair.0, pair.1, relies) }
+        unsafe { self.rrp_relies.expect(MISSING)(plan.as_ptr(), plan.len(), list, pair.0, pair.1, relies) }
     }
 
     fn explain(&mut self, plan: &[u8], list: usize, pair: (usize, usize), fields: &mut ExplainFields) -> u8 {
         // SAFETY: as above.
         unsafe {
-            rrp_explain(
+            self.rrp_explain.expect(MISSING)(
                 plan.as_ptr(),
                 plan.len(),
                 list,
@@ -143,7 +206,7 @@ impl Checker for Library {
     fn verdict(&mut self, plan: &[u8], list: usize, lent: VerdictBuffers, fields: &mut VerdictFields) -> u8 {
         // SAFETY: as above; the four buffers do not overlap.
         unsafe {
-            rrp_verdict(
+            self.rrp_verdict.expect(MISSING)(
                 plan.as_ptr(),
                 plan.len(),
                 list,
@@ -163,13 +226,22 @@ impl Checker for Library {
 
     fn activate(&mut self, plan: &[u8], list: usize, router: usize, table: &mut [u8]) -> u8 {
         // SAFETY: as above.
-        unsafe { rrp_activate(plan.as_ptr(), plan.len(), list, router, table.as_mut_ptr(), table.len()) }
+        unsafe {
+            self.rrp_activate.expect(MISSING)(
+                plan.as_ptr(),
+                plan.len(),
+                list,
+                router,
+                table.as_mut_ptr(),
+                table.len(),
+            )
+        }
     }
 
     fn run(&mut self, plan: &[u8], list: usize, acts: Acts, table: &mut [u8], fields: &mut RunFields) -> u8 {
         // SAFETY: as above.
         unsafe {
-            rrp_run(
+            self.rrp_run.expect(MISSING)(
                 plan.as_ptr(),
                 plan.len(),
                 list,
@@ -185,8 +257,20 @@ impl Checker for Library {
         }
     }
 
+    fn widen(&mut self, plan: &[u8], out: &mut [u8], length: &mut Lent<u64>) -> u8 {
+        let widen = self.rrp_widen.expect(MISSING);
+        // SAFETY: as above.
+        unsafe { widen(plan.as_ptr(), plan.len(), out.as_mut_ptr(), out.len(), &mut length.value) }
+    }
+
+    fn narrow(&mut self, plan: &[u8], out: &mut [u8], length: &mut Lent<u64>) -> u8 {
+        let narrow = self.rrp_narrow.expect(MISSING);
+        // SAFETY: as above.
+        unsafe { narrow(plan.as_ptr(), plan.len(), out.as_mut_ptr(), out.len(), &mut length.value) }
+    }
+
     fn distances(&mut self, n: usize, links: &[u8], out: &mut [u8]) -> u8 {
         // SAFETY: as above.
-        unsafe { rrp_distances(n, links.as_ptr(), links.len(), out.as_mut_ptr(), out.len()) }
+        unsafe { self.rrp_distances.expect(MISSING)(n, links.as_ptr(), links.len(), out.as_mut_ptr(), out.len()) }
     }
 }

@@ -5,11 +5,13 @@
 use crate::SEED;
 use second_checker::harness::comparison::compare::differ;
 use second_checker::harness::faults::careless::Careless;
+use second_checker::harness::faults::convert_slips::CONVERT_SLIPS;
 use second_checker::harness::faults::explain_misreadings::{MisreadExplanation, EXPLAIN_MISREADINGS};
 use second_checker::harness::faults::misreadings::{Misread, MISREADINGS};
 use second_checker::harness::faults::parent_slips::PARENT_SLIPS;
 use second_checker::harness::faults::skip_misreadings::{MisreadSkip, SKIP_MISREADINGS};
 use second_checker::harness::faults::slips::{Slip, SLIPS};
+use second_checker::harness::faults::width_slips::{width_faults, Misreader};
 use second_checker::harness::faults::wrong_programs::{Program, WRONG_PROGRAMS};
 use second_checker::harness::plans::questions;
 use second_checker::interface::Checker;
@@ -77,6 +79,26 @@ fn each_slip_in_a_call_is_found() {
 #[test]
 fn each_slip_in_the_check_of_parents_is_found() {
     each_is_found(PARENT_SLIPS, |&slip| Careless::new(Slip::Parents(slip)));
+}
+
+/// Each is looked for from the plan on that showed the slip in the call before, since
+/// plans that show one are few.
+#[test]
+fn each_slip_in_what_a_mark_says_is_found_in_each_call() {
+    for (slip, calls) in width_faults() {
+        let mut first = 0;
+        for call in calls {
+            let mut misreader = Misreader::new(slip, call);
+            let mut is_found = |number: &u64| differ(&mut Oracle::right(), &mut misreader, SEED, *number..number + 1);
+            let found = (first..PLANS).find(|number| is_found(number));
+            first = found.unwrap_or_else(|| panic!("not found: {slip:?} in {call:?}"));
+        }
+    }
+}
+
+#[test]
+fn each_slip_in_the_converter_is_found() {
+    each_is_found(CONVERT_SLIPS, |&slip| Careless::new(Slip::Convert(slip)));
 }
 
 #[test]

@@ -34,7 +34,6 @@ by-offer-requires : tie.Need-by-offer-requires
 by-offer-requires c κs =
     let p = start c .pre in (
       p .1,
-      p .0 .count,
       p .0 .pairs,
       rw (offer-is c) (offer-below (I (start c)) _ (p .2)),
       rw (c .before .before .best-client .ensures) (bestClient-below (I (start c)) _),

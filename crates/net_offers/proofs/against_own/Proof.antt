@@ -1,6 +1,7 @@
 -- Each way out is a case of the definition.
 use native.Mathlib.Omega.{arith}
 use mathlib.Core.Path.{_≡_, _∙_, sym, ap, ap₂, subst}
+use mathlib.Core.Bool.{true}
 use mathlib.Core.Option.{some}
 use lib.IntN.{pos, _-ℤ_}
 use borrow.Author.Needs.{needs}
@@ -10,8 +11,8 @@ use Rattle.route_rules.specs.Instance.{Instance}
 use Rattle.route_rules.specs.Preference.{prefers}
 use Rattle.net_rules.specs.RouterBytes.{asRouter}
 use Rattle.net_rules.proofs.RouterBytes.{router-none, router-some, router-below}
-use Rattle.net_prefer.specs.Measured.{Measured, ReadAs}
-use Rattle.net_prefer.proofs.Measured.{read-as}
+use Rattle.net_prefer.specs.Measured.{Measured}
+use Rattle.net_prefer.proofs.Measured.{number-as, numbers-ordered}
 use Rattle.route_explain_rules.specs.Explained.{WayTo, againstOwn}
 use Rattle.route_explain_rules.specs.declared.explanation.Explanation.the-variants.{Yes}
 use Rattle.route_explain_rules.specs.declared.explanation.Rule.the-variants.{BetterOffer}
@@ -32,26 +33,33 @@ module _ (c : tie.After-wide) where
   client : asRouter (start .args .own) ≡ some (c .wide .result)
   client = router-some _ (c .before .if1 .left) ∙ ap some (sym (c .wide .ensures .0))
 
-distance-requires-2 : tie.Need-distance-requires-2
-distance-requires-2 c κs =
+  way-to-client : (I : Instance) → WayTo I (start .args .w) (asRouter (start .args .own)) → I .way (start .args .w) (c .wide .result) ≡ true
+  way-to-client I own = subst (WayTo I (start .args .w)) client own
+
+number-requires-2 : tie.Need-number-requires-2
+number-requires-2 c κs =
     let d = c .before in
     let p = start d .pre in
-    (p .0, omega (arith, d .wide .ensures .0, router-below _ (start d .args .own) (d .before .if1 .left) (p .4)), p .1, p .2)
+    (p .0, omega (arith, d .wide .ensures .0, router-below _ (start d .args .own) (d .before .if1 .left) (p .3)), p .1)
 
 -- the two distances are read
 module _ (c : tie.After-nearer) where
   abbrev found : tie.After-wide
   found = c .before .before .before
 
-  module _ (I : Instance) (q : Measured I (start found .args .distances .now) (start found .args .n)) where
-    to-offer : ReadAs I (start found .args .w) (start found .args .offer) (c .before .before .distance .result)
-    to-offer = read-as I _ _ q _ _ _ (c .before .before .distance .ensures .0)
-
-    to-client : ReadAs I (start found .args .w) (found .wide .result) (c .before .distance2 .result)
-    to-client = read-as I _ _ q _ _ _ (c .before .distance2 .ensures .0)
-
+  module _ (I : Instance) (q : Measured I (start found .args .width) (start found .args .distances .now) (start found .args .n)) where
     nearer-is : c .nearer .result ≡ prefers I (start found .args .w) (start found .args .offer) (found .wide .result)
-    nearer-is = c .nearer .ensures I _ (to-offer .dist) (to-client .dist)
+    nearer-is =
+        let first = c .before .before .number .ensures in
+        let second = c .before .number2 .ensures in
+        c .nearer .ensures I _ (numbers-ordered q (start found .pre .1 .bytes) _ _ _ _ _ (first .0) (first .1) (second .0) (second .1))
+
+    to-offer : I .way (start found .args .w) (start found .args .offer) ≡ true
+        → I .dist (start found .args .w) (start found .args .offer) ≡ c .before .before .number .result
+    to-offer = let read = c .before .before .number .ensures in number-as q (start found .pre .1 .bytes) _ _ _ (read .0) (read .1)
+
+    to-client : I .way (start found .args .w) (found .wide .result) ≡ true → I .dist (start found .args .w) (found .wide .result) ≡ c .before .number2 .result
+    to-client = let read = c .before .number2 .ensures in number-as q (start found .pre .1 .bytes) _ _ _ (read .0) (read .1)
 
 returns-2 : tie.Need-returns-2
 returns-2 c I q there own =
@@ -60,8 +68,8 @@ returns-2 c I q there own =
     let a = start d .args in
     ap (λ m. Yes (BetterOffer (a .offer) (d .wide .result) m))
     (toZ-ofZ w64 _ (search needs) ∙ c .difference .ensures
-    ∙ sym (ap₂ (λ x y. pos x -ℤ pos y) (to-offer e I q .dist) (to-client e I q .dist))
-    ∙ sym (margin-held I _ _ _ there (subst (WayTo I (a .w)) (client d) own)))
+    ∙ sym (ap₂ (λ x y. pos x -ℤ pos y) (to-offer e I q there) (to-client e I q (way-to-client d I own)))
+    ∙ sym (margin-held I _ _ _ there (way-to-client d I own)))
     ∙ sym (ap (againstOwn I (a .w) (a .offer)) (client d) ∙ against-preferred I _ _ _ (sym (nearer-is e I q) ∙ c .before .if2 .taken))
 
 returns-3 : tie.Need-returns-3
@@ -78,7 +86,7 @@ against-own-spec =
     returns
     (λ c κs. search needs)
     (λ c κs. search needs)
-    distance-requires-2
+    number-requires-2
     (λ c κs. search needs)
     (λ c κs. search needs)
     returns-2

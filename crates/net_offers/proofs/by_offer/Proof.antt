@@ -30,24 +30,24 @@ module _ (c : tie.After-wide) where
 has-way-requires : tie.Need-has-way-requires
 has-way-requires c κs =
     let p = start c .pre in
-    (p .0, omega (arith, c .wide .ensures .0, router-below _ (start c .args .offer) (c .before .if1 .left) (p .3)), p .1, p .2)
+    (p .0, omega (arith, c .wide .ensures .0, router-below _ (start c .args .offer) (c .before .if1 .left) (p .2)), p .1)
 
 returns-2 : tie.Need-returns-2
 returns-2 c I q own =
     let d = c .before .before in
     let a = start d .args in
-    sym (ap (λ o. byOffer I (a .w) o (asRouter (a .own))) (offered d) ∙ offer-no-way I _ _ _ (no-way I _ _ q _ _ _ (c .before .has-way .ensures) (c .if2 .taken)))
+    sym (ap (λ o. byOffer I (a .w) o (asRouter (a .own))) (offered d) ∙ offer-no-way I _ _ _ (no-way q _ _ _ (c .before .has-way .ensures) (c .if2 .taken)))
 
 -- .. to which w has a way
-has-way : (c : tie.Else2) (I : Instance) → let a = start (c .before .before) .args in Measured I (a .distances .now) (a .n)
+has-way : (c : tie.Else2) (I : Instance) → let a = start (c .before .before) .args in Measured I (a .width) (a .distances .now) (a .n)
     → I .way (a .w) (c .before .before .wide .result) ≡ true
-has-way c I q = some-way I _ _ q _ _ _ (c .before .has-way .ensures) (c .if2 .left)
+has-way c I q = some-way q _ _ _ (c .before .has-way .ensures) (c .if2 .left)
 
 against-own-requires : tie.Need-against-own-requires
 against-own-requires c κs =
     let d = c .before .before in
     let p = start d .pre in
-    (p .0, p .1, p .2, omega (arith, d .wide .ensures .0, router-below _ (start d .args .offer) (d .before .if1 .left) (p .3)), p .4)
+    (p .0, p .1, omega (arith, d .wide .ensures .0, router-below _ (start d .args .offer) (d .before .if1 .left) (p .2)), p .3)
 
 returns-3 : tie.Need-returns-3
 returns-3 c I q own =

@@ -19,19 +19,19 @@ use Rattle.net_offers.proofs.keep_client.Tie as tie
 returns : tie.Need-returns
 returns c I q =
     let a = c .before .before .before .args in
-    sym (ap (λ b. keepBest (prefers I (a .v)) b (a .e) (asRouter (a .best))) (no-way I _ _ q _ _ _ (c .before .has-way .ensures) (c .if1 .taken)) ∙ keep-none _ _ _)
+    sym (ap (λ b. keepBest (prefers I (a .v)) b (a .e) (asRouter (a .best))) (no-way q _ _ _ (c .before .has-way .ensures) (c .if1 .taken)) ∙ keep-none _ _ _)
 
 abbrev start : tie.Else1 → tie.Start
 start c = c .before .before .before
 
 -- there is a way to e
-module _ (c : tie.Else1) (I : Instance) (q : Measured I (start c .args .distances .now) (start c .args .n)) where
+module _ (c : tie.Else1) (I : Instance) (q : Measured I (start c .args .width) (start c .args .distances .now) (start c .args .n)) where
   abbrev keep : Bool → Option ℕ → Option ℕ
   keep b = keepBest (prefers I (start c .args .v)) b (start c .args .e)
 
   from-way : {b x : Option ℕ} → asRouter (start c .args .best) ≡ b → keep true b ≡ x
       → keep (I .way (start c .args .v) (start c .args .e)) (asRouter (start c .args .best)) ≡ x
-  from-way h k = ap₂ keep (some-way I _ _ q _ _ _ (c .before .has-way .ensures) (c .if1 .left)) h ∙ k
+  from-way h k = ap₂ keep (some-way q _ _ _ (c .before .has-way .ensures) (c .if1 .left)) h ∙ k
 
 returns-2 : tie.Need-returns-2
 returns-2 c I q = router-some _ (omega arith) ∙ sym (from-way (c .before) I q (router-none _ (c .if2 .taken)) (keep-only _ _))
@@ -39,10 +39,10 @@ returns-2 c I q = router-some _ (omega arith) ∙ sym (from-way (c .before) I q 
 prefers-requires : tie.Need-prefers-requires
 prefers-requires c κs =
     let p = start (c .before .before) .pre in
-    (p .0, p .1, omega (arith, c .wide .ensures .0, router-below _ _ (c .before .if2 .left) (p .4)), p .2, p .3)
+    (p .0, p .1, omega (arith, c .wide .ensures .0, router-below _ _ (c .before .if2 .left) (p .4)), p .3)
 
 -- there is a best client so far, and it is compared with e
-module _ (c : tie.After-prefers) (I : Instance) (q : Measured I (start (c .before .before .before) .args .distances .now) (start (c .before .before .before) .args .n)) where
+module _ (c : tie.After-prefers) (I : Instance) (q : Measured I (start (c .before .before .before) .args .width) (start (c .before .before .before) .args .distances .now) (start (c .before .before .before) .args .n)) where
   from-best : {x : Option ℕ} → keep (c .before .before .before) I q true (some (start (c .before .before .before) .args .best)) ≡ x
       → let a = start (c .before .before .before) .args in keepBest (prefers I (a .v)) (I .way (a .v) (a .e)) (a .e) (asRouter (a .best)) ≡ x
   from-best = from-way (c .before .before .before) I q (router-some _ (c .before .before .if2 .left))

@@ -29,7 +29,7 @@ unfolding listedClientOf
 returns c distances =
     let a = c .before .before .before .args in
     record {
-      marks = λ e. ap (λ b. b && wayIn distances (a .net .n) (a .v) e) (sym (word c e));
+      marks = λ e. ap (λ b. b && wayIn (a .net .width) distances (a .net .n) (a .v) e) (sym (word c e));
       near = λ e set. both-left _ _ (both-left _ _ (sym (word c e) ∙ eq-eqb _ 1 set));
     }
 

@@ -3,6 +3,7 @@ use mathlib.Core.Path.{_∙_, sym}
 use borrow.Author.Needs.{needs}
 use Rattle.base.proofs.Numbers.{yes, no}
 use Rattle.route_rules.proofs.Preference.{better-both-ways, better-one-way, better-without}
+use Rattle.net_prefer.proofs.Measured.{distances-ordered}
 use Rattle.net_prefer.proofs.better.Statement.{statement}
 use Rattle.net_prefer.proofs.better.Tie as tie
 
@@ -19,7 +20,7 @@ returns-3 : tie.Need-returns-3
 returns-3 c I w p q =
     let e = c .before in
     let d = e .before .before in
-    c .nearer .ensures I w (p .dist) (q .dist)
+    c .nearer .ensures I w (distances-ordered (p .dist) (q .dist))
     ∙ sym (better-both-ways I _ _ _ (p .way ∙ yes _ (d .before .is-way .ensures) (d .if1 .left))
     (q .way ∙ yes _ (e .before .is-way2 .ensures) (e .if2 .left)))
 

@@ -12,21 +12,21 @@ use Rattle.base.proofs.Differences.{difference-within}
 use Rattle.net_prefer.proofs.difference.Statement.{statement}
 use Rattle.net_prefer.proofs.difference.Tie as tie
 
-far-below : 4294967295 < 2 ^ hbits w64
+far-below : 4294967296 < 2 ^ hbits w64
 far-below = lit< tt
 
-fits : (z : ℤ) → natAbs z ≤ 4294967294 → SFits w64 z
+fits : (z : ℤ) → natAbs z ≤ 4294967295 → SFits w64 z
 fits (pos n) h = record { sfits = omega (arith, far-below) }
 fits (negsuc n) h = record { sfits = omega (arith, far-below) }
 
-as-it-is : (x : ℕ) → x ≤ 4294967294 → toZ w64 x ≡ pos x
+as-it-is : (x : ℕ) → x < 4294967296 → toZ w64 x ≡ pos x
 as-it-is x h = toZ-pos w64 x (omega (arith, far-below))
 
 sub-result : tie.Need-sub-result
 sub-result c =
     let a = c .args in
     rw (as-it-is (a .first) (c .pre .0), as-it-is (a .second) (c .pre .1))
-    (fits _ (difference-within 4294967294 (a .first) (a .second) (c .pre .0) (c .pre .1)))
+    (fits _ (difference-within 4294967295 (a .first) (a .second) (omega (arith, c .pre .0)) (omega (arith, c .pre .1))))
 
 returns : tie.Need-returns
 returns c =

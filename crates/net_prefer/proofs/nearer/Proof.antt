@@ -1,4 +1,4 @@
--- The two distances compare as the rule says.
+-- The two numbers compare as the rule says.
 use native.Mathlib.Omega.{arith}
 use mathlib.Core.Path.{sym}
 use Rattle.route_rules.proofs.Preference.{prefers-nearer, prefers-farther, prefers-tie}
@@ -9,6 +9,6 @@ pub nearer-spec : {M : Type 1} → statement M
 nearer-spec =
     tie.close
     (tie.spec
-    (λ c I w p q. sym (prefers-farther I _ _ _ (omega (arith, p, q))))
-    (λ c I w p q. sym (prefers-nearer I _ _ _ (omega (arith, p, q))))
-    (λ c I w p q. sym (prefers-tie I _ _ _ (omega (arith, p, q)))))
+    (λ c I w o. sym (prefers-farther I _ _ _ (o .farther (c .if1 .taken))))
+    (λ c I w o. sym (prefers-nearer I _ _ _ (o .nearer (omega arith))))
+    (λ c I w o. sym (prefers-tie I _ _ _ (o .tie (omega arith)))))

@@ -1,13 +1,15 @@
--- The distances read are the instance's.
+-- The numbers read stand for the instance's distances.
 use borrow.Author.Needs.{needs}
-use Rattle.net_prefer.proofs.Measured.{read-as}
+use Rattle.net_prefer.proofs.Measured.{numbers-ordered}
 use Rattle.net_prefer.proofs.prefers.Statement.{statement}
 use Rattle.net_prefer.proofs.prefers.Tie as tie
 
 returns : tie.Need-returns
 returns c I q =
-    c .nearer .ensures I _ (read-as I _ _ q _ _ _ (c .before .before .distance .ensures .0) .dist)
-    (read-as I _ _ q _ _ _ (c .before .distance2 .ensures .0) .dist)
+    let first = c .before .before .number .ensures in
+    let second = c .before .number2 .ensures in
+    c .nearer .ensures I _
+    (numbers-ordered q (c .before .before .before .before .pre .3 .bytes) _ _ _ _ _ (first .0) (first .1) (second .0) (second .1))
 
 pub prefers-spec : {M : Type 1} → statement M
 prefers-spec = tie.close (tie.spec (λ c κs. search needs) (λ c κs. search needs) (λ c κs. search needs) returns)

@@ -31,16 +31,17 @@ listed-word-requires c κs =
 
 returns : tie.Need-returns
 returns c =
-    let sessions = c .before .before in
+    let list = c .before in
+    let sessions = list .before .before in
     let roles = sessions .before .before .before in
     let given = roles .before .before .before .before .pre in
     let routers = roles .before .part .ensures .bytes in
     let n = given .0 .routers in
-    opened _ _ (given .0 .ok) (given .1) _ _ n
+    opened _ _ (given .0 .ok) (given .1) _ _ n (given .0 .bytes)
     (λ v. roles .role-words .ensures .0 v ∙ ap₂ (λ s n. reflectorIn s n v) routers n)
     (λ v. roles .role-words .ensures .1 v ∙ ap₂ (λ s n. skipsIn s n v) routers n)
     (λ w v. sessions .neighbour-rows .ensures w v ∙ ap (λ s. inSession s w v) (sessions .before .before .part2 .ensures .bytes))
-    (λ v. c .listed-word .ensures v ∙ ap (λ s. named s v) (c .before .list-numbers .ensures .bytes))
+    (λ v. list .listed-word .ensures v ∙ ap (λ s. named s v) (list .before .list-numbers .ensures .bytes))
 
 pub open-plan-spec : {M : Type 1} → statement M
 open-plan-spec =
@@ -53,4 +54,5 @@ open-plan-spec =
     neighbour-rows-requires
     (λ c κs. search needs)
     listed-word-requires
+    (λ c. search needs)
     returns)

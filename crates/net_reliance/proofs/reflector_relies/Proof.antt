@@ -47,7 +47,6 @@ by-offer-requires c κs =
     let d = c .before .before .before .before .before .before .before in
     let p = d .pre in (
       p .1,
-      p .0 .count,
       p .0 .pairs,
       rw (offer-is c) (offer-below (instance d) _ (p .2)),
       rw (p .3 .client) (bestClient-below (instance d) _),

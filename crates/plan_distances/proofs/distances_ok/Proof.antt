@@ -6,10 +6,10 @@ use Rattle.plan_distances.proofs.distances_ok.Statement.{statement}
 use Rattle.plan_distances.proofs.distances_ok.Tie as tie
 
 abbrev Inv-loop : tie.InvT-loop
-Inv-loop s n u₀ u = HeldSoFar (diagonalOk s n) n u
+Inv-loop s width n u₀ u = HeldSoFar (diagonalOk width s n) n u
 
 abbrev μ-loop : tie.MeasureT-loop
-μ-loop s n u₀ u = n - u
+μ-loop s width n u₀ u = n - u
 
 pub distances-ok-spec : {M : Type 1} → statement M
 unfolding distancesOk

@@ -22,4 +22,4 @@ router-ok-spec =
     (λ c. search needs)
     (λ c. search needs)
     (λ c κs. search needs)
-    (λ c. search (tests, ← (c .before .read4 .ensures), ← (c .read42 .ensures))))
+    (λ c. search (tests, ← (c .before .read4 .ensures .0), ← (c .read42 .ensures .0))))

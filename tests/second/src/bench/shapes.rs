@@ -1,11 +1,12 @@
 //! The plans and the sheets of links that the bench times.
 
-use crate::harness::plans::draft::Draft;
+use crate::harness::plans::draft::{Draft, NO_WAY};
 use crate::harness::plans::sheets::Sheet;
 use crate::harness::plans::topology::all_pairs;
 use crate::harness::random::Random;
 use crate::oracle::links::MOST_LINKS;
-use crate::oracle::plan::{MOST_PARENTS, NO_WAY};
+use crate::oracle::mark::Mark;
+use crate::oracle::plan::MOST_PARENTS;
 use crate::oracle::verdict_lines;
 use std::collections::{BTreeMap, BTreeSet};
 
@@ -94,10 +95,11 @@ impl Shape {
         let mut distance = |from: usize, to: usize| match (from == to, one_order) {
             (true, _) => 0,
             _ if self.cut > 0 && random.chance(self.cut) => NO_WAY,
-            (_, true) => 10 + 3 * to as u16 + random.below(3) as u16,
-            _ => random.between(1, 1000) as u16,
+            (_, true) => 10 + 3 * to as u32 + random.below(3) as u32,
+            _ => random.between(1, 1000) as u32,
         };
         Draft {
+            mark: Mark::Rrp1,
             reflector: (0..n).map(|router| router < self.reflectors).collect(),
             skips: (0..self.reflectors).filter(|router| self.half_skip && router % 2 == 1).collect(),
             identifiers: (1..=n as u32).collect(),

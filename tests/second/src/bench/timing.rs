@@ -1,184 +1,96 @@
-//! Times the library and the yardstick in one process on the same inputs, in
-//! turns. A time is the best of the turns; a ratio is the median of the ratios of
-//! the turns, so that a machine that is slower for a while slows both sides.
+//! Times the library and the yardstick, and another build of the library if there is
+//! one, in one process on the same inputs, in turns. A time is the best of the turns; a
+//! ratio is the median of the ratios of the turns, so that a machine that is slower for a
+//! while slows both sides.
 
+use super::calls::{activate, check, compare, convert, distances, explain, list, relies, size, verdict, Run};
 use super::shapes::{full_sheet, ring_and_chords, two_parts, Shape, SIZES};
 use super::tight::Tight;
-use crate::harness::comparison::arguments;
-use crate::harness::plans::draft::Draft;
+use super::turns::Turns;
 use crate::harness::plans::generate;
 use crate::harness::plans::sheets::Sheet;
 use crate::harness::random::Random;
-use crate::interface::{
-    Acts, Checker, CompareFields, ExplainFields, Flag, ListFields, RunFields, SizeFields, VerdictBuffers,
-    VerdictFields,
-};
+use crate::interface::Checker;
 use crate::library::Library;
-use crate::oracle::plan;
-use crate::oracle::rules::Case;
+use crate::oracle::mark::{Mark, MARKS};
 use std::hint::black_box;
-
-const TURNS: usize = 9;
-
-/// About so many seconds of calls are timed in a checker's turn.
-const TURN: f64 = 0.005;
 
 /// The activations of a run, unless its line says another number.
 const ACTS: usize = 50_000;
 
-/// Nanoseconds of the library and of `tight`.
-type Times = [f64; 2];
-
-#[repr(C)]
-struct Timespec {
-    seconds: i64,
-    nanoseconds: i64,
-}
-
-extern "C" {
-    fn clock_gettime(clock: i32, time: *mut Timespec) -> i32;
-}
-
-/// Seconds that this thread has had a processor, by Linux's clock for that: what
-/// other processes take does not count.
-fn processor_seconds() -> f64 {
-    const THREAD_CPUTIME: i32 = 3;
-    let mut time = Timespec { seconds: 0, nanoseconds: 0 };
-    // SAFETY: the pointer is that of a variable laid out as C's.
-    let outcome = unsafe { clock_gettime(THREAD_CPUTIME, &mut time) };
-    assert_eq!(outcome, 0);
-    time.seconds as f64 + time.nanoseconds as f64 / 1e9
-}
-
-/// Seconds for one call, by many of them.
-fn seconds(call: &mut dyn FnMut(), calls: usize) -> f64 {
-    let started = processor_seconds();
-    (0..calls).for_each(|_| call());
-    (processor_seconds() - started) / calls as f64
-}
-
-/// One turn: the work on each checker.
-fn turn(work: &mut dyn FnMut(&mut dyn Checker)) -> Times {
-    let checkers: [&mut dyn Checker; 2] = [&mut Library, &mut Tight];
-    checkers.map(|checker| {
-        let mut call = || work(checker);
-        let calls = (TURN / seconds(&mut call, 3)).max(1.0) as usize;
-        1e9 * seconds(&mut call, calls)
-    })
-}
-
-fn median(values: impl Iterator<Item = f64>) -> f64 {
-    let mut values: Vec<f64> = values.collect();
-    values.sort_by(f64::total_cmp);
-    values[values.len() / 2]
-}
-
-/// What is asked of the bench: the lines whose names have this word.
+/// What is asked of the bench: the lines whose names have this word; and another build of
+/// the library beside the linked one.
 struct Bench<'a> {
     word: &'a str,
+    other: Option<Library>,
 }
 
+/// The places of the library and of `tight` among the checkers, and of the other build.
+const OURS: usize = 0;
+const TIGHT: usize = 1;
+const OTHER: usize = 2;
+
 impl Bench<'_> {
+    fn checkers(&self) -> Vec<Box<dyn Checker>> {
+        let mut checkers: Vec<Box<dyn Checker>> = vec![Box::new(Library::linked()), Box::new(Tight)];
+        checkers.extend(self.other.map(|other| Box::new(other) as Box<dyn Checker>));
+        checkers
+    }
+
+    /// The bench for lines that need plans like this one read.
+    fn for_plan(&self, plan: &[u8]) -> Self {
+        Bench { other: self.other.filter(|&(mut other)| other.check(plan) == 0), ..*self }
+    }
+
+    /// Prints a line of times by checker, and of ratios.
+    fn print(&self, name: &str, parts: usize, turns: &Turns) {
+        let best = |which: usize| turns.best(which) / parts as f64;
+        print!(
+            "{name:<40} {:>8.1} {:>8.1} ns  ours/tight {:>5.2}",
+            best(OURS),
+            best(TIGHT),
+            turns.ratio(OURS, TIGHT)
+        );
+        if self.other.is_some() {
+            print!("  other {:>8.1} ns  ours/other {:>5.2}", best(OTHER), turns.ratio(OURS, OTHER));
+        }
+    }
+
     /// Times a piece of work of so many parts, and prints a line for one part.
     fn line(&self, name: &str, parts: usize, mut work: impl FnMut(&mut dyn Checker)) {
         if !name.contains(self.word) {
             return;
         }
-        let turns: Vec<Times> = (0..TURNS).map(|_| turn(&mut work)).collect();
-        let best = |which: usize| turns.iter().map(|turn| turn[which]).fold(f64::INFINITY, f64::min) / parts as f64;
-        let ratio = median(turns.iter().map(|[ours, tight]| ours / tight));
-        println!("{name:<40} {:>8.1} {:>8.1} ns  ours/tight {ratio:>5.2}", best(0), best(1));
+        let mut checkers = self.checkers();
+        self.print(name, parts, &Turns::of(checkers.len(), |which| work(checkers[which].as_mut())));
+        println!();
     }
 
-    /// How many times as long as the first run the second takes.
-    fn growth(&self, name: &str, first: &Run, second: &Run) {
+    /// .. and beside it the time of a copy of so many bytes.
+    fn line_and_copy(&self, name: &str, bytes: &[u8], mut work: impl FnMut(&mut dyn Checker)) {
         if !name.contains(self.word) {
             return;
         }
-        let both = || [first, second].map(|run| turn(&mut |checker| run.by(checker)));
-        let turns: Vec<[Times; 2]> = (0..TURNS).map(|_| both()).collect();
-        let [ours, tight] =
-            [0, 1].map(|which| median(turns.iter().map(|[first, second]| second[which] / first[which])));
+        let (mut checkers, mut out) = (self.checkers(), bytes.to_vec());
+        let copy = checkers.len();
+        let turns = Turns::of(copy + 1, |which| match checkers.get_mut(which) {
+            Some(checker) => work(checker.as_mut()),
+            None => black_box(&mut out).copy_from_slice(black_box(bytes)),
+        });
+        self.print(name, 1, &turns);
+        println!("  copy {:>8.1} ns  ours/copy {:>5.2}", turns.best(copy), turns.ratio(OURS, copy));
+    }
+
+    /// How many times as long as on the first input the work takes on the second.
+    fn growth<T>(&self, name: &str, inputs: [&T; 2], work: impl Fn(&T, &mut dyn Checker)) {
+        if !name.contains(self.word) {
+            return;
+        }
+        let mut checkers = self.checkers();
+        let count = checkers.len();
+        let turns = Turns::of(2 * count, |which| work(inputs[which / count], checkers[which % count].as_mut()));
+        let [ours, tight] = [OURS, TIGHT].map(|which| turns.ratio(count + which, which));
         println!("{name:<40} {ours:>8.2} {tight:>8.2} times as long");
-    }
-}
-
-fn check(checker: &mut dyn Checker, plan: &[u8]) {
-    assert_eq!(checker.check(black_box(plan)), 0);
-}
-
-fn size(checker: &mut dyn Checker, plan: &[u8]) {
-    let mut fields = SizeFields { routers: 0, lists: 0 };
-    assert_eq!(checker.size(black_box(plan), &mut fields), 0);
-    black_box((fields.routers, fields.lists));
-}
-
-fn list(checker: &mut dyn Checker, plan: &[u8]) {
-    let mut fields = ListFields { start: 0, count: 0 };
-    assert_eq!(checker.list(black_box(plan), 0, &mut fields), 0);
-    black_box((fields.start, fields.count));
-}
-
-fn compare(checker: &mut dyn Checker, plan: &[u8]) {
-    let mut fields = CompareFields::new(0, 0, 0);
-    assert_eq!(checker.compare(black_box(plan), 0, (1, 2), &mut fields), 0);
-    black_box((fields.better.value, fields.has_margin.value, fields.margin.value));
-}
-
-fn relies(checker: &mut dyn Checker, plan: &[u8]) {
-    let mut relies = 0;
-    assert_eq!(checker.relies(black_box(plan), 0, (0, 1), &mut relies), 0);
-    black_box(relies);
-}
-
-fn explain(checker: &mut dyn Checker, plan: &[u8]) {
-    let mut fields = ExplainFields::new([0; 3], [0; 2], 0);
-    assert_eq!(checker.explain(black_box(plan), 0, (0, 1), &mut fields), 0);
-    black_box((fields.relies.value, fields.code.value, fields.offer.value, fields.own.value, fields.margin.value));
-}
-
-/// A verdict; says whether it is stable.
-fn verdict(checker: &mut dyn Checker, plan: &[u8]) -> bool {
-    let (mut labels, mut ranks, mut table, mut cycle) = ([0; 64], [0; 64], [0; 128], [0; 64]);
-    let lent = VerdictBuffers { labels: &mut labels, ranks: &mut ranks, table: &mut table, cycle: &mut cycle };
-    let mut fields = VerdictFields { stable: Flag::new(0), size: 0 };
-    assert_eq!(checker.verdict(black_box(plan), 0, lent, &mut fields), 0);
-    black_box((labels, ranks, table, cycle, fields.size));
-    fields.stable.value == 1
-}
-
-fn activate(checker: &mut dyn Checker, plan: &[u8], table: &[u8]) {
-    let mut lent = [0; 128];
-    lent[..table.len()].copy_from_slice(table);
-    assert_eq!(checker.activate(black_box(plan), 0, 0, black_box(&mut lent)), 0);
-}
-
-fn distances(checker: &mut dyn Checker, n: usize, links: &[u8], out: &mut [u8]) {
-    assert_eq!(checker.distances(black_box(n), black_box(links), black_box(out)), 0);
-}
-
-/// A plan, a table to start from, and acts drawn at random.
-struct Run {
-    plan: Vec<u8>,
-    table: Vec<u8>,
-    sequence: Vec<u8>,
-}
-
-impl Run {
-    fn new(random: &mut Random, draft: &Draft, acts: usize) -> Self {
-        let bytes = draft.bytes();
-        let plan = plan::read(&bytes).expect("a sound plan");
-        let table = arguments::table(random, Case { plan: &plan, listed: &plan.lists[0].listed });
-        let sequence = (0..acts).map(|_| random.below(plan.n) as u8).collect();
-        Run { plan: bytes, table, sequence }
-    }
-
-    fn by(&self, checker: &mut dyn Checker) {
-        let mut fields = RunFields { applied: 0, rounds: 0, exhausted: Flag::new(0) };
-        let acts = Acts { sequence: black_box(&self.sequence), limit: u64::MAX };
-        assert_eq!(checker.run(black_box(&self.plan), 0, acts, &mut self.table.clone(), &mut fields), 0);
-        assert_eq!(fields.applied, self.sequence.len() as u64);
-        black_box(fields.rounds);
     }
 }
 
@@ -192,7 +104,7 @@ fn time_checks(bench: &Bench, random: &mut Random) {
         bench.line(&format!("list, {shape}"), 1, |checker| list(checker, &plan));
         bench.line(&format!("compare, {shape}"), 1, |checker| compare(checker, &plan));
     }
-    let largest = generate::largest(random).bytes();
+    let largest = generate::largest(random, Mark::Rrp1).bytes();
     bench.line("check, largest plan", 1, |checker| check(checker, &largest));
     bench.line("verdict, largest plan", 1, |checker| _ = verdict(checker, &largest));
 }
@@ -236,7 +148,7 @@ fn time_growth(bench: &Bench, random: &mut Random) {
         bench.line(&format!("run, same degree, {}", shape.name()), ACTS, |checker| run.by(checker));
         run
     });
-    bench.growth("run, same degree, n = 64 over n = 32", &small, &large);
+    bench.growth("run, same degree, n = 64 over n = 32", [&small, &large], Run::by);
 }
 
 /// Distances from sheets of few links and of the most that there may be.
@@ -263,11 +175,43 @@ fn time_skips(bench: &Bench, random: &mut Random) {
     time_shape(bench, random, &Shape::half_skip(64), "half skip, n = 64");
 }
 
+/// The same plans of either mark, and how many times as long those of RRP2 take.
+fn time_widths(bench: &Bench, random: &mut Random) {
+    for n in [8, 64] {
+        let shape = Shape::mesh(n);
+        let drafts = [shape.draft(random, true), shape.draft(random, false)];
+        let [stable, run] = drafts.each_ref().map(|draft| MARKS.map(|mark| draft.clone().marked(mark)));
+        let runs = run.map(|draft| Run::new(random, &draft, ACTS));
+        let plans = stable.map(|draft| draft.bytes());
+        for (mark, (plan, run)) in MARKS.iter().zip(plans.iter().zip(&runs)) {
+            let (bench, name) = (bench.for_plan(plan), format!("{mark}, {}", shape.name()));
+            bench.line(&format!("verdict stable, {name}"), 1, |checker| assert!(verdict(checker, plan)));
+            bench.line(&format!("run, {name}"), ACTS, |checker| run.by(checker));
+        }
+        let (bench, name) = (bench.for_plan(&plans[1]), format!("RRP2 over RRP1, n = {n}"));
+        bench.growth(&format!("verdict stable, {name}"), plans.each_ref(), |plan, checker| {
+            assert!(verdict(checker, plan));
+        });
+        bench.growth(&format!("run, {name}"), runs.each_ref(), Run::by);
+    }
+}
+
+/// Both directions of the converter, on the largest plans.
+fn time_conversions(bench: &Bench, random: &mut Random) {
+    let largest = generate::largest(random, Mark::Rrp1);
+    let [narrow, wide] = MARKS.map(|mark| largest.clone().marked(mark).bytes());
+    let bench = bench.for_plan(&wide);
+    for (name, plan, result) in [("widen", &narrow, &wide), ("narrow", &wide, &narrow)] {
+        let mut out = vec![0; result.len()];
+        let name = format!("{name}, largest plan");
+        bench.line_and_copy(&name, result, |checker| convert(checker, plan, &mut out));
+    }
+}
+
 /// Prints the lines whose names have the word.
-pub fn bench(word: &str) {
-    println!("library (ours), tight: the best of {TURNS} turns, for a run that of one of its activations");
-    println!("ratios: the median of those of the turns");
-    let bench = Bench { word };
+pub fn bench(word: &str, other: Option<Library>) {
+    println!("library (ours), tight: {}; for a run, that of one of its activations", Turns::said());
+    let bench = Bench { word, other };
     let mut random = Random::new(4456);
     time_checks(&bench, &mut random);
     time_network(&bench, &mut random);
@@ -275,4 +219,6 @@ pub fn bench(word: &str) {
     time_sheets(&bench, &mut random);
     time_cuts(&bench, &mut random);
     time_skips(&bench, &mut random);
+    time_widths(&bench, &mut random);
+    time_conversions(&bench, &mut random);
 }

@@ -3,9 +3,11 @@
 use second_checker::bench::tight::Tight;
 use second_checker::harness::cases;
 use second_checker::harness::comparison::compare;
+use second_checker::harness::plans::draft::Draft;
 use second_checker::harness::plans::{generate, questions};
 use second_checker::harness::random::Random;
 use second_checker::interface::Checker;
+use second_checker::oracle::mark::Mark;
 use second_checker::oracle::{margin_line, verdict_lines};
 use std::env;
 use std::error::Error;
@@ -22,7 +24,8 @@ second verdict                               print the lines the verdict program
 second margin                                print the line the margin program is due to print for standard input
 second write FOLDER [--seed S] [--plans N]   write plans and the lines the verdict program is due to print
 second ask FOLDER [--seed S] [--plans N]     write inputs and the lines the margin program is due to print
-second plan largest|deepest                  write the plan with the most bytes or the highest rank";
+second plan largest|largest-rrp2|deepest|deepest-rrp2
+                                             write the plan with the most bytes or the highest rank, of a mark";
 
 struct Options {
     words: Vec<String>,
@@ -53,7 +56,7 @@ fn options() -> Result<Options, Box<dyn Error>> {
 fn subject(name: &str) -> Result<Box<dyn Checker>, Box<dyn Error>> {
     match name {
         #[cfg(feature = "library")]
-        "library" => Ok(Box::new(second_checker::library::Library)),
+        "library" => Ok(Box::new(second_checker::library::Library::linked())),
         "tight" => Ok(Box::new(Tight)),
         _ => Err(format!("no checker {name} is built in").into()),
     }
@@ -69,6 +72,17 @@ fn compare(options: &Options) -> Result<bool, Box<dyn Error>> {
     println!("seconds {:.1}", started.elapsed().as_secs_f64());
     println!("{counts}");
     Ok(counts.mismatches == 0)
+}
+
+fn fixed_plan(name: &str, seed: u64) -> Result<Draft, Box<dyn Error>> {
+    let random = &mut Random::new(seed);
+    match name {
+        "largest" => Ok(generate::largest(random, Mark::Rrp1)),
+        "largest-rrp2" => Ok(generate::largest(random, Mark::Rrp2)),
+        "deepest" => Ok(generate::deepest()),
+        "deepest-rrp2" => Ok(generate::deepest().marked(Mark::Rrp2)),
+        _ => Err(format!("no plan {name}").into()),
+    }
 }
 
 fn plan_numbered(seed: u64, number: u64) -> Vec<u8> {
@@ -117,8 +131,7 @@ fn program() -> Result<bool, Box<dyn Error>> {
         ["margin"] => print_due(margin_line),
         ["write", folder] => write_inputs(folder, &options, "plan", plan_numbered, verdict_lines),
         ["ask", folder] => write_inputs(folder, &options, "input", questions::numbered, margin_line),
-        ["plan", "largest"] => write(&generate::largest(&mut Random::new(options.seed)).bytes()),
-        ["plan", "deepest"] => write(&generate::deepest().bytes()),
+        ["plan", name] => write(&fixed_plan(name, options.seed)?.bytes()),
         _ => Err("unknown words".into()),
     }
 }

@@ -1,12 +1,15 @@
 //! Distances from a sheet of links, written from document 02 (Slips 1 and 2):
 //! Dijkstra's search from each router; refusals 2, 11 and 12.
 
-use super::plan::{Router, MOST_ROUTERS, NO_WAY};
+use super::plan::{Router, MOST_ROUTERS};
 use std::cmp::Reverse;
 use std::collections::{BTreeMap, BinaryHeap};
 
 pub const MOST_LINKS: usize = 512;
 pub const FARTHEST: u64 = 65_534;
+
+/// What is written where there is no walk.
+const NO_WALK: u16 = 65_535;
 
 /// A link as bytes: from, to, weight low byte first.
 pub type LinkBytes = [u8; 4];
@@ -67,7 +70,7 @@ pub fn written(sums: &Sums) -> Result<Vec<u8>, u8> {
 /// What is written for a least sum, or for none; refusal 12.
 fn distance(sum: Option<u64>) -> Result<u16, u8> {
     match sum {
-        None => Ok(NO_WAY),
+        None => Ok(NO_WALK),
         Some(sum) if sum > FARTHEST => Err(12),
         Some(sum) => Ok(sum as u16),
     }

@@ -2,18 +2,21 @@
 //! algorithms than the library's: sets and sorted orders, depth-first search,
 //! layers, Dijkstra's search.
 
+mod convert;
 mod lines;
 pub mod links;
+pub mod mark;
 pub mod plan;
 pub mod rules;
 pub mod tables;
 pub mod verdict;
 
 use crate::interface::{
-    store, Acts, Checker, CompareFields, Compared, ExplainFields, Explained, Flag, ListFields, RunFields, SizeFields,
-    VerdictBuffers, VerdictFields,
+    store, Acts, Checker, CompareFields, Compared, ExplainFields, Explained, Flag, Lent, ListFields, RunFields,
+    SizeFields, VerdictBuffers, VerdictFields,
 };
 pub use lines::{margin_line, verdict_lines};
+use mark::Mark;
 use plan::Plan;
 use rules::{Case, Right, Rules};
 use std::collections::VecDeque;
@@ -160,6 +163,18 @@ impl<R: Rules> Oracle<R> {
         lent.copy_from_slice(&tables::bytes(&held, case.plan.n));
         Ok(RunFields { applied, rounds, exhausted: Flag::new(u8::from(length > acts.limit)) })
     }
+
+    /// Writes the plan of the other mark; gives its length. A plan of another mark than
+    /// `from` is refused with 1.
+    fn try_convert(&mut self, plan: &[u8], from: Mark, out: &mut [u8]) -> Result<u64, u8> {
+        if Mark::of(plan) != Some(from) {
+            return Err(1);
+        }
+        let reading = self.reading(plan);
+        let result = convert::written(plan_of(&reading)?, from.other())?;
+        out.get_mut(..result.len()).ok_or(9u8)?.copy_from_slice(&result);
+        Ok(result.len() as u64)
+    }
 }
 
 fn try_distances(n: usize, links: &[u8], out: &mut [u8]) -> Result<(), u8> {
@@ -203,6 +218,14 @@ impl<R: Rules> Checker for Oracle<R> {
 
     fn run(&mut self, plan: &[u8], list: usize, acts: Acts, table: &mut [u8], fields: &mut RunFields) -> u8 {
         store(self.try_run(plan, list, acts, table), fields)
+    }
+
+    fn widen(&mut self, plan: &[u8], out: &mut [u8], length: &mut Lent<u64>) -> u8 {
+        store(self.try_convert(plan, Mark::Rrp1, out), &mut length.value)
+    }
+
+    fn narrow(&mut self, plan: &[u8], out: &mut [u8], length: &mut Lent<u64>) -> u8 {
+        store(self.try_convert(plan, Mark::Rrp2, out), &mut length.value)
     }
 
     fn distances(&mut self, n: usize, links: &[u8], out: &mut [u8]) -> u8 {

@@ -1,5 +1,6 @@
 //! Reads the bytes of a plan into sets; gives refusals 1 to 7 and 13.
 
+use super::mark::Mark;
 use std::collections::{BTreeMap, BTreeSet};
 
 /// A router's number: its place in the plan, from 0.
@@ -8,16 +9,12 @@ pub type Router = usize;
 /// The routers an egress list names.
 pub type Listed = BTreeSet<Router>;
 
-pub const LONGEST_PLAN: usize = 16_731;
 pub const FIRST_BODY: usize = 26;
 pub const MOST_ROUTERS: usize = 64;
 pub const MOST_LISTS: usize = 64;
 
 /// The most parents, neighbouring reflectors, that a client may have.
 pub const MOST_PARENTS: usize = 4;
-
-/// What stands for the distance to a router that there is no way to.
-pub const NO_WAY: u16 = 65_535;
 
 /// The roles: of a reflector, of a client, and of a reflector that skips its clients.
 pub const REFLECTOR: u8 = 1;
@@ -33,14 +30,16 @@ pub struct EgressList {
 
 #[derive(Clone)]
 pub struct Plan {
+    pub mark: Mark,
     pub n: usize,
     /// The routers of role 1 or 3.
     pub reflectors: BTreeSet<Router>,
     /// The reflectors of role 3, which skip their own clients.
     pub skipping: BTreeSet<Router>,
+    pub identifiers: Vec<u32>,
     pub neighbours: Vec<BTreeSet<Router>>,
     /// From each router to each; none if there is no way.
-    pub distances: Vec<Vec<Option<u16>>>,
+    pub distances: Vec<Vec<Option<u32>>>,
     pub lists: Vec<EgressList>,
     places: Vec<BTreeMap<Router, usize>>,
 }
@@ -69,6 +68,11 @@ impl Plan {
         most_parents(&self.reflectors, &self.neighbours)
     }
 
+    /// Whether some distance is above the greatest of this mark.
+    pub fn has_distances_past(&self, mark: Mark) -> bool {
+        self.distances.iter().flatten().flatten().any(|&distance| distance > mark.farthest())
+    }
+
     /// Whether some router has no way to some other.
     pub fn has_cuts(&self) -> bool {
         self.places.iter().any(|places| places.len() < self.n)
@@ -77,10 +81,10 @@ impl Plan {
 
 /// Reads a plan, or gives the number of its refusal.
 pub fn read(bytes: &[u8]) -> Result<Plan, u8> {
-    read_letters(bytes)?;
+    let mark = read_mark(bytes)?;
     let n = read_router_count(bytes)?;
-    let [routers, sessions, distances, lists] = read_contents(bytes, n)?;
-    let roles = read_routers(routers)?;
+    let [routers, sessions, distances, lists] = read_contents(bytes, n, mark)?;
+    let (roles, identifiers) = read_routers(routers)?;
     let with_role = |role: u8| (0..n).filter(|&router| roles[router] == role).collect::<BTreeSet<_>>();
     let skipping = with_role(SKIPPING);
     let reflectors = &with_role(REFLECTOR) | &skipping;
@@ -88,16 +92,17 @@ pub fn read(bytes: &[u8]) -> Result<Plan, u8> {
     if most_parents(&reflectors, &neighbours) > MOST_PARENTS {
         return Err(13);
     }
-    let distances = read_distances(distances, n)?;
+    let distances = read_distances(distances, n, mark)?;
     let lists = read_lists(lists, bytes.len() - lists.len(), n)?;
     let places = distances.iter().map(|row| order_of_preference(row)).collect();
-    Ok(Plan { n, reflectors, skipping, neighbours, distances, lists, places })
+    Ok(Plan { mark, n, reflectors, skipping, identifiers, neighbours, distances, lists, places })
 }
 
-fn read_letters(bytes: &[u8]) -> Result<(), u8> {
-    let length_fits = (FIRST_BODY..=LONGEST_PLAN).contains(&bytes.len());
-    let sound = length_fits && bytes.starts_with(b"RRP1") && bytes[5] == 4;
-    sound.then_some(()).ok_or(1)
+/// The mark of a plan whose length and number of entries fit it.
+fn read_mark(bytes: &[u8]) -> Result<Mark, u8> {
+    let mark = Mark::of(bytes).ok_or(1u8)?;
+    let length_fits = (FIRST_BODY..=mark.longest_plan()).contains(&bytes.len());
+    (length_fits && bytes[5] == 4).then_some(mark).ok_or(1)
 }
 
 fn read_router_count(bytes: &[u8]) -> Result<usize, u8> {
@@ -106,7 +111,7 @@ fn read_router_count(bytes: &[u8]) -> Result<usize, u8> {
 }
 
 /// Cuts the plan into its four bodies, as the table of contents says.
-fn read_contents(bytes: &[u8], n: usize) -> Result<[&[u8]; 4], u8> {
+fn read_contents(bytes: &[u8], n: usize, mark: Mark) -> Result<[&[u8]; 4], u8> {
     let (head, mut rest) = bytes.split_at(FIRST_BODY);
     let mut bodies: [&[u8]; 4] = [&[]; 4];
     for (place, entry) in head[6..].chunks_exact(5).enumerate() {
@@ -119,7 +124,8 @@ fn read_contents(bytes: &[u8], n: usize) -> Result<[&[u8]; 4], u8> {
         }
         (bodies[place], rest) = rest.split_at(length);
     }
-    let lengths_fit = bodies[0].len() == 5 * n && bodies[1].len().is_multiple_of(2) && bodies[2].len() == 2 * n * n;
+    let distances_fit = bodies[2].len() == mark.width() * n * n;
+    let lengths_fit = bodies[0].len() == 5 * n && bodies[1].len().is_multiple_of(2) && distances_fit;
     (rest.is_empty() && lengths_fit).then_some(bodies).ok_or(3)
 }
 
@@ -128,14 +134,17 @@ fn rises<T: Ord>(sequence: &[T]) -> bool {
     sequence.iter().collect::<BTreeSet<_>>().into_iter().eq(sequence.iter())
 }
 
-/// The roles of the routers, in their order.
-fn read_routers(body: &[u8]) -> Result<Vec<u8>, u8> {
-    let entries = body.chunks_exact(5);
-    let roles: Vec<u8> = entries.clone().map(|entry| entry[0]).collect();
-    let identifiers: Vec<u32> =
-        entries.map(|entry| entry[1..].iter().rev().fold(0, |sum, &byte| sum << 8 | u32::from(byte))).collect();
+/// The number that these bytes are, the low one first.
+fn number(bytes: &[u8]) -> u32 {
+    bytes.iter().rev().fold(0, |sum, &byte| sum << 8 | u32::from(byte))
+}
+
+/// The roles and the identifiers of the routers, in their order.
+fn read_routers(body: &[u8]) -> Result<(Vec<u8>, Vec<u32>), u8> {
+    let (roles, identifiers): (Vec<u8>, Vec<u32>) =
+        body.chunks_exact(5).map(|entry| (entry[0], number(&entry[1..]))).unzip();
     let known = |role: &u8| [REFLECTOR, CLIENT, SKIPPING].contains(role);
-    (roles.iter().all(known) && rises(&identifiers)).then_some(roles).ok_or(4)
+    (roles.iter().all(known) && rises(&identifiers)).then_some((roles, identifiers)).ok_or(4)
 }
 
 fn read_sessions(body: &[u8], n: usize) -> Result<Vec<BTreeSet<Router>>, u8> {
@@ -158,10 +167,10 @@ fn most_parents(reflectors: &BTreeSet<Router>, neighbours: &[BTreeSet<Router>]) 
     clients.map(|(_, neighbours)| neighbours.intersection(reflectors).count()).max().unwrap_or(0)
 }
 
-fn read_distances(body: &[u8], n: usize) -> Result<Vec<Vec<Option<u16>>>, u8> {
-    let numbers = body.chunks_exact(2).map(|pair| u16::from(pair[0]) + 256 * u16::from(pair[1]));
-    let all: Vec<Option<u16>> = numbers.map(|number| (number != NO_WAY).then_some(number)).collect();
-    let rows: Vec<Vec<Option<u16>>> = all.chunks_exact(n).map(<[_]>::to_vec).collect();
+fn read_distances(body: &[u8], n: usize, mark: Mark) -> Result<Vec<Vec<Option<u32>>>, u8> {
+    let numbers = body.chunks_exact(mark.width()).map(number);
+    let all: Vec<Option<u32>> = numbers.map(|number| (number != mark.no_way()).then_some(number)).collect();
+    let rows: Vec<Vec<Option<u32>>> = all.chunks_exact(n).map(<[_]>::to_vec).collect();
     let diagonal_is_zero = rows.iter().enumerate().all(|(router, row)| row[router] == Some(0));
     diagonal_is_zero.then_some(rows).ok_or(6)
 }
@@ -195,8 +204,8 @@ fn read_listed(numbers: &[u8], n: usize) -> Result<Listed, u8> {
 
 /// For each egress router that there is a way to its place among these, by
 /// distance and then number.
-fn order_of_preference(row: &[Option<u16>]) -> BTreeMap<Router, usize> {
+fn order_of_preference(row: &[Option<u32>]) -> BTreeMap<Router, usize> {
     let with_way = row.iter().zip(0..).filter_map(|(distance, egress)| Some((distance.as_ref()?, egress)));
-    let order: BTreeSet<(&u16, Router)> = with_way.collect();
+    let order: BTreeSet<(&u32, Router)> = with_way.collect();
     order.into_iter().map(|(_, egress)| egress).zip(0..).collect()
 }

@@ -1,5 +1,6 @@
 //! What must hold of the oracle's answers on random plans and sheets.
 
+mod conversions;
 mod explained_pairs;
 mod least_sums;
 mod verdicts;

@@ -1,15 +1,18 @@
 //! What documents 01 and 02 state of small plans and sheets, held against the oracle.
 
+mod small_conversions;
 mod small_explanations;
 mod small_margins;
 mod small_parents;
 mod small_plans;
 mod small_roles;
 mod small_sheets;
+mod small_widths;
 
 use crate::Outcome;
 use second_checker::harness::comparison::call::{perform, Answer, Call};
 use second_checker::harness::plans::draft::Draft;
+use second_checker::oracle::mark::Mark;
 use second_checker::oracle::Oracle;
 use std::fmt::Debug;
 
@@ -20,7 +23,13 @@ fn same<T: PartialEq + Debug>(what: &str, found: T, expected: T) -> Outcome {
     Err(format!("{what}: found {found:?}, expected {expected:?}"))
 }
 
-/// The oracle's answer to a call.
+/// The oracle's answer to a call. For a plan of RRP1 it is that for the plan of RRP2, in which
+/// "all else is as in RRP1".
 fn answer(draft: &Draft, call: &Call) -> Answer {
-    perform(&mut Oracle::right(), &draft.bytes(), call, 7)
+    let of = |plan: &[u8]| perform(&mut Oracle::right(), plan, call, 7);
+    let answer = of(&draft.bytes());
+    if draft.mark == Mark::Rrp1 {
+        assert_eq!(answer, of(&draft.clone().marked(Mark::Rrp2).bytes()));
+    }
+    answer
 }

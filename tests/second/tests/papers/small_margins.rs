@@ -8,6 +8,7 @@ use second_checker::harness::plans::draft::Draft;
 use second_checker::harness::plans::generate;
 use second_checker::harness::plans::small_plans::{draft, with_cuts};
 use second_checker::harness::random::Random;
+use second_checker::oracle::mark::Mark;
 use second_checker::oracle::{margin_line, verdict_lines, Oracle};
 use std::collections::BTreeSet;
 
@@ -61,6 +62,7 @@ fn a_cycle_of_four_is_suspect_and_in_tens_it_would_be_stable() -> Outcome {
         _ => 100,
     };
     let plan = Draft {
+        mark: Mark::Rrp1,
         reflector: (0..8).map(|router| router < 4).collect(),
         skips: BTreeSet::new(),
         identifiers: (1..=8).collect(),
@@ -81,7 +83,7 @@ fn the_margin_program_prints_the_margin_or_none_or_the_refusal() -> Outcome {
     let line = |asked: &[u8], plan: &[u8]| margin_line(&[asked, plan].concat());
     let (nearer, tie) = (draft(6, 6, &[&[0]]).bytes(), draft(10, 10, &[&[0]]).bytes());
     let cut = with_cuts(&[0], &[(0, 2)]).bytes();
-    let longer = [generate::largest(&mut Random::new(0)).bytes(), vec![0]].concat();
+    let longer = [generate::largest(&mut Random::new(0), Mark::Rrp1).bytes(), vec![0]].concat();
     let expected: [(&[u8], &[u8], &str); 10] = [
         (&[0, 3, 2], &nearer, "-4\n"),
         (&[0, 2, 3], &nearer, "4\n"),

@@ -4,14 +4,15 @@ use native.Mathlib.Omega.{arith}
 use mathlib.Core.Path.{refl}
 use borrow.Author.Needs.{needs}
 use lib.ListN.{length, length-set}
-use Rattle.links_rules.specs.Distances.{wordOf, rowOf}
+use Rattle.base.specs.Bytes.{bytesOf}
+use Rattle.plan_rules.specs.Distances.{rowOf}
 use Rattle.links_words.specs.Lowered.{wordAt}
 use Rattle.base.proofs.Joined.{Joining, join-start, join-length, join-room, join-more, join-done, two-set}
 use Rattle.call_distances.proofs.body.write_row.Statement.{statement}
 use Rattle.call_distances.proofs.body.write_row.Tie as tie
 
 abbrev Inv-loop : tie.InvT-loop
-Inv-loop words n u out₀ at e₀ out e = Joining (λ e. wordOf (wordAt words u e)) 2 n out₀ at out e
+Inv-loop words n u out₀ at e₀ out e = Joining (λ e. bytesOf 2 (wordAt words u e)) 2 n out₀ at out e
 
 abbrev μ-loop : tie.MeasureT-loop
 μ-loop words n u out₀ at e₀ out e = n - e

@@ -7,8 +7,9 @@ use Rattle.net_rules.specs.Decoded.{decoded}
 use Rattle.net_tables.specs.TableBytes.{RoutesIn, routeAt, putRoute, activateBytes}
 use Rattle.route_rules.proofs.Routes.{choose-listed}
 use Rattle.net_tables.proofs.TableBytes.{read-via, table-below}
-use Rattle.net_activate.specs.OnePass.{keyRoute}
-use Rattle.net_activate.proofs.OnePass.{distance-below, least-choice}
+use Rattle.net_activate.specs.OnePass.{numbersOf, keyRoute}
+use Rattle.net_activate.proofs.OnePass.{least-choice}
+use Rattle.net_activate.proofs.Numbers.{numbers-from}
 use Rattle.net_activate.proofs.activations.activate.Statement.{statement}
 use Rattle.net_activate.proofs.activations.activate.Tie as tie
 
@@ -32,15 +33,17 @@ returns-2 : tie.Need-returns-2
 unfolding activateBytes
 returns-2 c =
     let k = c .before .before .before .before in
-    let e = k .before .before .before in
+    let n = k .before .before .before in
+    let e = n .before in
     let s = e .before .before .before in
     let d = s .before in
     c .before .before .put-route2 .ensures
     ∙ ap (putRoute (d .args .table .now) (d .args .w))
-    (k .key-route .ensures
-    ∙ ap keyRoute (k .before .best-heard .ensures)
-    ∙ least-choice (instance d) _ (routeAt (d .args .table .now)) (d .pre .0 .count) (λ f. distance-below (d .args .distances .now) _ _ f (λ i. omega (arith, s .shared-slice-known .given i)))
-    (λ f. refl) (below d .below) (sym (e .before .has-bit .ensures) ∙ e .if1 .left))
+    (k .key-route .ensures (numbersOf (d .args .net) (d .args .distances .now) (d .args .w)) (n .no-key .ensures)
+    ∙ ap (keyRoute (numbersOf (d .args .net) (d .args .distances .now) (d .args .w))) (k .before .best-heard .ensures)
+    ∙ least-choice _ (instance d) _ (routeAt (d .args .table .now)) (d .pre .0 .count)
+    (numbers-from (d .args .net) (d .args .rows .now) (d .args .distances .now) _ (d .pre .0 .pairs .bytes) (λ i. omega (arith, s .shared-slice-known .given i)))
+    (below d .below) (sym (e .before .has-bit .ensures) ∙ e .if1 .left))
 
 pub activate-spec : {M : Type 1} → statement M
 activate-spec =
@@ -52,7 +55,8 @@ activate-spec =
     (λ c κs. search needs)
     (λ c. search needs)
     returns
-    (λ c κs. let d = c .before .before .before .before .before in let p = d .pre in (p .0, p .1, below d))
+    (λ c κs. c .before .before .before .before .pre .0 .pairs .bytes)
+    (λ c κs. let d = c .before .before .before .before .before .before in let p = d .pre in (p .0, p .1, below d, c .before .no-key .ensures))
     (λ c κs. search needs)
     (λ c κs. search needs)
     (λ c. search needs)

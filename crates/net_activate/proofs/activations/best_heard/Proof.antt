@@ -6,16 +6,16 @@ use Rattle.route_rules.specs.Instance.{Instance, Route}
 use Rattle.route_rules.specs.Activation.{advertises}
 use Rattle.net_rules.specs.Decoded.{decoded}
 use Rattle.net_tables.specs.TableBytes.{routeAt}
-use Rattle.net_activate.specs.OnePass.{toldKey}
+use Rattle.net_activate.specs.OnePass.{numbersOf, toldKey}
 use Rattle.net_activate.proofs.MayAdvertise.{Hearing, hearing-start, hearing-below, hearing-kind, hearing-more, hearing-done}
 use Rattle.net_activate.proofs.activations.best_heard.Statement.{statement}
 use Rattle.net_activate.proofs.activations.best_heard.Tie as tie
 
 abbrev Inv-loop : tie.InvT-loop
-Inv-loop net rows distances w table least₀ left₀ least left = Hearing net rows distances w (routeAt table) least left
+Inv-loop net rows distances w table none least₀ left₀ least left = Hearing net rows distances w (routeAt table) least left
 
 abbrev μ-loop : tie.MeasureT-loop
-μ-loop net rows distances w table least₀ left₀ least left = left
+μ-loop net rows distances w table none least₀ left₀ least left = left
 
 -- after a neighbour is found
 abbrev Visit : Type 0
@@ -48,6 +48,7 @@ advertised-requires c κs =
       p .0 .pairs,
       rw (c .route-at .ensures) (p .2 .below _ (below v)),
       hearing-kind (a .net) (a .rows .now) (a .distances .now) (p .0) (a .w) (view d) _ _ (v .before .before .loop .inv) _ (v .lowest-bit .ensures .0),
+      p .3,
     )
 
 loop-again : tie.Need-loop-again Inv-loop μ-loop
@@ -64,7 +65,7 @@ loop-again c =
     (l .lesser .ensures
     ∙ ap (min (v .before .before .loop .least))
     (h .advertised .ensures (a .rows .now)
-    ∙ ap (λ x. toldKey I (a .w) (v .lowest-bit .result) (advertises I (v .lowest-bit .result) x (a .w))) (h .before .route-at .ensures)))
+    ∙ ap (λ x. toldKey (numbersOf (a .net) (a .distances .now) (a .w)) (v .lowest-bit .result) (advertises I (v .lowest-bit .result) x (a .w))) (h .before .route-at .ensures)))
 
 returns : tie.Need-returns Inv-loop μ-loop
 returns c =
@@ -80,7 +81,7 @@ best-heard-spec =
     μ-loop
     (λ c. search needs)
     (λ c. search needs)
-    (λ c. hearing-start _ _ _ (c .before .before .before .before .pre .0) _ _)
+    (λ c. let p = c .before .before .before .before .pre in rw (p .3) (hearing-start _ _ _ (p .0) _ _))
     (λ c κs. search needs)
     route-at-requires
     advertised-requires

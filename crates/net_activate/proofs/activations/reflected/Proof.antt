@@ -10,7 +10,7 @@ use Rattle.route_rules.specs.Activation.{reflects}
 use Rattle.route_rules.proofs.Routes.{reflects-nothing}
 use Rattle.net_rules.specs.Decoded.{decoded}
 use Rattle.net_tables.specs.TableBytes.{routeOf}
-use Rattle.net_activate.specs.OnePass.{toldKey}
+use Rattle.net_activate.specs.OnePass.{numbersOf, toldKey}
 use Rattle.net_tables.proofs.TableBytes.{read-via}
 use Rattle.net_activate.proofs.OnePass.{told-nothing, told-egress, route-none, route-some}
 use Rattle.net_activate.proofs.activations.reflected.Statement.{statement}
@@ -21,9 +21,11 @@ returns c rows =
     let d = c .before .before .before in
     let a = d .args in
     let I = decoded (a .net) rows (a .distances .now) in
-    sym (ap (λ x. toldKey I (a .w) (a .v) (reflects I (a .v) x (a .w))) (route-none _ _ _ (d .pre .0) (d .pre .4) (c .if1 .taken))
-    ∙ ap (toldKey I (a .w) (a .v)) (reflects-nothing I (a .v) (a .w))
-    ∙ told-nothing I (a .w) (a .v))
+    let N = numbersOf (a .net) (a .distances .now) (a .w) in
+    d .pre .5
+    ∙ sym (ap (λ x. toldKey N (a .v) (reflects I (a .v) x (a .w))) (route-none _ _ _ (d .pre .0) (d .pre .4) (c .if1 .taken))
+    ∙ ap (toldKey N (a .v)) (reflects-nothing I (a .v) (a .w))
+    ∙ told-nothing N (a .v))
 
 -- a route is held, of routers
 held-below : (c : tie.Else1) → let a = c .before .before .before .args in
@@ -51,7 +53,7 @@ module _ (c : tie.After-passes-on) (rows : List ℕ) where
   I = decoded (start .args .net) rows (start .args .distances .now)
 
   abbrev told : Option ℕ → ℕ
-  told = toldKey I (start .args .w) (start .args .v)
+  told = toldKey (numbersOf (start .args .net) (start .args .distances .now) (start .args .w)) (start .args .v)
 
   passed : {t : Option ℕ} → cond (c .passes-on .result) (some (c .before .before .before .wide .result)) none ≡ t
       → told (reflects I (start .args .v) (routeOf (start .args .route)) (start .args .w)) ≡ told t
@@ -64,12 +66,13 @@ returns-2 : tie.Need-returns-2
 returns-2 c rows =
     let d = c .before in
     d .before .before .route-key .ensures
-    ∙ sym (passed d rows (ap (λ b. cond b (some (d .before .before .before .wide .result)) none) (c .if2 .taken)) ∙ told-egress (I d rows) _ _ _)
+    ∙ sym (passed d rows (ap (λ b. cond b (some (d .before .before .before .wide .result)) none) (c .if2 .taken)) ∙ told-egress _ _ _)
 
 returns-3 : tie.Need-returns-3
 returns-3 c rows =
     let d = c .before in
-    sym (passed d rows (ap (λ b. cond b (some (d .before .before .before .wide .result)) none) (c .if2 .left)) ∙ told-nothing (I d rows) _ _)
+    start d rows .pre .5
+    ∙ sym (passed d rows (ap (λ b. cond b (some (d .before .before .before .wide .result)) none) (c .if2 .left)) ∙ told-nothing _ _)
 
 pub reflected-spec : {M : Type 1} → statement M
 reflected-spec =

@@ -12,7 +12,7 @@ add-result-2 c = let a = c .before .before .before .args in omega (arith, c .sen
 returns : tie.Need-returns
 returns c =
     let e = c .before .before .before .args .egress in
-    ap₂ (λ d m. d * 65536 + e * 256 + m) (c .before .distance .ensures .0) (c .sender-mark .ensures) ∙ sym (key-is _ _ _)
+    ap₂ (λ d m. d * 65536 + e * 256 + m) (c .before .number .ensures .0) (c .sender-mark .ensures) ∙ sym (key-is _ _ _)
 
 pub route-key-spec : {M : Type 1} → statement M
 route-key-spec =

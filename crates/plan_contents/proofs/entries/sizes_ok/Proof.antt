@@ -1,4 +1,5 @@
 -- At each return the guards that led there say what the check is.
+use native.Mathlib.Nat.{mul-le-mul}
 use native.Mathlib.Omega.{arith}
 use borrow.Author.Needs.{needs}
 use Rattle.base.proofs.Numbers.{square-le, tests}
@@ -19,6 +20,8 @@ sizes-ok-spec =
     (λ c. search tests)
     (λ c. search needs)
     (λ c. search needs)
-    (λ c. omega (arith, square-le _ 64 (c .before .before .before .before .before .before .before .before .pre)))
-    (λ c. omega (arith, square-le _ 64 (c .before .before .before .before .before .before .before .before .pre)))
+    (λ c. let p = c .before .before .before .before .before .before .before .before .pre in omega (arith, square-le _ 64 (p .1)))
+    (λ c.
+    let p = c .before .before .before .before .before .before .before .before .pre in
+    omega (arith, mul-le-mul (p .0) (square-le _ 64 (p .1))))
     (λ c. search tests))

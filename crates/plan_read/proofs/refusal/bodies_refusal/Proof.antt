@@ -36,11 +36,11 @@ abbrev entry₄ : tie.Else4 → tie.Start
 entry₄ c = entry₃ (c .before .before .before .before)
 
 -- row 3's facts, and that the bodies lie within the plan
-row3 : (c : tie.Start) → Contents (c .args .t2) (c .args .n) (length (c .args .plan .now))
-row3 c = contents-facts _ _ _ (c .pre .1)
+row3 : (c : tie.Start) → Contents (c .args .t2) (c .args .width) (c .args .n) (length (c .args .plan .now))
+row3 c = contents-facts _ _ _ _ (c .pre .2)
 
 within : (c : tie.Start) → Within (c .args .t2) (length (c .args .plan .now))
-within c = bodies-within _ _ _ (row3 c)
+within c = bodies-within _ _ _ _ (row3 c)
 
 -- what a check of a part tells of the body that the part is
 module _ (ok : List ℕ → ℕ → Bool) (n : ℕ) {r : Bool} {part given : List ℕ} (answer : r ≡ ok part n) (is : part ≡ given) where
@@ -79,10 +79,10 @@ parents-answer c =
 parents-pass : (c : tie.Else3) → let e = entry₃ c in parentsOk (part routersEntry e) (part sessionsEntry e) (e .args .n) ≡ true
 parents-pass c = yes _ (parents-answer (c .before .before)) (c .if3 .left)
 
-distances-pass : (c : tie.Else4) → Passes distancesOk distancesEntry (entry₄ c)
+distances-pass : (c : tie.Else4) → Passes (distancesOk (entry₄ c .args .width)) distancesEntry (entry₄ c)
 unfolding Passes
 distances-pass c =
-    passes distancesOk (entry₄ c .args .n) (c .before .distances-ok .ensures) (c .before .before .body-of3 .ensures .bytes) (c .if4 .left)
+    passes (distancesOk (entry₄ c .args .width)) (entry₄ c .args .n) (c .before .distances-ok .ensures) (c .before .before .body-of3 .ensures .bytes) (c .if4 .left)
 
 routers-long : (c : tie.After-body-of) → 5 * c .before .before .before .args .n ≤ length (c .body-of .result .now)
 routers-long c =
@@ -94,7 +94,7 @@ distances-ok-requires : tie.Need-distances-ok-requires
 distances-ok-requires c κs =
     let d = entry₃ (c .before .before) in
     let size = body-length (d .args .plan .now) (distancesEntry (d .args .t2)) (within d .distances) in
-    (d .pre .0, omega (arith, row3 d, size, ap length (c .body-of3 .ensures .bytes)))
+    record { bytes = d .pre .1; pairs = omega (arith, row3 d, size, ap length (c .body-of3 .ensures .bytes)) }
 
 returns : tie.Need-returns
 unfolding bodyChecks refuse
@@ -127,7 +127,7 @@ returns-4 c =
       routers-pass (d₂ .before .before .before .before .before),
       sessions-pass d₂,
       parents-pass d₃,
-      fails distancesOk (entry₃ d₃ .args .n) (c .before .distances-ok .ensures) (c .before .before .body-of3 .ensures .bytes) (c .if4 .taken),
+      fails (distancesOk (entry₃ d₃ .args .width)) (entry₃ d₃ .args .n) (c .before .distances-ok .ensures) (c .before .before .body-of3 .ensures .bytes) (c .if4 .taken),
     )
 
 returns-5 : tie.Need-returns-5

@@ -26,12 +26,18 @@ returns c =
 
 returns-2 : tie.Need-returns-2
 returns-2 c =
-    let d = c .before .before in
+    let d = c .before .before .before .before in
     let z = ok (d .before .before .before) in
     record {
       number = sym z;
       accepted =
-          λ h. record { ok = z; routers = refl; lists = ap (λ s. getD s 0 0) (lists-are d); contents = d .before .before .read-contents .ensures };
+          λ h. record {
+            ok = z;
+            routers = refl;
+            lists = ap (λ s. getD s 0 0) (lists-are d);
+            bytes = c .width-of .ensures;
+            contents = d .before .before .read-contents .ensures;
+          };
     }
 
 pub check-spec : {M : Type 1} → statement M
@@ -46,4 +52,6 @@ check-spec =
     (λ c κs. rw (c .before .read-contents .ensures) (part-within _ (passed _ (ok (c .before .before))) 3 (lit< tt)))
     (λ c. omega (arith, passed _ (ok (c .before .before .before .before)) .header .least))
     (λ c. let d = c .before .before in omega (arith, passed _ (ok (d .before .before .before)) .lists .held, ap length (lists-are d)))
+    (λ c. omega (arith, passed _ (ok (c .before .before .before .before .before .before)) .header .least))
+    (λ c κs. search needs)
     returns-2)

@@ -2,24 +2,28 @@
 //! decoded once a call into a set of 64 bits a router, neighbours are found by
 //! their set bits, and routes are compared by one packed key.
 
+mod convert;
+mod distance;
 mod links;
 mod reader;
 mod rules;
 mod verdict;
 
 use crate::interface::{
-    store, Acts, Checker, CompareFields, Compared, ExplainFields, Explained, Flag, ListFields, RunFields, SizeFields,
-    VerdictBuffers, VerdictFields,
+    store, Acts, Checker, CompareFields, Compared, ExplainFields, Explained, Flag, Lent, ListFields, RunFields,
+    SizeFields, VerdictBuffers, VerdictFields,
 };
+use convert::{narrow, widen};
+use distance::Distance;
 use links::distances;
-use reader::{check, read, Bodies};
-use rules::{key, Network, NO_WAY_KEY};
+use reader::{check, read};
+use rules::{key, Network};
 use std::iter;
-use verdict::verdict;
+use verdict::verdict as verdict_of;
 
 const MOST: usize = 64;
 
-/// A distance, or an entry of a routing table: egress and sender.
+/// A session, or an entry of a routing table: egress and sender.
 type Pair = [u8; 2];
 
 /// The entry that holds no route.
@@ -38,38 +42,67 @@ fn bits(mut set: u64) -> impl Iterator<Item = usize> {
     })
 }
 
-fn network(plan: &[u8], list: usize) -> Result<Network<'_>, u8> {
+/// Makes a call with distances of the width that the plan's mark says.
+macro_rules! by_mark {
+    ($call:ident($plan:expr $(, $argument:expr)*)) => {
+        if $plan.starts_with(b"RRP2") {
+            $call::<[u8; 4]>($plan $(, $argument)*)
+        } else {
+            $call::<[u8; 2]>($plan $(, $argument)*)
+        }
+    };
+}
+
+fn network<D: Distance>(plan: &[u8], list: usize) -> Result<Network<'_, D>, u8> {
     let (bodies, rows) = read(plan)?;
     let listed = bodies.listed(list)?;
     Ok(Network { bodies, rows, listed })
 }
 
-fn compare(plan: &[u8], router: usize, pair: (usize, usize)) -> Result<Compared, u8> {
-    let plan = check(plan)?;
+fn sound<D: Distance>(plan: &[u8]) -> Result<(), u8> {
+    check::<D>(plan).map(|_| ())
+}
+
+fn size<D: Distance>(plan: &[u8]) -> Result<SizeFields, u8> {
+    let plan = check::<D>(plan)?;
+    Ok(SizeFields { routers: plan.n as u64, lists: u64::from(plan.list_count()) })
+}
+
+fn list<D: Distance>(plan: &[u8], list: usize) -> Result<ListFields, u8> {
+    let (start, count) = check::<D>(plan)?.list(list)?;
+    Ok(ListFields { start: start as u64, count: count as u64 })
+}
+
+fn compare<D: Distance>(plan: &[u8], router: usize, pair: (usize, usize)) -> Result<Compared, u8> {
+    let plan = check::<D>(plan)?;
     let distances = plan.distances_from(plan.router(router)?);
     let [first, second] = [plan.router(pair.0)?, plan.router(pair.1)?].map(|egress| key(distances, egress));
     let best = first.min(second);
-    let better = if first == second || best >= NO_WAY_KEY { 0 } else { 1 + u8::from(best == second) };
-    let [to_first, to_second] = [first, second].map(|key| i64::from(key >> 8));
-    let margin = (first.max(second) < NO_WAY_KEY).then_some(to_first - to_second);
+    let better = if first == second || best >= D::NO_WAY_KEY { 0 } else { 1 + u8::from(best == second) };
+    let [to_first, to_second] = [first, second].map(|key| (key >> 8) as i64);
+    let margin = (first.max(second) < D::NO_WAY_KEY).then_some(to_first - to_second);
     Ok((better, margin))
 }
 
-fn relies(plan: &[u8], list: usize, pair: (usize, usize)) -> Result<u8, u8> {
-    let network = network(plan, list)?;
+fn relies<D: Distance>(plan: &[u8], list: usize, pair: (usize, usize)) -> Result<u8, u8> {
+    let network = network::<D>(plan, list)?;
     let (router, other) = (network.bodies.router(pair.0)?, network.bodies.router(pair.1)?);
     let relied_on = network.relied_on(router, 1 << other, |reflector| network.offer(reflector));
     Ok(u8::from(has(relied_on, other)))
 }
 
-fn explain(plan: &[u8], list: usize, pair: (usize, usize)) -> Result<Explained, u8> {
-    let network = network(plan, list)?;
+fn explain<D: Distance>(plan: &[u8], list: usize, pair: (usize, usize)) -> Result<Explained, u8> {
+    let network = network::<D>(plan, list)?;
     let (router, other) = (network.bodies.router(pair.0)?, network.bodies.router(pair.1)?);
     Ok(network.explain(router, other))
 }
 
-fn activate(plan: &[u8], list: usize, router: usize, table: &mut [u8]) -> Result<(), u8> {
-    let network = network(plan, list)?;
+fn verdict<D: Distance>(plan: &[u8], list: usize, lent: VerdictBuffers) -> Result<VerdictFields, u8> {
+    verdict_of(&network::<D>(plan, list)?, lent)
+}
+
+fn activate<D: Distance>(plan: &[u8], list: usize, router: usize, table: &mut [u8]) -> Result<(), u8> {
+    let network = network::<D>(plan, list)?;
     let router = network.bodies.router(router)?;
     let (table, _) = table.as_chunks_mut();
     network.check_table(table)?;
@@ -77,8 +110,8 @@ fn activate(plan: &[u8], list: usize, router: usize, table: &mut [u8]) -> Result
     Ok(())
 }
 
-fn run(plan: &[u8], list: usize, acts: Acts, table: &mut [u8]) -> Result<RunFields, u8> {
-    let network = network(plan, list)?;
+fn run<D: Distance>(plan: &[u8], list: usize, acts: Acts, table: &mut [u8]) -> Result<RunFields, u8> {
+    let network = network::<D>(plan, list)?;
     let n = network.bodies.n;
     if acts.sequence.iter().any(|&router| usize::from(router) >= n) {
         return Err(8);
@@ -104,41 +137,47 @@ pub struct Tight;
 
 impl Checker for Tight {
     fn check(&mut self, plan: &[u8]) -> u8 {
-        store(check(plan).map(|_| ()), &mut ())
+        store(by_mark!(sound(plan)), &mut ())
     }
 
     fn size(&mut self, plan: &[u8], fields: &mut SizeFields) -> u8 {
-        let size = |plan: Bodies| SizeFields { routers: plan.n as u64, lists: u64::from(plan.list_count()) };
-        store(check(plan).map(size), fields)
+        store(by_mark!(size(plan)), fields)
     }
 
-    fn list(&mut self, plan: &[u8], list: usize, fields: &mut ListFields) -> u8 {
-        let found = check(plan).and_then(|plan| plan.list(list));
-        store(found.map(|(start, count)| ListFields { start: start as u64, count: count as u64 }), fields)
+    fn list(&mut self, plan: &[u8], number: usize, fields: &mut ListFields) -> u8 {
+        store(by_mark!(list(plan, number)), fields)
     }
 
     fn compare(&mut self, plan: &[u8], router: usize, pair: (usize, usize), fields: &mut CompareFields) -> u8 {
-        store(compare(plan, router, pair).map(|answer| fields.put(answer)), &mut ())
+        store(by_mark!(compare(plan, router, pair)).map(|answer| fields.put(answer)), &mut ())
     }
 
     fn relies(&mut self, plan: &[u8], list: usize, pair: (usize, usize), answer: &mut u8) -> u8 {
-        store(relies(plan, list, pair), answer)
+        store(by_mark!(relies(plan, list, pair)), answer)
     }
 
     fn explain(&mut self, plan: &[u8], list: usize, pair: (usize, usize), fields: &mut ExplainFields) -> u8 {
-        store(explain(plan, list, pair).map(|answer| fields.put(answer)), &mut ())
+        store(by_mark!(explain(plan, list, pair)).map(|answer| fields.put(answer)), &mut ())
     }
 
     fn verdict(&mut self, plan: &[u8], list: usize, lent: VerdictBuffers, fields: &mut VerdictFields) -> u8 {
-        store(network(plan, list).and_then(|network| verdict(&network, lent)), fields)
+        store(by_mark!(verdict(plan, list, lent)), fields)
     }
 
     fn activate(&mut self, plan: &[u8], list: usize, router: usize, table: &mut [u8]) -> u8 {
-        store(activate(plan, list, router, table), &mut ())
+        store(by_mark!(activate(plan, list, router, table)), &mut ())
     }
 
     fn run(&mut self, plan: &[u8], list: usize, acts: Acts, table: &mut [u8], fields: &mut RunFields) -> u8 {
-        store(run(plan, list, acts, table), fields)
+        store(by_mark!(run(plan, list, acts, table)), fields)
+    }
+
+    fn widen(&mut self, plan: &[u8], out: &mut [u8], length: &mut Lent<u64>) -> u8 {
+        store(widen(plan, out), &mut length.value)
+    }
+
+    fn narrow(&mut self, plan: &[u8], out: &mut [u8], length: &mut Lent<u64>) -> u8 {
+        store(narrow(plan, out), &mut length.value)
     }
 
     fn distances(&mut self, n: usize, links: &[u8], out: &mut [u8]) -> u8 {

@@ -1,52 +1,53 @@
 //! Checks a plan in one pass, and decodes its sessions into sets of bits on the
 //! way; refusals 1 to 7 and 13.
 
+use super::distance::Distance;
 use super::{has, Pair, MOST};
 
 /// A plan found sound. Distances and lists stay as they are in its bytes.
-pub struct Bodies<'a> {
+pub struct Bodies<'a, D> {
     pub n: usize,
     pub reflectors: u64,
     /// The reflectors that skip their own clients.
     pub skipping: u64,
-    distances: &'a [Pair],
-    lists: &'a [u8],
+    pub distances: &'a [D],
+    pub lists: &'a [u8],
     lists_at: usize,
 }
 
 /// Checks a plan.
-pub fn check(plan: &[u8]) -> Result<Bodies<'_>, u8> {
+pub fn check<D: Distance>(plan: &[u8]) -> Result<Bodies<'_, D>, u8> {
     Ok(sound(plan, count_parents)?.0)
 }
 
 /// Checks a plan and decodes the neighbours of each router.
-pub fn read(plan: &[u8]) -> Result<(Bodies<'_>, [u64; MOST]), u8> {
+pub fn read<D: Distance>(plan: &[u8]) -> Result<(Bodies<'_, D>, [u64; MOST]), u8> {
     sound(plan, decode_neighbours)
 }
 
 /// Checks a plan; `read_sessions` is given n and the reflectors.
-fn sound<T>(
+fn sound<D: Distance, T>(
     plan: &[u8],
     read_sessions: impl FnOnce(&[Pair], usize, u64) -> Result<T, u8>,
-) -> Result<(Bodies<'_>, T), u8> {
-    if plan.len() < 26 || plan.len() > 16_731 || &plan[..4] != b"RRP1" || plan[5] != 4 {
+) -> Result<(Bodies<'_, D>, T), u8> {
+    if plan.len() < 26 || plan.len() > D::LONGEST_PLAN || plan[..4] != D::MARK || plan[5] != 4 {
         return Err(1);
     }
     let n = usize::from(plan[4]);
     if n == 0 || n > MOST {
         return Err(2);
     }
-    let [routers, sessions, distances, lists] = cut(plan, n)?;
+    let [routers, sessions, distances, lists] = cut::<D>(plan, n)?;
     let (reflectors, skipping) = read_routers(routers)?;
     let of_sessions = read_sessions(sessions.as_chunks().0, n, reflectors)?;
-    let (distances, _) = distances.as_chunks();
+    let distances = D::all(distances);
     check_distances(distances, n)?;
     check_lists(lists, n)?;
     Ok((Bodies { n, reflectors, skipping, distances, lists, lists_at: plan.len() - lists.len() }, of_sessions))
 }
 
 /// Cuts a plan into its bodies by the table of contents.
-fn cut(plan: &[u8], n: usize) -> Result<[&[u8]; 4], u8> {
+fn cut<D>(plan: &[u8], n: usize) -> Result<[&[u8]; 4], u8> {
     let mut bodies = [plan; 4];
     let mut end = 26;
     for (place, entry) in plan[6..26].as_chunks::<5>().0.iter().enumerate() {
@@ -59,7 +60,7 @@ fn cut(plan: &[u8], n: usize) -> Result<[&[u8]; 4], u8> {
         bodies[place] = &plan[start..end];
     }
     let lengths = bodies.map(<[u8]>::len);
-    if end != plan.len() || lengths[0] != 5 * n || lengths[1] % 2 != 0 || lengths[2] != 2 * n * n {
+    if end != plan.len() || lengths[0] != 5 * n || lengths[1] % 2 != 0 || lengths[2] != size_of::<D>() * n * n {
         return Err(3);
     }
     Ok(bodies)
@@ -121,8 +122,8 @@ fn check_parents(n: usize, reflectors: u64, too_many: impl Fn(usize) -> bool) ->
     Ok(())
 }
 
-fn check_distances(distances: &[Pair], n: usize) -> Result<(), u8> {
-    if distances.iter().step_by(n + 1).any(|&distance| distance != [0, 0]) {
+fn check_distances<D: Distance>(distances: &[D], n: usize) -> Result<(), u8> {
+    if distances.iter().step_by(n + 1).any(|&distance| distance != D::ZERO) {
         return Err(6);
     }
     Ok(())
@@ -155,7 +156,7 @@ fn check_lists(body: &[u8], n: usize) -> Result<(), u8> {
     }
 }
 
-impl Bodies<'_> {
+impl<D> Bodies<'_, D> {
     pub fn list_count(&self) -> u8 {
         self.lists[0]
     }
@@ -186,7 +187,7 @@ impl Bodies<'_> {
         }
     }
 
-    pub fn distances_from(&self, router: usize) -> &[Pair] {
+    pub fn distances_from(&self, router: usize) -> &[D] {
         &self.distances[self.n * router..][..self.n]
     }
 }

@@ -1,26 +1,24 @@
 //! Choosing, advertising and reliance over sets of bits.
 
+use super::distance::Distance;
 use super::reader::Bodies;
 use super::{bits, has, Pair, MOST, NONE};
 use crate::interface::{Explained, Reason, Rule};
 
 /// A plan decoded, with the list asked for.
-pub struct Network<'a> {
-    pub bodies: Bodies<'a>,
+pub struct Network<'a, D> {
+    pub bodies: Bodies<'a, D>,
     /// The neighbours of each router.
     pub rows: [u64; MOST],
     pub listed: u64,
 }
 
-/// A route without a way has this key or a greater one.
-pub const NO_WAY_KEY: u32 = 65_535 << 8;
-
 /// A route's key by distance and egress; the better route has the smaller.
-pub fn key(distances: &[Pair], egress: usize) -> u32 {
-    u32::from(u16::from_le_bytes(distances[egress])) << 8 | egress as u32
+pub fn key<D: Distance>(distances: &[D], egress: usize) -> u64 {
+    u64::from(distances[egress].number()) << 8 | egress as u64
 }
 
-impl Network<'_> {
+impl<D: Distance> Network<'_, D> {
     /// What a reflector offers: itself if listed, else its best client.
     pub fn offer(&self, reflector: usize) -> Option<usize> {
         if has(self.listed, reflector) {
@@ -29,7 +27,7 @@ impl Network<'_> {
         let distances = self.bodies.distances_from(reflector);
         let clients = self.rows[reflector] & self.listed & !self.bodies.reflectors;
         let best = bits(clients).map(|client| key(distances, client)).min();
-        best.filter(|&key| key < NO_WAY_KEY).map(|key| (key & 0xFF) as usize)
+        best.filter(|&key| key < D::NO_WAY_KEY).map(|key| (key & 0xFF) as usize)
     }
 
     /// The routers of a set that a router relies on, and its best client.
@@ -43,7 +41,7 @@ impl Network<'_> {
         }
         let distances = self.bodies.distances_from(router);
         let own = offer(router);
-        let least = own.map_or(NO_WAY_KEY, |client| key(distances, client));
+        let least = own.map_or(D::NO_WAY_KEY, |client| key(distances, client));
         let mut relied_on = own.map_or(0, |client| 1 << client);
         for reflector in bits(neighbours & self.bodies.reflectors) {
             let better = offer(reflector).is_some_and(|egress| key(distances, egress) < least);
@@ -79,14 +77,14 @@ impl Network<'_> {
         let distances = self.bodies.distances_from(router);
         let Some(offer) = self.offer(other) else { return Explained::No(Reason::NoOffer) };
         let offered = key(distances, offer);
-        if offered >= NO_WAY_KEY {
+        if offered >= D::NO_WAY_KEY {
             return Explained::No(Reason::NoWay);
         }
         let own = self.offer(router).map(|client| (client, key(distances, client)));
         if own.is_some_and(|(_, least)| offered >= least) {
             return Explained::No(Reason::NotBetter);
         }
-        let margin = |least: u32| i64::from(offered >> 8) - i64::from(least >> 8);
+        let margin = |least: u64| (offered >> 8) as i64 - (least >> 8) as i64;
         Explained::Yes(Rule::BetterOffer { offer, own: own.map(|(client, least)| (client, margin(least))) })
     }
 
@@ -114,7 +112,7 @@ impl Network<'_> {
         }
         let (reflectors, skipping) = (self.bodies.reflectors, self.bodies.skipping);
         let distances = self.bodies.distances_from(router);
-        let mut best = u32::MAX;
+        let mut best = u64::MAX;
         for from in bits(self.rows[router] & (self.listed | reflectors)) {
             if table[from] == NONE {
                 continue;
@@ -125,18 +123,17 @@ impl Network<'_> {
             } else {
                 sender == router || has(skipping, from) && !has(reflectors, sender)
             };
-            let preference = if egress == from { 0 } else { from as u32 + 1 };
+            let preference = if egress == from { 0 } else { from as u64 + 1 };
             let key = key(distances, egress) << 8 | preference;
-            best = best.min(if withheld { u32::MAX } else { key });
+            best = best.min(if withheld { u64::MAX } else { key });
         }
-        table[router] = entry(best);
+        table[router] = if best >> 8 < D::NO_WAY_KEY { entry(best) } else { NONE };
     }
 }
 
-/// The entry of the route with this key, of none if it has no way.
-fn entry(key: u32) -> Pair {
+/// The entry of the route with this key, which has a way.
+fn entry(key: u64) -> Pair {
     match key.to_le_bytes() {
-        [_, _, 255, 255] => NONE,
         [0, egress, ..] => [egress, egress],
         [preference, egress, ..] => [egress, preference - 1],
     }

@@ -1,5 +1,6 @@
 //! Groups, ranks, settled table and cycle over sets of bits.
 
+use super::distance::Distance;
 use super::rules::Network;
 use super::{bits, has, Pair, MOST, NONE};
 use crate::interface::{Flag, VerdictBuffers, VerdictFields};
@@ -28,7 +29,7 @@ fn group(reach: &Rows, router: usize) -> u64 {
 
 /// Takes the routers away in layers: a layer has all those that rely on none but
 /// routers taken away before. Its number is their rank; they settle in that order.
-fn write_stable(network: &Network, relies: &Rows, ranks: &mut [u8], table: &mut [Pair]) -> u64 {
+fn write_stable<D: Distance>(network: &Network<D>, relies: &Rows, ranks: &mut [u8], table: &mut [Pair]) -> u64 {
     let n = network.bodies.n;
     for (u, entry) in table[..n].iter_mut().enumerate() {
         *entry = if has(network.listed, u) { [u as u8; 2] } else { NONE };
@@ -68,7 +69,7 @@ fn write_cycle(relies: &Rows, group: u64, cycle: &mut [u8]) -> u64 {
     walk.len() as u64
 }
 
-pub fn verdict(network: &Network, lent: VerdictBuffers) -> Result<VerdictFields, u8> {
+pub fn verdict<D: Distance>(network: &Network<D>, lent: VerdictBuffers) -> Result<VerdictFields, u8> {
     let n = network.bodies.n;
     if lent.labels.len() < n || lent.ranks.len() < n || lent.table.len() < 2 * n || lent.cycle.len() < n {
         return Err(9);

@@ -3,8 +3,8 @@
 
 use super::line::{line, Line};
 use super::{LISTS, START};
+use crate::harness::plans::draft::NO_WAY;
 use crate::harness::plans::small_plans;
-use crate::oracle::plan::NO_WAY;
 
 /// The small plan with no way between these pairs, from the first to the second.
 fn plan(cuts: &[(usize, usize)]) -> Vec<u8> {

@@ -2,23 +2,24 @@
 
 use super::line::line;
 use super::{small, LISTS};
+use crate::harness::plans::draft::NO_WAY;
 use crate::harness::plans::generate;
 use crate::harness::plans::small_plans::{self, lone_reflectors};
 use crate::harness::random::Random;
-use crate::oracle::plan::NO_WAY;
+use crate::oracle::mark::Mark;
 
 fn check(name: &str, plan: &[u8]) -> String {
     line(name, plan, |line| line.check())
 }
 
 /// The small plan with this distance from 0 to 3; the one from 0 to 2 is 10.
-fn distance(name: &str, distance: u16) -> String {
+fn distance(name: &str, distance: u32) -> String {
     let plan = small(distance, 14);
     check(name, &plan) + &line("compared-to-10", &plan, |line| line.compare(0, 2, 3))
 }
 
 /// The small plan with these distances from 0 to 2 and to 3, pairs compared at 0.
-fn margins(name: &str, to_2: u16, to_3: u16, pairs: &[(usize, usize)]) -> String {
+fn margins(name: &str, to_2: u32, to_3: u32, pairs: &[(usize, usize)]) -> String {
     let mut draft = small_plans::draft(to_3, 14, &LISTS);
     draft.distances[0][2] = to_2;
     line(name, &draft.bytes(), |line| pairs.iter().for_each(|&(first, second)| line.compare(0, first, second)))
@@ -32,7 +33,7 @@ fn diagonal(name: &str, router: usize) -> String {
 }
 
 pub fn lines() -> Vec<String> {
-    let largest = generate::largest(&mut Random::new(0)).bytes();
+    let largest = generate::largest(&mut Random::new(0), Mark::Rrp1).bytes();
     let longer = [&largest[..], &[0]].concat();
     vec![
         check("n=1", &lone_reflectors(1).bytes()),

@@ -3,6 +3,7 @@
 use super::line::line;
 use super::small;
 use crate::harness::plans::draft::Draft;
+use crate::oracle::mark::Mark;
 use std::collections::BTreeSet;
 
 fn relies(name: &str, plan: &[u8], list: usize, router: usize, other: usize) -> String {
@@ -26,10 +27,11 @@ fn run(name: &str, plan: &[u8], sequence: &[u8], table: &[u8]) -> String {
 fn plan<const N: usize>(
     reflectors: usize,
     sessions: &[(usize, usize)],
-    distances: [[u16; N]; N],
+    distances: [[u32; N]; N],
     lists: &[&[usize]],
 ) -> Vec<u8> {
     let draft = Draft {
+        mark: Mark::Rrp1,
         reflector: (0..N).map(|router| router < reflectors).collect(),
         skips: BTreeSet::new(),
         identifiers: (1..=N as u32).collect(),

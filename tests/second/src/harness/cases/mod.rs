@@ -10,6 +10,7 @@ mod misread;
 mod parents;
 mod runs;
 mod skips;
+mod widths;
 
 use super::plans::small_plans;
 
@@ -20,13 +21,13 @@ const LISTS: [&[usize]; 4] = [&[2, 3], &[3], &[0], &[1, 2, 3]];
 const START: [u8; 8] = [255, 255, 255, 255, 2, 2, 3, 3];
 
 /// The small plan: `p` is the distance from 0 to 3, `q` the one from 1 to 2.
-fn small(p: u16, q: u16) -> Vec<u8> {
+fn small(p: u32, q: u32) -> Vec<u8> {
     small_plans::draft(p, q, &LISTS).bytes()
 }
 
 /// All lines of the program.
 pub fn lines() -> String {
     let plans = [limits::lines(), damaged::lines(), parents::lines(), asked::lines()];
-    let rules = [misread::lines(), runs::lines(), cuts::lines(), skips::lines()];
+    let rules = [misread::lines(), runs::lines(), cuts::lines(), skips::lines(), widths::lines()];
     [plans.concat(), rules.concat()].concat().concat()
 }

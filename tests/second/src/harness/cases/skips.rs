@@ -3,6 +3,7 @@
 
 use super::line::{line, Line};
 use crate::harness::plans::draft::Draft;
+use crate::oracle::mark::Mark;
 use std::collections::BTreeSet;
 
 const LISTS: [&[usize]; 5] = [&[2], &[3], &[4], &[0], &[2, 4]];
@@ -12,6 +13,7 @@ const LISTS: [&[usize]; 5] = [&[2], &[3], &[4], &[0], &[2, 4]];
 fn draft(skips: &[usize], other_of_3: usize) -> Draft {
     let distance = |from: usize, to: usize| if from == to { 0 } else { 9 };
     Draft {
+        mark: Mark::Rrp1,
         reflector: (0..5).map(|router| router < 2).collect(),
         skips: skips.iter().copied().collect(),
         identifiers: (1..=5).map(|place| 10 * place).collect(),

@@ -45,6 +45,14 @@ pub enum Call {
         limit: u64,
         table: Vec<u8>,
     },
+    /// From RRP1 to RRP2.
+    Widen {
+        out: Vec<u8>,
+    },
+    /// From RRP2 to RRP1.
+    Narrow {
+        out: Vec<u8>,
+    },
     /// A call about no plan.
     Distances {
         n: usize,
@@ -65,8 +73,8 @@ pub struct Answer {
     /// Every byte of every lent buffer after the call.
     pub buffers: Vec<Vec<u8>>,
     /// The bytes before and after each buffer, each result variable of one byte and
-    /// those of a comparison and an explanation, the plan, the sequence and the links
-    /// are as they were.
+    /// those of a comparison, an explanation and a conversion, the plan, the sequence and
+    /// the links are as they were.
     pub surroundings_kept: bool,
 }
 
@@ -161,6 +169,8 @@ pub fn perform(checker: &mut dyn Checker, plan: &[u8], call: &Call, prior: u64) 
             let acts = Acts { sequence, limit: *limit };
             perform_run(checker, &lent_plan, *list, acts, table, prior)
         }
+        Call::Widen { out } => perform_convert(out, prior, |out, length| checker.widen(&lent_plan, out, length)),
+        Call::Narrow { out } => perform_convert(out, prior, |out, length| checker.narrow(&lent_plan, out, length)),
         Call::Distances { n, links, out } => perform_distances(checker, *n, links, out),
     };
     answer.surroundings_kept &= lent_plan == plan;
@@ -223,6 +233,12 @@ fn perform_run(checker: &mut dyn Checker, plan: &[u8], list: usize, acts: Acts, 
     let mut answer = Answer::new(refusal, results).with(&lent).beside(fields.exhausted);
     answer.surroundings_kept &= lent_sequence == acts.sequence;
     answer
+}
+
+fn perform_convert(out: &[u8], prior: u64, convert: impl FnOnce(&mut [u8], &mut Lent<u64>) -> u8) -> Answer {
+    let (mut length, mut lent) = (Lent::new(prior), [Guarded::new(out)]);
+    let refusal = convert(lent[0].lent(), &mut length);
+    Answer::new(refusal, [length.value.into()]).with(&lent).beside(length)
 }
 
 fn perform_distances(checker: &mut dyn Checker, n: usize, links: &[u8], out: &[u8]) -> Answer {

@@ -1,8 +1,9 @@
 //! The comparison: makes the same calls on the oracle and on a checker, and
 //! compares all that they answer and leave, to the last byte; on small plans also
-//! with what follows from the plan's comparisons alone.
+//! with what follows from the plan's comparisons alone, and on a plan that is converted
+//! with the checker's answer on the result.
 
-use super::call::{perform, Answer, Call};
+use super::call::{perform, Answer, Call, Field};
 use super::counts::Counts;
 use super::plan_calls;
 use super::preferences::Preferences;
@@ -60,6 +61,8 @@ pub struct Comparison<'a> {
     subject: &'a mut dyn Checker,
     /// A plan, and a checker that knows its comparisons and no distance.
     compared: Option<(Vec<u8>, Oracle<Preferences>)>,
+    /// A plan, and what it is converted to.
+    converted: Option<(Vec<u8>, Vec<u8>)>,
     /// The content of result fields before a call.
     priors: Random,
     pub counts: Counts,
@@ -67,7 +70,8 @@ pub struct Comparison<'a> {
 
 impl<'a> Comparison<'a> {
     fn of(oracle: &'a mut dyn Checker, subject: &'a mut dyn Checker) -> Self {
-        Comparison { oracle, subject, compared: None, priors: Random::new(0), counts: Counts::default() }
+        let (priors, counts) = (Random::new(0), Counts::default());
+        Comparison { oracle, subject, compared: None, converted: None, priors, counts }
     }
 
     /// All calls for one plan and one sheet of links; they depend on the seed and
@@ -76,6 +80,7 @@ impl<'a> Comparison<'a> {
         let (bytes, mut random) = generate::numbered(seed, number);
         self.priors = Random::new(random.word());
         self.compared = None;
+        self.converted = None;
         plan_calls::compare(self, &mut random, &bytes)?;
         if number % 4000 == 50 {
             let few_routers = 1 + number as usize / 4000 % 4;
@@ -87,6 +92,26 @@ impl<'a> Comparison<'a> {
     /// From now on calls on this plan must agree with its comparisons.
     pub fn go_by(&mut self, plan: &[u8], preferences: Preferences) {
         self.compared = Some((plan.to_vec(), Oracle::with(preferences)));
+    }
+
+    /// From now on calls on this plan must be answered as on what it is converted to.
+    pub fn hold_against(&mut self, plan: &[u8], converted: &[u8]) {
+        self.converted = Some((plan.to_vec(), converted.to_vec()));
+    }
+
+    /// Makes the call on what the plan is converted to, if it is, by the checker alone. A
+    /// list starts as far from the end as in the plan.
+    fn on_converted(&mut self, plan: &[u8], call: &Call, prior: u64) -> Option<Answer> {
+        let (_, converted) = self.converted.as_ref().filter(|(of, _)| of == plan)?;
+        if let Call::Widen { .. } | Call::Narrow { .. } = call {
+            return None;
+        }
+        let mut answer = perform(self.subject, converted, call, prior);
+        if let (Call::List { .. }, 0) = (call, answer.refusal) {
+            answer.fields[0] += plan.len() as Field - converted.len() as Field;
+        }
+        self.counts.calls_on_converted += 1;
+        Some(answer)
     }
 
     /// Makes the call on the checker alone.
@@ -117,6 +142,9 @@ impl<'a> Comparison<'a> {
             if expected != derived {
                 return Err(differs("by comparisons", &derived));
             }
+        }
+        if let Some(found) = self.on_converted(plan, call, prior).filter(|found| *found != expected) {
+            return Err(differs("on what it is converted to", &found));
         }
         Ok(expected)
     }

@@ -8,6 +8,14 @@ use std::fmt;
 pub struct Counts {
     pub plans: u64,
     pub sound_plans: u64,
+    /// Sound plans of mark RRP2.
+    pub wide_plans: u64,
+    /// .. with distances that RRP1 does not hold.
+    pub plans_with_far_distances: u64,
+    /// Plans widened, and plans narrowed.
+    pub conversions: [u64; 2],
+    /// Calls made on what a plan is converted to, and on the plan.
+    pub calls_on_converted: u64,
     /// Sound plans in which some router has no way to some other.
     pub plans_with_cuts: u64,
     /// .. in which some reflector skips its own clients.
@@ -19,7 +27,7 @@ pub struct Counts {
     pub sheets: u64,
     /// Sheets whose distances are written.
     pub sheets_with_distances: u64,
-    pub refusals: [u64; 14],
+    pub refusals: [u64; 15],
     pub calls: u64,
     /// Calls whose answers were worked out from comparisons alone too.
     pub calls_by_comparisons: u64,
@@ -104,6 +112,13 @@ impl Counts {
 impl fmt::Display for Counts {
     fn fmt(&self, out: &mut fmt::Formatter) -> fmt::Result {
         writeln!(out, "sound plans {}, calls not refused {}", self.sound_plans, self.refusals[0])?;
+        let [widened, narrowed] = self.conversions;
+        writeln!(
+            out,
+            "plans of RRP2 {}, with distances above 65,534 {}, widened {widened}, narrowed {narrowed}",
+            self.wide_plans, self.plans_with_far_distances
+        )?;
+        writeln!(out, "calls made on the converted plan too {}", self.calls_on_converted)?;
         writeln!(out, "plans with cuts {}, series on these {}", self.plans_with_cuts, self.series_with_cuts)?;
         writeln!(out, "plans with role 3 {}, series on these {}", self.plans_with_skips, self.series_with_skips)?;
         writeln!(out, "plans with a client of four parents {}", self.plans_with_most_parents)?;

@@ -4,6 +4,7 @@
 pub mod arguments;
 pub mod call;
 pub mod compare;
+mod convert_calls;
 pub mod counts;
 pub mod plan_calls;
 mod preferences;

@@ -3,11 +3,13 @@
 use super::arguments;
 use super::call::{Answer, Call};
 use super::compare::{Comparison, Mismatch, Outcome};
+use super::convert_calls;
 use super::preferences::Preferences;
 use super::reliance_calls;
 use super::series;
 use crate::harness::plans::generate;
 use crate::harness::random::Random;
+use crate::oracle::mark::Mark;
 use crate::oracle::plan::{self, Plan, MOST_PARENTS};
 use crate::oracle::rules::Case;
 
@@ -18,6 +20,7 @@ pub const FEW: usize = 8;
 /// All calls for one plan.
 pub fn compare(comparison: &mut Comparison, random: &mut Random, bytes: &[u8]) -> Outcome {
     comparison.counts.plans += 1;
+    convert_calls::compare(comparison, random, bytes)?;
     comparison.call(bytes, &Call::Check)?;
     comparison.call(bytes, &Call::Size)?;
     match plan::read(bytes) {
@@ -61,6 +64,8 @@ fn loose_calls(random: &mut Random) -> [Call; 7] {
 
 fn sound(comparison: &mut Comparison, random: &mut Random, bytes: &[u8], plan: &Plan) -> Outcome {
     comparison.counts.sound_plans += 1;
+    comparison.counts.wide_plans += u64::from(plan.mark == Mark::Rrp2);
+    comparison.counts.plans_with_far_distances += u64::from(plan.has_distances_past(Mark::Rrp1));
     comparison.counts.plans_with_cuts += u64::from(plan.has_cuts());
     comparison.counts.plans_with_skips += u64::from(!plan.skipping.is_empty());
     comparison.counts.plans_with_most_parents += u64::from(plan.most_parents() == MOST_PARENTS);

@@ -1,15 +1,18 @@
 //! Checkers with a slip in one call each.
 
 use super::compare_slips;
+use super::convert_slips::{self, Asked};
 use super::explain_slips;
 use super::parent_slips;
 use super::sheet_slips;
 use super::slips::Slip;
 use crate::harness::plans::draft::Bodies;
 use crate::interface::{
-    Acts, Checker, CompareFields, ExplainFields, ListFields, RunFields, SizeFields, VerdictBuffers, VerdictFields,
+    Acts, Checker, CompareFields, ExplainFields, Lent, ListFields, RunFields, SizeFields, VerdictBuffers,
+    VerdictFields,
 };
-use crate::oracle::plan::{self, FIRST_BODY, NO_WAY};
+use crate::oracle::mark::Mark;
+use crate::oracle::plan::{self, FIRST_BODY};
 use crate::oracle::rules::Right;
 use crate::oracle::tables::NONE;
 use crate::oracle::Oracle;
@@ -34,12 +37,11 @@ impl Careless {
 /// A plan refused with 6, with the distance 0 for each router that has no way to
 /// itself.
 fn with_ways_to_itself(plan: &[u8]) -> Vec<u8> {
-    let (mut plan, n) = (plan.to_vec(), usize::from(plan[4]));
-    let start = usize::from(u16::from_le_bytes([plan[17], plan[18]]));
-    let (distances, _) = plan[start..][..2 * n * n].as_chunks_mut();
-    let diagonal = distances.iter_mut().step_by(n + 1);
-    diagonal.filter(|distance| **distance == NO_WAY.to_le_bytes()).for_each(|distance| *distance = [0, 0]);
-    plan
+    let mut bodies = Bodies::of(plan);
+    let diagonal = bodies.distances.chunks_exact_mut(bodies.mark.width()).step_by(usize::from(bodies.n) + 1);
+    let no_way = |distance: &[u8]| distance.iter().all(|&byte| byte == 255);
+    diagonal.filter(|distance| no_way(distance)).for_each(|distance| distance.fill(0));
+    bodies.bytes()
 }
 
 /// A plan refused with 4, with role 3 for each router of role 4.
@@ -67,7 +69,7 @@ impl Checker for Careless {
     fn check(&mut self, plan: &[u8]) -> u8 {
         let refusal = self.inner.check(plan);
         match self.slip {
-            Slip::LongPlanAccepted if plan.len() > 16_731 => 3,
+            Slip::LongPlanAccepted if Mark::of(plan).is_some_and(|mark| plan.len() > mark.longest_plan()) => 3,
             Slip::NoWayRefused if refusal == 0 && plan::read(plan).is_ok_and(|plan| plan.has_cuts()) => 6,
             Slip::NoWayToItselfAccepted if refusal == 6 => self.inner.check(&with_ways_to_itself(plan)),
             Slip::Role3Refused if refusal == 0 && plan::read(plan).is_ok_and(|plan| !plan.skipping.is_empty()) => 4,
@@ -166,6 +168,22 @@ impl Checker for Careless {
             _ => (),
         }
         refusal
+    }
+
+    fn widen(&mut self, plan: &[u8], out: &mut [u8], length: &mut Lent<u64>) -> u8 {
+        let asked = Asked { from: Mark::Rrp1, plan };
+        match self.slip {
+            Slip::Convert(slip) => convert_slips::convert(slip, &mut self.inner, asked, out, length),
+            _ => self.inner.widen(plan, out, length),
+        }
+    }
+
+    fn narrow(&mut self, plan: &[u8], out: &mut [u8], length: &mut Lent<u64>) -> u8 {
+        let asked = Asked { from: Mark::Rrp2, plan };
+        match self.slip {
+            Slip::Convert(slip) => convert_slips::convert(slip, &mut self.inner, asked, out, length),
+            _ => self.inner.narrow(plan, out, length),
+        }
     }
 
     fn distances(&mut self, n: usize, links: &[u8], out: &mut [u8]) -> u8 {

@@ -2,7 +2,7 @@
 
 use super::slips::Slip;
 use crate::interface::{Checker, CompareFields, Compared};
-use crate::oracle::plan::{self, Plan, NO_WAY};
+use crate::oracle::plan::{self, Plan};
 use crate::oracle::rules::Right;
 use crate::oracle::Oracle;
 
@@ -52,13 +52,14 @@ fn clear(slip: Slip, fields: &mut CompareFields) {
 fn misjudged(slip: Slip, plan: &Plan, [at, first, second]: [usize; 3], (better, margin): Compared) -> Compared {
     let to = |egress: usize| plan.distances[at][egress].map(i64::from);
     let back = |egress: usize| plan.distances[egress][at].map(i64::from);
-    let far = i64::from(NO_WAY);
+    let far = i64::from(plan.mark.no_way());
     let misjudged = match slip {
         Slip::TieIsNeither if margin == Some(0) => return (0, margin),
         Slip::MarginSignTurned => margin.map(|margin| -margin),
         Slip::MarginWithoutItsSign => margin.map(i64::abs),
         Slip::MarginInTens => margin.map(|margin| margin / 10),
         Slip::MarginCutToTwoBytes => margin.map(|margin| i64::from(margin as i16)),
+        Slip::MarginCutToFourBytes => margin.map(|margin| i64::from(margin as i32)),
         Slip::MarginOfTheWaysBack => back(first).zip(back(second)).map(|(first, second)| first - second),
         Slip::NoWayTakenForADistance => Some(to(first).unwrap_or(far) - to(second).unwrap_or(far)),
         Slip::MarginWithOneWay => margin.or(to(first)).or(to(second).map(|second| -second)),

@@ -52,6 +52,9 @@ fn miswrite(slip: Slip, other: usize, fields: &mut ExplainFields) {
         (Slip::OfferOfTheBestClientGiven, Some(3)) => fields.offer.value = other as u64,
         (Slip::HasOwnWithoutOwn, Some(4)) => fields.has_own.value = 1,
         (Slip::OwnWithoutHasOwn, Some(4)) => fields.has_own.value = 0,
+        (Slip::ExplainedMarginCutToFourBytes, Some(4)) => {
+            fields.margin.value = i64::from(fields.margin.value as i32);
+        }
         _ => (),
     }
 }

@@ -10,6 +10,8 @@ pub enum Misreading {
     ScaledDistances,
     ScaledDifferences,
     DistanceByItsLowByte,
+    DistanceByItsTwoLowBytes,
+    DistanceWithASign,
     HigherNumberWinsTie,
     TieIsNoReliance,
     RelyingOneJudgesBestClient,
@@ -36,10 +38,12 @@ pub enum Misreading {
     WayOfTheSenderCounts,
 }
 
-pub const MISREADINGS: [Misreading; 27] = [
+pub const MISREADINGS: [Misreading; 29] = [
     Misreading::ScaledDistances,
     Misreading::ScaledDifferences,
     Misreading::DistanceByItsLowByte,
+    Misreading::DistanceByItsTwoLowBytes,
+    Misreading::DistanceWithASign,
     Misreading::HigherNumberWinsTie,
     Misreading::TieIsNoReliance,
     Misreading::RelyingOneJudgesBestClient,
@@ -76,13 +80,15 @@ impl Misread {
 
 impl Rules for Misread {
     fn value(&self, plan: &Plan, at: Router, egress: Router) -> Option<Value> {
-        let distance = plan.distances[at][egress].map(usize::from);
+        let distance = plan.distances[at][egress].map(|distance| distance as usize);
         match self.0 {
             Misreading::ScaledDistances => distance.map(|distance| (distance / 10, egress)),
             Misreading::DistanceByItsLowByte => distance.map(|distance| (distance % 256, egress)),
+            Misreading::DistanceByItsTwoLowBytes => distance.map(|distance| (distance % 65_536, egress)),
+            Misreading::DistanceWithASign => distance.map(|distance| (distance ^ 1 << 31, egress)),
             Misreading::HigherNumberWinsTie => distance.map(|distance| (distance, plan.n - egress)),
             Misreading::NoWayIsALongWay => Some((distance.unwrap_or(usize::MAX), egress)),
-            Misreading::FarthestIsNoWay if distance == Some(65_534) => None,
+            Misreading::FarthestIsNoWay if plan.distances[at][egress] == Some(plan.mark.farthest()) => None,
             _ => Right.value(plan, at, egress),
         }
     }

@@ -3,6 +3,7 @@
 
 pub mod careless;
 mod compare_slips;
+pub mod convert_slips;
 pub mod explain_misreadings;
 mod explain_slips;
 pub mod misreadings;
@@ -10,4 +11,5 @@ pub mod parent_slips;
 mod sheet_slips;
 pub mod skip_misreadings;
 pub mod slips;
+pub mod width_slips;
 pub mod wrong_programs;

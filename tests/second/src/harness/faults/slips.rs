@@ -1,6 +1,7 @@
 //! The slips that a checker may make in one call, to see that the comparison
 //! finds each.
 
+use super::convert_slips::ConvertSlip;
 use super::parent_slips::ParentSlip;
 
 /// A slip in a call that reads the rules rightly.
@@ -22,6 +23,7 @@ pub enum Slip {
     MarginWithoutItsSign,
     MarginInTens,
     MarginCutToTwoBytes,
+    MarginCutToFourBytes,
     MarginOfTheWaysBack,
     NoWayTakenForADistance,
     MarginWithOneWay,
@@ -42,6 +44,7 @@ pub enum Slip {
     OfferOfTheBestClientGiven,
     HasOwnWithoutOwn,
     OwnWithoutHasOwn,
+    ExplainedMarginCutToFourBytes,
     OfferLeftWhereThereIsNone,
     HasOwnLeftWhereThereIsNone,
     OwnLeftWhereThereIsNone,
@@ -73,6 +76,7 @@ pub enum Slip {
     Role3Refused,
     Role4Accepted,
     Parents(ParentSlip),
+    Convert(ConvertSlip),
     EightBeforeThirteen,
     EntryWithoutAWayRefused,
     TransposedDistances,
@@ -105,8 +109,8 @@ pub enum Slip {
     ByteAfterTheDistances,
 }
 
-/// All but those in the check of a client's parents.
-pub const SLIPS: [Slip; 96] = [
+/// All but those in the check of a client's parents and in the converter.
+pub const SLIPS: [Slip; 98] = [
     Slip::FirstActOnly,
     Slip::ActLeavesTable,
     Slip::ExhaustedAtTheLimit,
@@ -123,6 +127,7 @@ pub const SLIPS: [Slip; 96] = [
     Slip::MarginWithoutItsSign,
     Slip::MarginInTens,
     Slip::MarginCutToTwoBytes,
+    Slip::MarginCutToFourBytes,
     Slip::MarginOfTheWaysBack,
     Slip::NoWayTakenForADistance,
     Slip::MarginWithOneWay,
@@ -143,6 +148,7 @@ pub const SLIPS: [Slip; 96] = [
     Slip::OfferOfTheBestClientGiven,
     Slip::HasOwnWithoutOwn,
     Slip::OwnWithoutHasOwn,
+    Slip::ExplainedMarginCutToFourBytes,
     Slip::OfferLeftWhereThereIsNone,
     Slip::HasOwnLeftWhereThereIsNone,
     Slip::OwnLeftWhereThereIsNone,

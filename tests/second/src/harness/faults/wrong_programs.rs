@@ -6,7 +6,7 @@ use crate::oracle::margin_line;
 /// A program that is wrong in one way.
 pub type Program = fn(&[u8]) -> String;
 
-pub const WRONG_PROGRAMS: [(&str, Program); 12] = [
+pub const WRONG_PROGRAMS: [(&str, Program); 14] = [
     ("the sign left out", |input| margin_line(input).replace('-', "")),
     ("a plus sign", |input| of_margins(input, |margin| format!("{margin:+}\n"))),
     ("the sign turned", |input| of_margins(input, |margin| format!("{}\n", -margin))),
@@ -15,7 +15,9 @@ pub const WRONG_PROGRAMS: [(&str, Program); 12] = [
     ("no byte 10", |input| margin_line(input).replace('\n', "")),
     ("fewer than three bytes refused with 8", few_refused_with_8),
     ("three bytes and no plan as none", three_as_none),
-    ("a long plan cut", |input| margin_line(&input[..input.len().min(16_734)])),
+    ("cut to four bytes", |input| of_margins(input, |margin| format!("{}\n", margin as i32))),
+    ("a long plan of RRP1 cut", |input| margin_line(&input[..input.len().min(16_734)])),
+    ("a long plan of RRP2 cut", |input| margin_line(&input[..input.len().min(24_926)])),
     ("router and first exchanged", |input| exchanged(input, 0, 1)),
     ("first and second exchanged", |input| exchanged(input, 1, 2)),
     ("the plan first", plan_first),

@@ -1,9 +1,10 @@
 //! Damaged plans: aimed at one refusal number, or at random.
 
-use super::draft::{Bodies, Draft};
+use super::draft::{distance_bytes, Bodies, Draft, NO_WAY};
 use super::topology::ordered;
 use crate::harness::random::Random;
-use crate::oracle::plan::{CLIENT, FIRST_BODY, LONGEST_PLAN, MOST_PARENTS, NO_WAY, REFLECTOR, SKIPPING};
+use crate::oracle::mark::{Mark, MARKS};
+use crate::oracle::plan::{CLIENT, FIRST_BODY, MOST_PARENTS, REFLECTOR, SKIPPING};
 use std::collections::BTreeSet;
 
 /// The refusal numbers that damage is aimed at.
@@ -17,7 +18,7 @@ pub fn aimed(random: &mut Random, draft: &Draft, refusal: u8) -> Vec<u8> {
         parents(random, &mut bodies);
     }
     match refusal {
-        1 => return letters(random, bodies.bytes()),
+        1 => return head(random, bodies.bytes(), bodies.mark),
         2 => return router_count(random, bodies.bytes()),
         3 => return contents(random, bodies),
         4 => routers(random, &mut bodies),
@@ -36,7 +37,7 @@ pub fn aimed(random: &mut Random, draft: &Draft, refusal: u8) -> Vec<u8> {
 /// Damage of any kind, at times none that counts.
 pub fn any(random: &mut Random, draft: &Draft) -> Vec<u8> {
     let mut plan = draft.bytes();
-    match random.below(9) {
+    match random.below(10) {
         0 => flip_bits(random, &mut plan, 1),
         1 => {
             let flips = random.between(2, 5);
@@ -54,6 +55,7 @@ pub fn any(random: &mut Random, draft: &Draft) -> Vec<u8> {
             cut(random, &mut bodies);
             return bodies.bytes();
         }
+        7 => plan[..4].copy_from_slice(draft.mark.other().letters()),
         _ => return two_at_once(random, draft),
     }
     plan
@@ -76,7 +78,8 @@ fn junk(random: &mut Random, plan: &mut Vec<u8>) {
     let count = random.pick(&[0, 1, 25, 26, 27, 40, 300]);
     *plan = random.bytes(count);
     if count >= 26 && random.chance(70) {
-        plan[..6].copy_from_slice(b"RRP1\x03\x04");
+        plan[..4].copy_from_slice(random.pick(&MARKS).letters());
+        plan[4..6].copy_from_slice(&[3, 4]);
     }
 }
 
@@ -91,10 +94,11 @@ fn two_at_once(random: &mut Random, draft: &Draft) -> Vec<u8> {
     }
     damage_body(random, &mut bodies);
     let mut plan = bodies.bytes();
-    match random.below(6) {
-        0 => plan[4] = random.pick(&[0, 65]),
-        1 => plan[5] = 3,
-        2 => plan[6 + 5 * random.below(4)] = 9,
+    match random.below(7) {
+        0 => plan[3] = random.pick(b"0123"),
+        1 => plan[4] = random.pick(&[0, 65]),
+        2 => plan[5] = 3,
+        3 => plan[6 + 5 * random.below(4)] = 9,
         _ => (),
     }
     plan
@@ -110,12 +114,14 @@ fn damage_body(random: &mut Random, bodies: &mut Bodies) {
     }
 }
 
-fn letters(random: &mut Random, mut plan: Vec<u8>) -> Vec<u8> {
-    match random.below(5) {
-        0 => plan.truncate(random.pick(&[0, 1, 4, 5, 6, 24, 25])),
-        1 => plan.resize(random.pick(&[LONGEST_PLAN + 1, LONGEST_PLAN + 2, 65_536, 65_562]), 0),
-        2 => plan[random.below(4)] ^= 1 << random.below(8),
-        3 => plan[5] = random.pick(&[0, 3, 5, 255]),
+fn head(random: &mut Random, mut plan: Vec<u8>, mark: Mark) -> Vec<u8> {
+    match random.below(7) {
+        0 => plan.truncate(random.pick(&[0, 1, 3, 4, 5, 6, 24, 25])),
+        1..=2 => plan.resize(too_long(random, mark), 0),
+        // The marks differ in two bits, so one alone leads from neither to the other.
+        3 => plan[random.below(4)] ^= 1 << random.below(8),
+        4 => plan[..4].copy_from_slice(random.pick(&[b"RRP0", b"RRP3", b"rrp1", b"rrp2", b"1PRR", b"RRP\x02"])),
+        5 => plan[5] = random.pick(&[0, 3, 5, 255]),
         _ => {
             plan[4] = random.pick(&[0, 65]);
             plan[5] ^= 1 << random.below(8);
@@ -124,30 +130,43 @@ fn letters(random: &mut Random, mut plan: Vec<u8>) -> Vec<u8> {
     plan
 }
 
+/// A length past the limit of a mark; for RRP1 often one that RRP2 allows.
+fn too_long(random: &mut Random, mark: Mark) -> usize {
+    let [short, long] = MARKS.map(Mark::longest_plan);
+    match mark {
+        Mark::Rrp1 => random.pick(&[short + 1, short + 1, short + 2, long, long, long + 1, 65_536, 65_562]),
+        Mark::Rrp2 => random.pick(&[long + 1, long + 1, long + 2, 65_536, 65_562]),
+    }
+}
+
 fn router_count(random: &mut Random, mut plan: Vec<u8>) -> Vec<u8> {
     plan[4] = random.pick(&[0, 65, 66, 127, 128, 192, 255]);
     plan
 }
 
 fn contents(random: &mut Random, mut bodies: Bodies) -> Vec<u8> {
-    match random.below(9) {
-        8 => return wrapped_contents(random, bodies.bytes()),
+    match random.below(14) {
         0 => _ = bodies.routers.pop(),
         1 => bodies.routers.push(0),
         2 => bodies.sessions.push(0),
         3 => _ = bodies.distances.pop(),
         4 => bodies.distances.extend([0, 0]),
-        _ => return contents_entry(random, bodies.bytes()),
+        5 => return wrapped_contents(random, bodies),
+        // Distances of the other mark's width; or its mark.
+        6..=7 => bodies.write_distances(bodies.read_distances(), bodies.mark.other()),
+        8..=9 => bodies.mark = bodies.mark.other(),
+        _ => return contents_entry(random, bodies),
     }
+    trim_to_longest(&mut bodies);
     bodies.bytes()
 }
 
 /// Offsets that fit one another only if their sums are cut to two bytes.
-fn wrapped_contents(random: &mut Random, mut plan: Vec<u8>) -> Vec<u8> {
-    let n = usize::from(plan[4]);
-    let sessions_at = FIRST_BODY + 5 * n;
+fn wrapped_contents(random: &mut Random, bodies: Bodies) -> Vec<u8> {
+    let mut plan = bodies.bytes();
+    let sessions_at = FIRST_BODY + bodies.routers.len();
     let distances_at = random.below(sessions_at / 2) * 2 + sessions_at % 2;
-    let lists_at = distances_at + 2 * n * n;
+    let lists_at = distances_at + bodies.distances.len();
     let lists_length = plan.len() - lists_at;
     let mut set = |at: usize, value: usize| plan[at..at + 2].copy_from_slice(&(value as u16).to_le_bytes());
     set(14, 65_536 + distances_at - sessions_at);
@@ -157,14 +176,16 @@ fn wrapped_contents(random: &mut Random, mut plan: Vec<u8>) -> Vec<u8> {
     plan
 }
 
-fn contents_entry(random: &mut Random, mut plan: Vec<u8>) -> Vec<u8> {
+fn contents_entry(random: &mut Random, bodies: Bodies) -> Vec<u8> {
+    let mut plan = bodies.bytes();
     let entry = 6 + 5 * random.below(4);
-    match random.below(6) {
+    match random.below(7) {
         0 => plan[entry] = random.pick(&[0, 5, 255]),
         1 => plan[entry + 1] ^= 1 << random.below(8),
         2 => plan[entry + 2] ^= 1 << random.below(8),
         3 => plan[entry + random.between(3, 4)] ^= 1 << random.below(8),
-        4 if plan.len() < LONGEST_PLAN => plan.push(0),
+        4 if plan.len() < bodies.mark.longest_plan() => plan.push(0),
+        5 if plan.len() < bodies.mark.longest_plan() => plan.resize(bodies.mark.longest_plan(), 0),
         _ => {
             let last = plan.len() - 1;
             plan.truncate(last.max(FIRST_BODY));
@@ -238,10 +259,11 @@ fn parents(random: &mut Random, bodies: &mut Bodies) {
     trim_to_longest(bodies);
 }
 
-/// Keeps a grown plan within the longest length, so that the damage shows.
+/// Keeps a grown plan within the longest length, so that the damage shows, if its lists
+/// are long enough for that.
 fn trim_to_longest(bodies: &mut Bodies) {
-    let excess = bodies.bytes().len().saturating_sub(LONGEST_PLAN);
-    bodies.lists.truncate(bodies.lists.len() - excess);
+    let excess = bodies.bytes().len().saturating_sub(bodies.mark.longest_plan());
+    bodies.lists.truncate(bodies.lists.len().saturating_sub(excess));
 }
 
 /// The distance of a router to itself is not 0, or there is no way to itself.
@@ -249,12 +271,8 @@ fn distances(random: &mut Random, bodies: &mut Bodies) {
     let n = usize::from(bodies.n);
     let anywhere = random.below(n);
     let router = random.pick(&[0, n - 1, n / 2, anywhere]);
-    if random.chance(50) {
-        set_distance(bodies, router, router, NO_WAY);
-    } else {
-        let number = random.pick(&[1, 128, 255]) << random.pick(&[0, 8]);
-        set_distance(bodies, router, router, number);
-    }
+    let in_a_byte = random.pick(&[1, 128, 255]) << (8 * random.below(bodies.mark.width()));
+    set_distance(bodies, router, router, random.pick(&[NO_WAY, NO_WAY, 65_535, in_a_byte, in_a_byte, in_a_byte]));
 }
 
 /// No way from one router to another, which is legal.
@@ -266,9 +284,10 @@ fn cut(random: &mut Random, bodies: &mut Bodies) {
     }
 }
 
-fn set_distance(bodies: &mut Bodies, from: usize, to: usize, distance: u16) {
-    let at = 2 * (from * usize::from(bodies.n) + to);
-    bodies.distances[at..at + 2].copy_from_slice(&distance.to_le_bytes());
+fn set_distance(bodies: &mut Bodies, from: usize, to: usize, distance: u32) {
+    let at = bodies.mark.width() * (from * usize::from(bodies.n) + to);
+    let bytes = bodies.distances[at..].iter_mut();
+    bytes.zip(distance_bytes(distance, bodies.mark)).for_each(|(byte, new)| *byte = new);
 }
 
 fn lists(random: &mut Random, bodies: &mut Bodies) {

@@ -5,23 +5,28 @@ use super::cuts;
 use super::damage::{self, AIMED_AT};
 use super::draft::Draft;
 use super::topology::{all_pairs, crowd, ordered, skipping, topology, Topology};
+use super::widths;
 use crate::harness::random::Random;
+use crate::oracle::mark::Mark;
 use crate::oracle::plan::{Router, MOST_LISTS, MOST_PARENTS, MOST_ROUTERS};
 use std::collections::BTreeSet;
 
 /// The plan of the given number, and the source of what is drawn for it next.
-/// Both depend on the seed and the number alone. Number 0 is the largest plan, 1
-/// the deepest; of ten others seven are sound, one is crowded, one is aimed at a
-/// refusal and one damaged anyhow.
+/// Both depend on the seed and the number alone. Number 0 is the largest plan of
+/// mark RRP1, 1 the deepest, 2 the largest of mark RRP2; 3 and 4 are the largest with a
+/// byte more. Of ten others seven are sound, one is crowded, one is aimed at a refusal
+/// and one damaged anyhow.
 pub fn numbered(seed: u64, number: u64) -> (Vec<u8>, Random) {
     let mut random = Random::new(seed ^ number.wrapping_mul(0xD6E8_FEB8_6659_FD93));
     let draft = match number {
-        0 => largest(&mut random),
+        0 | 3 => largest(&mut random, Mark::Rrp1),
         1 => deepest(),
+        2 | 4 => largest(&mut random, Mark::Rrp2),
         _ if number % 10 == 6 => crowded(&mut random),
         _ => sound(&mut random),
     };
     let bytes = match number % 10 {
+        _ if number == 3 || number == 4 => [draft.bytes(), vec![0]].concat(),
         7 => {
             let refusal = random.pick(&AIMED_AT);
             damage::aimed(&mut random, &draft, refusal)
@@ -54,26 +59,30 @@ fn crowded(random: &mut Random) -> Draft {
 }
 
 fn of_topology(random: &mut Random, topology: Topology) -> Draft {
-    let mut distances = distances(random, &topology);
-    cuts::cut(random, &topology, &mut distances);
+    let mark = widths::mark(random);
+    let mut distances = distances(random, mark, &topology);
+    cuts::cut(random, mark, &topology, &mut distances);
     let (reflector, sessions) = topology;
     let skips = skipping(random, &reflector);
     // A reflector that skips its clients shows at those that are not listed.
     let nearly_all = if skips.is_empty() { 70 } else { 30 };
     let lists = lists(random, &reflector, nearly_all);
-    Draft { identifiers: identifiers(random, reflector.len()), reflector, skips, sessions, distances, lists }
+    let identifiers = identifiers(random, reflector.len());
+    Draft { mark, identifiers, reflector, skips, sessions, distances, lists }
 }
 
-/// The largest plan: 64 routers, all sessions, 64 full lists. Every client neighbours
-/// every reflector, so there are no more than four of these, as far apart as can be.
-pub fn largest(random: &mut Random) -> Draft {
+/// The largest plan of this mark: 64 routers, all sessions, 64 full lists. Every client
+/// neighbours every reflector, so there are no more than four of these, as far apart as
+/// can be.
+pub fn largest(random: &mut Random, mark: Mark) -> Draft {
     let n = MOST_ROUTERS;
     let apart = (n - 1) / (MOST_PARENTS - 1);
     let topology = ((0..n).map(|router| router % apart == 0).collect(), all_pairs(n).collect());
-    let distances = distances(random, &topology);
+    let distances = distances(random, mark, &topology);
     let (reflector, sessions) = topology;
     let lists = vec![(0..n).collect(); MOST_LISTS];
-    Draft { identifiers: identifiers(random, n), reflector, skips: BTreeSet::new(), sessions, distances, lists }
+    let identifiers = identifiers(random, n);
+    Draft { mark, identifiers, reflector, skips: BTreeSet::new(), sessions, distances, lists }
 }
 
 /// A plan whose highest rank is 51, the highest that any plan can have, with
@@ -106,6 +115,7 @@ pub fn deepest() -> Draft {
         _ => 30,
     };
     Draft {
+        mark: Mark::Rrp1,
         reflector: (0..n).map(|router| reflectors.contains(&router)).collect(),
         skips: BTreeSet::new(),
         identifiers: (1..=n as u32).map(|place| 10 * place).collect(),
@@ -147,7 +157,17 @@ fn favoured(draft: &Topology, router: Router) -> Option<Router> {
     near.iter().find(|&&other| other > router).or(near.first()).copied()
 }
 
-fn distances(random: &mut Random, topology: &Topology) -> Vec<Vec<u16>> {
+/// Distances that fit a plan of this mark.
+fn distances(random: &mut Random, mark: Mark, topology: &Topology) -> Vec<Vec<u32>> {
+    let mut distances = near_distances(random, topology);
+    if mark == Mark::Rrp2 {
+        widths::spread(random, &mut distances);
+    }
+    distances
+}
+
+/// Distances that fit two bytes.
+fn near_distances(random: &mut Random, topology: &Topology) -> Vec<Vec<u32>> {
     let sessions = &topology.1;
     let n = topology.0.len();
     let style = random.pick(&[0, 1, 1, 1, 1, 2, 2, 2, 3, 4, 5, 6, 7, 7, 7, 7, 7, 8, 8, 8, 8, 9, 9, 9, 9]);
@@ -174,7 +194,7 @@ fn distances(random: &mut Random, topology: &Topology) -> Vec<Vec<u16>> {
             8 => 14,
             _ => random.pick(&[6, 9, 10, 10, 14]),
         };
-        (0..n).map(|to| if from == to { 0 } else { distance(to) as u16 }).collect()
+        (0..n).map(|to| if from == to { 0 } else { distance(to) as u32 }).collect()
     };
     (0..n).map(&mut row).collect()
 }

@@ -9,3 +9,4 @@ pub mod questions;
 pub mod sheets;
 pub mod small_plans;
 pub mod topology;
+pub mod widths;

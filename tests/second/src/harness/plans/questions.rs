@@ -4,14 +4,9 @@ use super::generate;
 use crate::harness::random::Random;
 
 /// The input of the given number; it depends on the seed and the number alone.
-/// Number 2 has a plan with one byte more than the longest; one of twenty has at
-/// most three bytes.
+/// One of twenty has at most three bytes.
 pub fn numbered(seed: u64, number: u64) -> Vec<u8> {
     let (mut plan, mut random) = generate::numbered(seed, number);
-    if number == 2 {
-        plan = generate::largest(&mut random).bytes();
-        plan.push(0);
-    }
     if number % 20 == 5 {
         plan.clear();
     }

@@ -1,14 +1,16 @@
 //! Small plans, of which the papers state answers.
 
-use super::draft::Draft;
-use crate::oracle::plan::{Router, CLIENT, NO_WAY, SKIPPING};
+use super::draft::{Draft, NO_WAY};
+use crate::oracle::mark::Mark;
+use crate::oracle::plan::{Router, CLIENT, SKIPPING};
 use std::collections::BTreeSet;
 
 /// Two reflectors with a client each: `p` is the distance from 0 to 3, `q`
 /// the one from 1 to 2.
-pub fn draft(p: u16, q: u16, lists: &[&[usize]]) -> Draft {
+pub fn draft(p: u32, q: u32, lists: &[&[usize]]) -> Draft {
     let distances = [[0, 30, 10, p], [30, 0, q, 10], [30, 30, 0, 30], [30, 30, 30, 0]];
     Draft {
+        mark: Mark::Rrp1,
         reflector: vec![true, true, false, false],
         skips: BTreeSet::new(),
         identifiers: vec![10, 20, 30, 40],
@@ -29,6 +31,7 @@ pub fn with_cuts(list: &[usize], cuts: &[(usize, usize)]) -> Draft {
 /// A plan of reflectors without a session, router 0 alone listed.
 pub fn lone_reflectors(n: usize) -> Draft {
     Draft {
+        mark: Mark::Rrp1,
         reflector: vec![true; n],
         skips: BTreeSet::new(),
         identifiers: (0..n as u32).collect(),
@@ -44,6 +47,7 @@ pub fn two_sites(skips: &[usize], lists: &[&[usize]]) -> Draft {
     let distances = [[0, 30, 5, 10, 30, 6], [4, 0, 30, 6, 30, 10]].map(Vec::from);
     let of_clients = (2..6).map(|from| (0..6).map(|to| if from == to { 0 } else { 30 }).collect());
     Draft {
+        mark: Mark::Rrp1,
         reflector: (0..6).map(|router| router < 2).collect(),
         skips: skips.iter().copied().collect(),
         identifiers: (1..=6).map(|place| 10 * place).collect(),
@@ -58,6 +62,7 @@ pub fn star(centre: Router, roles: &[u8]) -> Draft {
     let n = roles.len();
     let others = (0..n).filter(|&other| other != centre);
     Draft {
+        mark: Mark::Rrp1,
         reflector: roles.iter().map(|&role| role != CLIENT).collect(),
         skips: (0..n).filter(|&router| roles[router] == SKIPPING).collect(),
         identifiers: (1..=n as u32).map(|place| 10 * place).collect(),

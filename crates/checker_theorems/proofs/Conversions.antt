@@ -1,0 +1,260 @@
+-- Two plans of one network, list by list: the calls answer alike on both.
+use Prim.Native.Nat.{ℕ, zero, suc, _<_, min}
+use mathlib.Core.Path.{_≡_, refl, _∙_, sym, ap, ap₂}
+use mathlib.Core.Bool.{Bool, true, false, cond, _&&_}
+use mathlib.Core.List.{List}
+use mathlib.Core.Logic.{inl, inr}
+use lib.Dec.{ltb}
+use lib.ListN.{length, take, drop}
+use lib.Seq.{take-at}
+use borrow.Author.Tests.{ltb-true}
+use Rattle.base.proofs.Numbers.{both-left}
+use Rattle.plan_contents.specs.Header.{routerCount}
+use Rattle.plan_rules.specs.Distances.{TwoOrFour}
+use Rattle.plan_rules.specs.Lists.{listCountIn}
+use Rattle.plan_rules.specs.EgressLists.{listCount, listNumbers}
+use Rattle.plan_rules.specs.Refusal.{refuse, planRefusal}
+use Rattle.plan_rules.specs.Refused.{unlessRefused, field, flagField}
+use Rattle.plan_rules.specs.Converted.{converted, distancesFit, widenRefusal, narrowRefusal}
+use Rattle.plan_rules.proofs.Cascade.{plan-passes, refuse-passed}
+use Rattle.plan_rules.proofs.Refused.{when-given}
+use Rattle.plan_rules.proofs.Passed.{passed, accepted}
+use Rattle.plan_rules.proofs.Converted.{fit-four, converted-facts, narrow-after-widen, widen-after-narrow}
+use Rattle.plan_rules.proofs.ConverterRows.{near-holds, widen-exactly, narrow-exactly}
+use Rattle.route_rules.specs.Instance.{Instance}
+use Rattle.route_rules.specs.Preference.{marginOf}
+use Rattle.route_rules.specs.Reliance.{relies}
+use Rattle.route_rules.specs.Rounds.{rounds}
+use Rattle.route_explain_rules.specs.Explained.{explained}
+use Rattle.route_explain_rules.specs.declared.explanation.Explanation.the-variants as explanations
+use Rattle.net_rules.specs.FromPlan.{instanceOf}
+use Rattle.net_rules.proofs.FromConverted.{converted-instance}
+use Rattle.net_tables.specs.TableBytes.{activateBytes, runBytes}
+use Rattle.net_verdict.specs.Assessed.{found, labelsLeft, ranksLeft, tableLeft, cycleLeft}
+use Rattle.call_rules.specs.Refusals.{sequenceOk, askedChecks, egressListRefusal, compareRefusal, reliesRefusal, verdictRefusal, buffersOk, tableChecks, activateRefusal, runRefusal}
+use Rattle.call_rules.proofs.Granted.{list-asked, relies-asked, verdict-asked}
+use Rattle.call_query.specs.declared.size.SizeAnswer.{SizeAnswer}
+use Rattle.call_query.specs.declared.relies.ReliesAnswer.the-variants as reliances
+use Rattle.call_query.specs.declared.relies.ReliesAnswer.the-variants.{Yes, No}
+use Rattle.call_query.specs.Size.{sizeRouters, sizeLists, Sizes}
+use Rattle.call_query.specs.Relies.{relied}
+use Rattle.call_compare.specs.declared.compare.CompareAnswer.the-variants as comparisons
+use Rattle.call_compare.specs.declared.compare.CompareAnswer.the-variants.{Compared}
+use Rattle.call_compare.specs.Compare.{compared, preferredOf, marginCase}
+use Rattle.call_convert.specs.declared.convert.ConvertAnswer.{ConvertAnswer}
+use Rattle.call_convert.specs.Convert.{convertLength, convertBuffer, Converts, Widens, Narrows}
+use Rattle.call_verdict.specs.declared.verdict.VerdictAnswer.{VerdictAnswer}
+use Rattle.call_verdict.specs.declared.verdict.VerdictAnswer.the-variants as verdicts
+use Rattle.call_verdict.specs.Verdict.{answerOf, verdictAnswer, labelsAfter, ranksAfter, tableAfter, cycleAfter, VerdictCall}
+use Rattle.call_run.specs.declared.run.RunAnswer.{RunAnswer}
+use Rattle.call_run.specs.Activate.{activateTable}
+use Rattle.call_run.specs.Run.{runApplied, runRounds, runExhausted, runTable, Runs}
+use Rattle.checker_theorems.specs.Conversions.{left, SameCalls, wrote, Alike, AnswersAlike, Back, GoesBack, Conversions}
+
+-- what stands beside a refusal number counts only if nothing is refused
+unless-same : {A : Type 0} (number : ℕ) (refused x y : A) → (number ≡ 0 → x ≡ y) → unlessRefused number refused x ≡ unlessRefused number refused y
+unless-same zero refused x y h = h refl
+unless-same (suc number) refused x y h = refl
+
+refuse-same : (ok : Bool) (number rest rest′ : ℕ) → (ok ≡ true → rest ≡ rest′) → refuse ok number rest ≡ refuse ok number rest′
+unfolding refuse
+refuse-same true number rest rest′ h = h refl
+refuse-same false number rest rest′ h = refl
+
+module _ (plan result : List ℕ) (ok : planRefusal plan ≡ 0) (ok′ : planRefusal result ≡ 0)
+    (count : routerCount result ≡ routerCount plan) (lists : listCount result ≡ listCount plan)
+    (network : (k : ℕ) → k < listCount plan → instanceOf result k ≡ instanceOf plan k)
+    (numbers : (k : ℕ) → k < listCount plan → listNumbers result k ≡ listNumbers plan k) where
+  -- the rows of a call, its own conditions being functions of n and m
+  asked-same : (test : ℕ → ℕ → Bool) (rest rest′ : ℕ) → (test (routerCount plan) (listCount plan) ≡ true → rest′ ≡ rest)
+      → askedChecks result (test (routerCount result) (listCount result)) rest′ ≡ askedChecks plan (test (routerCount plan) (listCount plan)) rest
+  asked-same test rest rest′ h =
+      plan-passes result _ ok′
+      ∙ ap₂ (λ n m. refuse (test n m) 8 rest′) count lists
+      ∙ refuse-same (test (routerCount plan) (listCount plan)) 8 rest′ rest h
+      ∙ sym (plan-passes plan _ ok)
+
+  -- a call that is not refused meets its conditions of row 8
+  asked-ok : (test : Bool) (rest : ℕ) → askedChecks plan test rest ≡ 0 → test ≡ true
+  asked-ok test rest z = refuse-passed test 7 rest (sym (plan-passes plan _ ok) ∙ z) .0
+
+  some-list : 0 < listCount plan
+  some-list = passed plan ok .lists .some
+
+  list-refusal : (k : ℕ) → egressListRefusal result k ≡ egressListRefusal plan k
+  unfolding egressListRefusal
+  list-refusal k = asked-same (λ n m. ltb k m) 0 0 (λ h. refl)
+
+  compare-refusal : (w e f : ℕ) → compareRefusal result w e f ≡ compareRefusal plan w e f
+  unfolding compareRefusal
+  compare-refusal w e f = asked-same (λ n m. ltb w n && ltb e n && ltb f n) 0 0 (λ h. refl)
+
+  relies-refusal : (k w v : ℕ) → reliesRefusal result k w v ≡ reliesRefusal plan k w v
+  unfolding reliesRefusal
+  relies-refusal k w v = asked-same (λ n m. ltb k m && ltb w n && ltb v n) 0 0 (λ h. refl)
+
+  verdict-refusal : (k : ℕ) (a b c d : List ℕ) → verdictRefusal result k a b c d ≡ verdictRefusal plan k a b c d
+  unfolding verdictRefusal
+  verdict-refusal k a b c d = asked-same (λ n m. ltb k m) _ _ (λ h. ap (λ n. refuse (buffersOk n a b c d) 9 0) count)
+
+  activate-refusal : (k w : ℕ) (table : List ℕ) → activateRefusal result k w table ≡ activateRefusal plan k w table
+  unfolding activateRefusal
+  activate-refusal k w table =
+      asked-same (λ n m. ltb k m && ltb w n) _ _
+      (λ h. ap (λ I. tableChecks I table) (network k (ltb-true k _ (both-left _ _ h))))
+
+  run-refusal : (k : ℕ) (acts table : List ℕ) → runRefusal result k acts table ≡ runRefusal plan k acts table
+  unfolding runRefusal
+  run-refusal k acts table =
+      asked-same (λ n m. ltb k m && sequenceOk acts n) _ _
+      (λ h. ap (λ I. tableChecks I table) (network k (ltb-true k _ (both-left _ _ h))))
+
+  -- an answer of the plan's network with list k, beside a refusal number that is not given where there is no such list
+  by-network : {A : Type 0} (k number number′ : ℕ) (refused : ℕ → A) (value : Instance → A) → number′ ≡ number → (number ≡ 0 → k < listCount plan)
+      → unlessRefused number′ (refused number′) (value (instanceOf result k)) ≡ unlessRefused number (refused number) (value (instanceOf plan k))
+  by-network k number number′ refused value same asked =
+      ap (λ x. unlessRefused x (refused x) (value (instanceOf result k))) same ∙ unless-same number _ _ _ (λ z. ap value (network k (asked z)))
+
+  -- list k is there where a call is not refused
+  relies-list : (k w v : ℕ) → reliesRefusal plan k w v ≡ 0 → k < listCount plan
+  relies-list k w v z = relies-asked plan k w v z .list
+
+  activate-list : (k w : ℕ) (table : List ℕ) → activateRefusal plan k w table ≡ 0 → k < listCount plan
+  unfolding activateRefusal
+  activate-list k w table z = ltb-true k _ (both-left _ _ (asked-ok _ _ z))
+
+  run-list : (k : ℕ) (acts table : List ℕ) → runRefusal plan k acts table ≡ 0 → k < listCount plan
+  unfolding runRefusal
+  run-list k acts table z = ltb-true k _ (both-left _ _ (asked-ok _ _ z))
+
+  same-size : (r r′ : SizeAnswer) → Sizes plan r → Sizes result r′ → r′ ≡ r
+  unfolding sizeRouters sizeLists
+  same-size r r′ s s′ =
+      let number : r′ .refused ≡ r .refused = s′ .number ∙ ok′ ∙ sym (s .number ∙ ok) in
+      let routers : r′ .routers ≡ r .routers = s′ .routers ∙ ap₂ field (ok′ ∙ sym ok) count ∙ sym (s .routers) in
+      let m : r′ .lists ≡ r .lists = s′ .lists ∙ ap₂ field (ok′ ∙ sym ok) lists ∙ sym (s .lists) in
+      λ i. record { refused = number i; routers = routers i; lists = m i }
+
+  same-run : (k : ℕ) (acts : List ℕ) (limit : ℕ) (table : List ℕ) (r r′ : RunAnswer) (after after′ : List ℕ)
+      → Runs plan k acts limit table r after → Runs result k acts limit table r′ after′ → (r′ ≡ r) × (after′ ≡ after)
+  unfolding runApplied runRounds runExhausted runTable
+  same-run k acts limit table r r′ after after′ s s′ =
+      let same = run-refusal k acts table in
+      let number : r′ .refused ≡ r .refused = s′ .number ∙ same ∙ sym (s .number) in
+      let applied : r′ .applied ≡ r .applied = s′ .applied ∙ ap (λ x. field x (min limit (length acts))) same ∙ sym (s .applied) in
+      let whole : r′ .rounds ≡ r .rounds = s′ .whole ∙ ap₂ (λ x n. field x (rounds n (take limit acts))) same count ∙ sym (s .whole) in
+      let exhausted : r′ .exhausted ≡ r .exhausted = s′ .exhausted ∙ ap (λ x. flagField x (ltb limit (length acts))) same ∙ sym (s .exhausted) in (
+        λ i. record { refused = number i; applied = applied i; rounds = whole i; exhausted = exhausted i },
+        s′ .bytes ∙ by-network k _ _ (λ x. table) (λ I. runBytes I table (take limit acts)) same (run-list k acts table) ∙ sym (s .bytes),
+      )
+
+  same-verdict : (k : ℕ) (labels ranks table shown : List ℕ) (r r′ : VerdictAnswer) (a b c d a′ b′ c′ d′ : List ℕ)
+      → VerdictCall plan k r (left labels a) (left ranks b) (left table c) (left shown d)
+      → VerdictCall result k r′ (left labels a′) (left ranks b′) (left table c′) (left shown d′)
+      → (r′ ≡ r) × (a′ ≡ a) × (b′ ≡ b) × (c′ ≡ c) × (d′ ≡ d)
+  unfolding verdictAnswer labelsAfter ranksAfter tableAfter cycleAfter
+  same-verdict k labels ranks table shown r r′ a b c d a′ b′ c′ d′ s s′ =
+      let same = verdict-refusal k labels ranks table shown in
+      let list : verdictRefusal plan k labels ranks table shown ≡ 0 → k < listCount plan = λ z. verdict-asked plan k labels ranks table shown z .list in (
+        s′ .answer ∙ by-network k _ _ verdicts.Refused (λ I. answerOf (found I)) same list ∙ sym (s .answer),
+        s′ .labelled ∙ by-network k _ _ (λ x. labels) (λ I. labelsLeft I labels) same list ∙ sym (s .labelled),
+        s′ .ranked ∙ by-network k _ _ (λ x. ranks) (λ I. ranksLeft I ranks) same list ∙ sym (s .ranked),
+        s′ .settled ∙ by-network k _ _ (λ x. table) (λ I. tableLeft I table) same list ∙ sym (s .settled),
+        s′ .cycled ∙ by-network k _ _ (λ x. shown) (λ I. cycleLeft I shown) same list ∙ sym (s .cycled),
+      )
+
+  pub same-calls : SameCalls plan result
+  unfolding relied compared activateTable
+  same-calls =
+      record {
+        check = ok′ ∙ sym ok;
+        size = same-size;
+        listRefusal = list-refusal;
+        list = λ k z. numbers k (list-asked plan k z .list);
+        compare =
+            λ w e f r r′ s s′.
+            s′ .answer
+            ∙ by-network 0 _ _ comparisons.Refused (λ I. Compared (preferredOf I w e f) (marginCase (marginOf I w e f))) (compare-refusal w e f) (λ z. some-list)
+            ∙ sym (s .answer);
+        relies =
+            λ k w v r r′ s s′.
+            s′ .answer
+            ∙ by-network k _ _ reliances.Refused (λ I. cond (relies I w v) Yes No) (relies-refusal k w v) (relies-list k w v)
+            ∙ sym (s .answer);
+        explain =
+            λ k w v r r′ s s′.
+            s′ .answer
+            ∙ by-network k _ _ explanations.Refused (λ I. explained I w v) (relies-refusal k w v) (relies-list k w v)
+            ∙ sym (s .answer);
+        verdict = same-verdict;
+        activate =
+            λ k w table r r′ after after′ s s′. (
+              s′ .number ∙ activate-refusal k w table ∙ sym (s .number),
+              s′ .bytes
+                  ∙ by-network k _ _ (λ x. table) (λ I. activateBytes I w table) (activate-refusal k w table) (activate-list k w table)
+                  ∙ sym (s .bytes),
+            );
+        run = same-run;
+      }
+
+-- what a conversion that is not refused writes
+module _ (to : ℕ) (plan : List ℕ) (number : ℕ) (out : List ℕ) (r : ConvertAnswer) (after : List ℕ)
+    (call : Converts to plan number out r after) (given : r .refused ≡ 0) where
+  number-is : number ≡ 0
+  number-is = sym (call .numbered) ∙ given
+
+  long-is : r .length ≡ length (converted to plan)
+  unfolding convertLength
+  long-is = call .long ∙ when-given number _ _ number-is
+
+  written-is : wrote r after ≡ converted to plan
+  unfolding convertBuffer
+  written-is =
+      ap₂ take long-is (call .bytes ∙ when-given number _ _ number-is)
+      ∙ take-at (converted to plan) (drop (length (converted to plan)) out) (length (converted to plan)) refl
+
+-- .. is the same network, list by list
+converted-alike : (to : ℕ) → TwoOrFour to → (plan : List ℕ) → planRefusal plan ≡ 0 → distancesFit to plan ≡ true → Alike to plan (converted to plan)
+converted-alike to t plan ok fit =
+    let f = converted-facts to t plan ok fit in
+    record {
+      bodies = f;
+      calls = same-calls plan (converted to plan) ok (f .passes) (f .count) (ap listCountIn (f .lists)) (converted-instance to t plan ok fit) (f .numbers);
+    }
+
+widened : AnswersAlike 4 Widens
+widened plan out after r b call given =
+    let h = widen-exactly plan (length out) .none .0 (number-is 4 plan _ out r after call given) in
+    rw (written-is 4 plan _ out r after call given) (converted-alike 4 (inr refl) plan (accepted plan (h .1)) (fit-four plan b))
+
+narrowed : AnswersAlike 2 Narrows
+narrowed plan out after r b call given =
+    let h = narrow-exactly plan (length out) .none .0 (number-is 2 plan _ out r after call given) in
+    rw (written-is 2 plan _ out r after call given) (converted-alike 2 (inl refl) plan (accepted plan (h .1)) (near-holds plan (h .2)))
+
+-- a conversion that is not refused, of bytes that are converted to the plan
+back-to : (to : ℕ) (plan result : List ℕ) (number : ℕ) (out : List ℕ) (r : ConvertAnswer) (after : List ℕ)
+    → Converts to result number out r after → number ≡ 0 → converted to result ≡ plan → Back plan r after
+back-to to plan result number out r after call z same =
+    let given = call .numbered ∙ z in
+    record {
+      taken = given;
+      long = long-is to result number out r after call given ∙ ap length same;
+      identical = written-is to result number out r after call given ∙ same;
+    }
+
+narrow-back : GoesBack Widens Narrows
+narrow-back plan out after out′ after′ r r′ b there given back room =
+    let f = narrow-after-widen plan b (length out) (number-is 4 plan _ out r after there given) in
+    let w = written-is 4 plan _ out r after there given in
+    back-to 2 plan _ _ out′ r′ after′ back (ap (λ p. narrowRefusal p (length out′)) w ∙ f .accepted (length out′) room) (ap (converted 2) w ∙ f .bytes)
+
+widen-back : GoesBack Narrows Widens
+widen-back plan out after out′ after′ r r′ b there given back room =
+    let f = widen-after-narrow plan b (length out) (number-is 2 plan _ out r after there given) in
+    let w = written-is 2 plan _ out r after there given in
+    back-to 4 plan _ _ out′ r′ after′ back (ap (λ p. widenRefusal p (length out′)) w ∙ f .accepted (length out′) room) (ap (converted 4) w ∙ f .bytes)
+
+pub conversions : Conversions
+conversions =
+    record { widened = widened; narrowed = narrowed; narrowAfterWiden = narrow-back; widenAfterNarrow = widen-back }
