@@ -5,3 +5,4 @@ pub mod Settling
 pub mod Uniqueness
 pub mod Sharpness
 pub mod Senders
+pub mod Nobody

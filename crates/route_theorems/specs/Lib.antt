@@ -1,3 +1,4 @@
 pub mod Settled
 pub mod Claims
 pub mod Senders
+pub mod Nobody
