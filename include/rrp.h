@@ -12,6 +12,8 @@
  * Routers and lists are numbered from 0, in the plan's order; n is the plan's number of routers. A buffer may be longer than
  * needed: RRP_MAX_ROUTERS bytes are enough for labels, ranks and cycle, and RRP_MAX_TABLE bytes for a table.
  *
+ * A list names 0 to n routers. One that names nobody is for a prefix that is gone everywhere: every call takes it as any other.
+ *
  * A table of held routes has two bytes a router: the egress router of the route that it holds and the neighbour that it has the
  * route from, or RRP_NONE twice if it holds none. A router of the list holds its own route: its number twice. To start from
  * nothing, put those in and RRP_NONE everywhere else.
@@ -53,7 +55,7 @@ enum rrp_refusal {
     RRP_BAD_SESSIONS = 5,
     /* the distance from a router to itself is not 0 */
     RRP_BAD_DISTANCES = 6,
-    /* there are not 1 to 64 lists, each of one router or more, rising strictly, up to the plan's end */
+    /* there are not 1 to 64 lists, the routers of each rising strictly, up to the plan's end */
     RRP_BAD_LISTS = 7,
     /* a list or a router asked for is not in the plan; a run asks for its whole sequence */
     RRP_NOT_IN_PLAN = 8,
@@ -128,8 +130,9 @@ uint8_t rrp_check(const uint8_t *plan, size_t plan_len);
 /* Gives the size of a plan: *routers is n, and *lists the number of its egress lists. Refusals 1 to 7 and 13. */
 uint8_t rrp_size(const uint8_t *plan, size_t plan_len, uint64_t *routers, uint64_t *lists);
 
-/* Finds a list in the plan: the routers of the list are the bytes plan[*start] to plan[*start + *count - 1].
- * Refusals 1 to 8 and 13. */
+/* Finds a list in the plan: the routers of the list are the bytes plan[*start] to plan[*start + *count - 1]. Of a list of nobody
+ * *count is 0, and *start is the list's own place all the same, after the byte that has the count; it is plan_len if no list
+ * follows. That is not refused: RRP_OK is returned, as of any other list. Refusals 1 to 8 and 13. */
 uint8_t rrp_list(const uint8_t *plan, size_t plan_len, size_t list, uint64_t *start, uint64_t *count);
 
 /* Compares two egress routers at a router: *better is 1 if the first is better, 2 if the second is, 0 if neither is. The better
@@ -158,6 +161,8 @@ uint8_t rrp_explain(const uint8_t *plan, size_t plan_len, size_t list, size_t ro
  * Stable, if every group is of one router: *stable is 1, and *size the highest rank. ranks[v] becomes v's rank: 0 if v relies on
  * no router, else one more than the highest rank of those that it relies on. The table becomes the one that no activation changes;
  * activations in any order lead to it from every table for this plan and list, within *size + 2 rounds. cycle is left as it is.
+ * A list of nobody is stable: *size is 1 if some client neighbours a reflector, else 0, and the table has RRP_NONE everywhere, so
+ * that old routes are flushed within three rounds, or two.
  * Suspect: *stable is 0, and *size the number of routers of a cycle. cycle[0] to cycle[*size - 1] become those routers, each
  * relying on the next and the last on the first; ranks and table are left as they are.
  * Refusals 1 to 9 and 13. */

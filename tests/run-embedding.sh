@@ -97,6 +97,24 @@ converts() {
         [ "$("$out/convert" tests/verdict/refused-1-rrp3.plan "$back")" = "refused 1" ] && cmp "$m3" "$back"
 }
 
+# What the C example of a flush prints, its lines joined: how many routes are left after each round; or the refusal.
+flushes() {
+    local plan=tests/verdict/nobody-listed-among-others.plan left
+    left="4 routes after 0 of 3 rounds,2 routes after 1 of 3 rounds,0 routes after 2 of 3 rounds,0 routes after 3 of 3 rounds"
+    [ "$("$out/flush" "$plan" 2 1 | paste -sd,)" = "$left" ] && [ "$("$out/flush" "$plan" 2 3 | paste -sd,)" = "$left" ] &&
+        [ "$("$out/flush" tests/verdict/rrp2-nobody-listed-among-others.plan 2 1 | paste -sd,)" = "$left" ] &&
+        [ "$("$out/flush" "$plan" 2 0)" = "list 0 names 2" ] && [ "$("$out/flush" "$plan" 2 4)" = "refused 8" ]
+}
+
+# What the other C examples say for a list of nobody: its verdict among others', why routers rely on others, a run.
+on_list_of_nobody() {
+    local name=tests/verdict/nobody-listed-among-others
+    writes "$name.expected" "$out/verdicts" "$name.plan" && [ "$("$out/why" "$name.plan" 1 2 0)" = "yes, parent" ] &&
+        [ "$("$out/why" "$name.plan" 1 0 1)" = "no, no offer" ] &&
+        [ "$("$out/why" "$name.plan" 1 4 3)" = "no, second an unlisted client" ] &&
+        [ "$("$out/run" "$name.plan" 1 9 0 1 2 3 4 | paste -sd,)" = "applied 5 rounds 1,0 nothing,1 nothing,2 nothing,3 nothing,4 nothing" ]
+}
+
 # The C examples print what docs/EMBEDDING.md shows after each command.
 prints_as_documented() {
     local shown made line
@@ -183,7 +201,7 @@ own_tests() {
 }
 
 mkdir -p "$out"
-rm -f "$out/verdicts" "$out/compare" "$out/why" "$out/run" "$out/distances" "$out/convert" "$out/stack"
+rm -f "$out/verdicts" "$out/compare" "$out/why" "$out/run" "$out/distances" "$out/convert" "$out/flush" "$out/stack"
 try "the library" rt staticlib rrp
 try "the header as C99" gcc -std=c99 -pedantic -Wall -Wextra -Werror -Iinclude -fsyntax-only -x c include/rrp.h
 try "the header as C++" g++ -std=c++11 -pedantic -Wall -Wextra -Werror -Iinclude -fsyntax-only -x c++ include/rrp.h
@@ -202,6 +220,9 @@ try "the C example of distances" gcc -std=c11 -Wall -Wextra -Werror -O2 -Iinclud
 try "the C example's distances" works_out_distances
 try "the C example of a conversion" example convert
 try "the C example's conversions" converts
+try "the C example of a flush" example flush
+try "the C example's flush" flushes
+try "the C examples on a list of nobody" on_list_of_nobody
 try "the C examples as documented" prints_as_documented
 try "the library's size in a program" measures_size
 try "the second checker's own tests" own_tests

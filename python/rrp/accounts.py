@@ -18,7 +18,8 @@ class Account(NamedTuple):
     `offer` is the egress that counts for the other router: what it offers, or itself if it is a
     client. `own` is the best client of the router. Both have the router's distance beside them, and
     `margin` is the first distance minus the second. What the explanation does not turn on is None;
-    a distance is also None where there is no way. `reason` has all that in words.
+    a distance is also None where there is no way. `reason` has all that in words. `nobody` says
+    whether nobody is in the list.
     """
 
     router: str
@@ -30,6 +31,7 @@ class Account(NamedTuple):
     own_distance: int | None = None
     margin: int | None = None
     reason: str = ""
+    nobody: bool = False
 
     @property
     def relies(self) -> bool:
@@ -82,6 +84,7 @@ def account(plan: Plan, egress_list: Which, router: Which, other: Which) -> Acco
         own=own,
         own_distance=None if own is None else plan.distance(first, own),
         margin=plan.compare(first, offer, own).margin if compared else None,
+        nobody=not plan.egresses(egress_list),
     )
     return found._replace(reason=_REASONS[explanation.words](found))
 
@@ -172,8 +175,10 @@ def _not_the_best(found: Account) -> str:
 
 
 def _no_offer(found: Account) -> str:
-    nobody = "neither it nor a client that it has a way to is in the list"
-    return f"{found.other} offers nothing: {nobody}"
+    if found.nobody:
+        return f"{found.other} offers nothing: nobody is in the list"
+    neither = "neither it nor a client that it has a way to is in the list"
+    return f"{found.other} offers nothing: {neither}"
 
 
 def _no_way_to_the_offer(found: Account) -> str:

@@ -76,12 +76,19 @@ class Effect(NamedTuple):
         """Whether every rank and route is as before. None where that is not known: of a list that
         is suspect both times, the cycle and the groups may be the same and routes are not
         compared."""
-        return None if self.same_groups else self.before == self.after
+        return None if self.same_groups else self._same()
 
     @property
     def same_groups(self) -> bool:
         """Whether the list is suspect both times, with the same cycle and the same groups."""
-        return not self.after.stable and self.before == self.after
+        return not self.after.stable and self._same()
+
+    def _same(self) -> bool:
+        """Whether the verdicts are the same in all but the routers of the list, which are no part
+        of what is settled; `members` has what changes of them."""
+        if self.before is None:
+            return False
+        return self.before == self.after._replace(egresses=self.before.egresses)
 
     @property
     def label(self) -> str | None:
@@ -115,8 +122,10 @@ class Effect(NamedTuple):
             yield f"{routers_do(ranks, 'change')} rank: {', '.join(ranks)}"
 
     def values(self) -> dict[str, object]:
-        """The verdicts and what changes, as plain values."""
+        """The routers of the list after the change, the verdicts and what changes, as plain
+        values."""
         return {
+            "routers": self.after.egresses,
             "before": None if self.before is None else verdict_values(self.before),
             "after": verdict_values(self.after),
             "same_verdict": self.label is not None,

@@ -24,7 +24,6 @@ NO_WAY_WIDE = 4294967295
 NONE = 255
 
 #: The refusals that the tool asks for by name.
-BAD_LISTS = 7
 BAD_TABLE = 10
 TOO_FAR = 12
 TOO_MANY_PARENTS = 13
@@ -39,8 +38,7 @@ REFUSALS = {
     4: "a role is not 1, 2 or 3, or the identifiers do not rise strictly",
     5: "a session is not two routers, the lower number first, or the sessions do not rise strictly",
     6: "the distance from a router to itself is not 0",
-    7: "there are not 1 to 64 lists, each of one router or more, rising strictly, up to the plan's "
-    "end",
+    7: "there are not 1 to 64 lists, the routers of each rising strictly, up to the plan's end",
     8: "a list or a router asked for is not in the plan; a run asks for its whole sequence",
     9: "a buffer is shorter than the call needs",
     10: "the table breaks its rule: own route if listed, else nothing or an egress from a "

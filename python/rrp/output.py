@@ -10,6 +10,9 @@ from .encoding import CLIENT, WIDE
 from .errors import RrpError
 from .plan import Plan, Verdict
 
+#: Who is in a list of nobody.
+NOBODY_LISTED = "no router is listed"
+
 
 def write_json(value: object) -> None:
     """Writes a value as JSON on standard output, in ASCII, which every output can take."""
@@ -73,16 +76,24 @@ def verdict_words(verdict: Verdict) -> str:
 
 
 def verdict_lines(verdict: Verdict) -> list[str]:
-    """A verdict in a few words and, in a line of its own, who ends without a route."""
+    """A verdict in a few words and, in lines of their own, who ends without a route."""
     return [verdict_words(verdict), *without_route_lines(verdict)]
 
 
 def without_route_lines(verdict: Verdict) -> list[str]:
-    """A line on the routers of a stable list that end without a route, if there are any."""
+    """A line on the routers of a stable list that end without a route, if there are any. Where
+    nobody is in the list, that is said in place of all names."""
     if not verdict.without_route:
         return []
+    if verdict.nobody:
+        return [nobody_words(verdict), f"{NOBODY_LISTED}, so every router ends without a route"]
     who = ", ".join(verdict.without_route)
     return [f"{routers_do(verdict.without_route, 'end')} without a route: {who}"]
+
+
+def nobody_words(verdict: Verdict) -> str:
+    """What becomes of the routes of a list of nobody."""
+    return f"nobody: all routes are flushed within {verdict.rounds} rounds"
 
 
 def routers_do(routers: Sequence[str], verb: str) -> str:
@@ -93,6 +104,11 @@ def routers_do(routers: Sequence[str], verb: str) -> str:
 def cycle_words(cycle: Sequence[str]) -> str:
     """A cycle: each router relies on the next, and the last one on the first."""
     return " -> ".join([*cycle, *cycle[:1]])
+
+
+def list_values(verdict: Verdict) -> dict[str, object]:
+    """A list, its routers and its verdict, as plain values."""
+    return {"list": verdict.name, "routers": verdict.egresses, **verdict_values(verdict)}
 
 
 def verdict_values(verdict: Verdict) -> dict[str, object]:

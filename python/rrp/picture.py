@@ -5,7 +5,7 @@ from __future__ import annotations
 from collections.abc import Iterator
 from typing import NamedTuple
 
-from .output import verdict_words
+from .output import nobody_words, verdict_words
 from .plan import Explanation, Plan, Verdict
 
 _LISTED = 'style=filled, fillcolor="#cfe8cf"'
@@ -42,9 +42,11 @@ def edges(plan: Plan, verdict: Verdict) -> list[Edge]:
 def graphviz(plan: Plan, verdict: Verdict) -> str:
     """The text that Graphviz draws: reflectors as boxes, listed routers filled, the cycle red, the
     routers of a rank in a row."""
-    title = f"{verdict.name} is {verdict_words(verdict)}"
+    title = [f"{verdict.name} is {verdict_words(verdict)}"]
+    if verdict.nobody:
+        title.append(nobody_words(verdict))
     lines = [
-        f"label={label([title])}; labelloc=t; fontname=Helvetica;",
+        f"label={label(title)}; labelloc=t; fontname=Helvetica;",
         "node [fontname=Helvetica]; edge [fontname=Helvetica, fontsize=10];",
         *_nodes(plan, verdict),
         *_rows(verdict),

@@ -50,7 +50,7 @@ ROLES = {encoding.REFLECTOR: "reflector", encoding.CLIENT: "client", encoding.SK
 
 
 class Verdict(NamedTuple):
-    """The verdict of a plan for a list.
+    """The verdict of a plan for a list, whose routers are `egresses`; none if nobody is in it.
 
     Stable: `highest` is the highest rank, `rounds` the rounds within which the routers settle,
     `ranks` each router's rank and `table` what the routers settle on; `cycle` is empty. Suspect:
@@ -68,6 +68,13 @@ class Verdict(NamedTuple):
     labels: dict[str, str]
     groups: tuple[tuple[str, ...], ...]
     cycle: tuple[str, ...]
+    egresses: tuple[str, ...]
+
+    @property
+    def nobody(self) -> bool:
+        """Whether nobody is in the list, as where a prefix is gone everywhere. Such a list is
+        stable, and its routers settle on nothing."""
+        return not self.egresses
 
     @property
     def without_route(self) -> tuple[str, ...] | None:
@@ -281,7 +288,7 @@ class Plan:
         return self.model.distances[self.router_number(router)][self.router_number(other)]
 
     def egresses(self, egress_list: Which) -> tuple[str, ...]:
-        """The egress routers of a list."""
+        """The egress routers of a list; none if nobody is in it."""
         return self._at(library.egress_list(self.data, self.list_number(egress_list)))
 
     # What the library answers
@@ -332,6 +339,7 @@ class Plan:
             labels=dict(zip(self.routers, labels)),
             groups=_groups(self.routers, labels),
             cycle=self._at(answer.cycle),
+            egresses=self.egresses(number),
         )
 
     def verdicts(self) -> tuple[Verdict, ...]:

@@ -39,8 +39,8 @@ _LINES = {
 
 class Entry(NamedTuple):
     """What is filed for a plan: the verdict program's lines, what each list has, the last line. And
-    how many lists are stable, how many suspect, and how many of the stable ones leave a router
-    without a route, all 0 if the plan is refused."""
+    how many lists are stable, how many suspect, how many of the stable ones leave a router without
+    a route, and in how many of these nobody is listed, all 0 if the plan is refused."""
 
     program: str
     details: str
@@ -48,6 +48,7 @@ class Entry(NamedTuple):
     stable: int = 0
     suspect: int = 0
     lacking: int = 0
+    nobody: int = 0
 
     @property
     def text(self) -> str:
@@ -84,7 +85,9 @@ def entry(plan: bytes) -> Entry:
         details += _routers(number, answer) if answer.stable else _groups(number, answer)
     stable = [answer for answer in answers if answer.stable]
     lacking = sum(library.NONE in answer.table[::2] for answer in stable)
-    counts = len(stable), lists - len(stable), lacking
+    # a listed router settles on its own route, so that nobody is listed where none has a route
+    nobody = sum(set(answer.table) == {library.NONE} for answer in stable)
+    counts = len(stable), lists - len(stable), lacking, nobody
     return Entry("".join(program), "".join(details), digest, *counts)
 
 

@@ -13,7 +13,7 @@ def random_network(
     draw: random.Random, nearest: int = 0, width: int = encoding.NARROW
 ) -> Plan:
     """A few reflectors in a mesh, each with some clients, and distances that are often equal: the
-    nearest one given and up to 12 more."""
+    nearest one given and up to 12 more. At times nobody is in a list."""
     reflectors = draw.randint(2, 4)
     count = reflectors + draw.randint(reflectors, 6)
     sessions = set(combinations(range(reflectors), 2))
@@ -40,6 +40,8 @@ def _way(draw: random.Random, nearest: int) -> int | None:
 
 
 def _members(draw: random.Random, reflectors: int, clients: range) -> list[int]:
+    if draw.random() < 0.08:
+        return []
     listed = draw.sample(clients, draw.randint(1, len(clients)))
     return sorted(listed + draw.sample(range(reflectors), draw.choice([0, 0, 0, 1])))
 

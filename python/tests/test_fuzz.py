@@ -26,20 +26,21 @@ COUNT = int(os.environ.get("RRP_FUZZ", "600"))
 _WORDS = (
     "reflector client mesh session link distance list wide of none no-client-reflection > # - 0 1 "
     "64 65534 65535 65536 4294967294 4294967295 4294967296 10.0.0.1 0.0.0.0 lon-rr par-rr lon-a "
-    "par-a r0 r1 l0 transit é \u2028 \x85 \x00 \x1b[1m \ufeff 999999999999999999999"
+    "par-a r0 r1 l0 transit gone é \u2028 \x85 \x00 \x1b[1m \ufeff 999999999999999999999"
 ).split(" ")
 
 
 def corpus() -> list[bytes]:
     """What the inputs are made of: examples, all stored errors, plans in bytes of both marks."""
-    paths = [f"{EXAMPLES}/net.rrp", f"{EXAMPLES}/wide.rrp", f"{EXAMPLES}/m3.plan"]
+    paths = [f"{EXAMPLES}/{name}" for name in ("net.rrp", "wide.rrp", "gone.rrp", "m3.plan")]
     paths += [*glob.glob(f"{TESTS}/errors/*.rrp"), *glob.glob(f"{STORED_PLANS}/*.plan")]
     inputs = []
     for path in sorted(paths):
         with open(path, "rb") as file:
             inputs.append(file.read())
     plans = [data for data in inputs if data.startswith(b"RRP1") and library.refusal(data) == 0]
-    return [*inputs, *map(library.widen, plans), Plan.read(f"{EXAMPLES}/wide.rrp").data]
+    packed = [Plan.read(f"{EXAMPLES}/{name}").data for name in ("wide.rrp", "gone.rrp")]
+    return [*inputs, *map(library.widen, plans), *packed]
 
 
 def damaged(data: bytes, draw: random.Random) -> bytes:
@@ -60,7 +61,9 @@ def damaged(data: bytes, draw: random.Random) -> bytes:
 
 
 def random_line(draw: random.Random) -> str:
-    """A line of words that plans have."""
+    """A line of words that plans have, at times a list of nobody."""
+    if draw.random() < 0.1:
+        return f"\nlist {draw.choice(_WORDS)}\n"
     return "\n" + " ".join(draw.choices(_WORDS, k=draw.randint(1, 6))) + "\n"
 
 

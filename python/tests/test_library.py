@@ -54,7 +54,7 @@ class Declarations(unittest.TestCase):
         wide = re.findall(r"#define RRP_(NO_WAY_WIDE) UINT32_C\((\d+)\)", header)
         numbers.update(wide)
         limits = ("MAX_ROUTERS", "MAX_LISTS", "MAX_LINKS", "MAX_PLAN", "NO_WAY", "NO_WAY_WIDE")
-        refusals = ("BAD_LISTS", "TOO_FAR", "TOO_MANY_PARENTS", "TOO_FAR_TO_NARROW")
+        refusals = ("BAD_TABLE", "TOO_FAR", "TOO_MANY_PARENTS", "TOO_FAR_TO_NARROW")
         for name in (*limits, "NONE", *refusals):
             self.assertEqual(getattr(library, name), int(numbers[name]), name)
 
@@ -78,6 +78,20 @@ class Calls(unittest.TestCase):
         self.assertEqual(verdict, (False, 2, b"\0\0\2\3", b"", b"", b"\0\1"))
         stable = (True, 3, b"\0\1\2\3", b"\2\1\3\0", bytes([3, 1, 3, 3, 3, 0, 3, 3]), b"")
         self.assertEqual(library.verdict(plan, 1), stable)
+
+    def test_a_list_of_nobody_is_at_its_own_place(self) -> None:
+        head, lists = self.plan[:21] + b"\4\x54\0", [3, 0, 2, 2, 3, 0]
+        plan = head + bytes([len(lists), 0]) + self.plan[26:84] + bytes(lists)
+        found = []
+        for number in range(4):
+            start, count = ctypes.c_uint64(99), ctypes.c_uint64(99)
+            refused = library.library().rrp_list(plan, len(plan), number, start, count)
+            found.append((refused, start.value, count.value))
+        self.assertEqual(len(plan), 90)
+        self.assertEqual(found, [(0, 86, 0), (0, 87, 2), (0, 90, 0), (8, 99, 99)])
+        self.assertEqual(library.egress_list(plan, 0), b"")
+        nothing = (True, 1, b"\0\1\2\3", b"\0\0\1\1", bytes([255] * 8), b"")
+        self.assertEqual([library.verdict(plan, number) for number in (0, 2)], [nothing] * 2)
 
     def test_tables(self) -> None:
         start = bytes([255] * 4 + [2, 2, 3, 3])

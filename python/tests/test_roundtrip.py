@@ -72,8 +72,16 @@ def random_row(draw: random.Random, router: int, count: int, most: int) -> list[
 
 
 def random_list(draw: random.Random, count: int) -> list[int]:
-    """Some routers."""
-    return sorted(draw.sample(range(count), draw.randint(1, count)))
+    """Some routers, or none."""
+    return sorted(draw.sample(range(count), draw.randint(0, count)))
+
+
+def places_of_nobody(model: encoding.Model) -> set[str]:
+    """Where among the lists those of nobody are."""
+    places = ["first", *["between"] * (len(model.lists) - 2), "last"]
+    if len(model.lists) == 1:
+        places = ["alone"]
+    return {place for place, members in zip(places, model.lists) if not members}
 
 
 def rough_text(model: encoding.Model, draw: random.Random) -> str:
@@ -156,10 +164,11 @@ class RoundTrip(unittest.TestCase):
             self.assertEqual("".join(f"{line}\n" for line in lines), read(f"{path[:-5]}.expected"))
 
     def test_random_models(self) -> None:
-        draw, kinds = random.Random(4456), set()
+        draw, kinds, nobody = random.Random(4456), set(), set()
         for number in range(300):
             model = random_model(draw)
             kinds.add((model.width, encoding.width_for(model.distances)))
+            nobody |= places_of_nobody(model)
             data = encoding.encode(model)
             self.assertEqual(library.refusal(data), 0, number)
             self.assertEqual(data[:4], b"RRP1" if model.width == 2 else b"RRP2", number)
@@ -167,6 +176,7 @@ class RoundTrip(unittest.TestCase):
             self.assertEqual(Plan.parse(write(Plan.from_bytes(data))).data, data, number)
             self.assertEqual(Plan.parse(rough_text(model, draw)).data, data, number)
         self.assertEqual(kinds, {(2, 2), (4, 2), (4, 4)})
+        self.assertEqual(nobody, {"alone", "first", "between", "last"})
 
     def converts(self, plan: Plan, what: object) -> bool:
         """Whether a plan has one of the other mark. That is then the same in all else, and leads

@@ -60,6 +60,7 @@ class Written(unittest.TestCase):
             counted = (found.stable, found.suspect, found.refused)
             self.assertEqual(counted, (stable, len(verdicts) - stable, False))
             self.assertEqual(found.lacking, sum(bool(each.without_route) for each in verdicts))
+            self.assertEqual(found.nobody, sum(not plan.egresses(name) for name in plan.lists))
             seen += found.text
         for word in ("stable", "suspect", "group", "egress", "nothing"):
             self.assertIn(f" {word}", seen)

@@ -130,6 +130,11 @@ any-refuted p (suc n) f =
     let g : p n ≡ false = f n (omega arith) in
     any-suc p n ∙ cc
 
+pub any-cong : (p q : ℕ → Bool) (n : ℕ) → ((i : ℕ) → i < n → p i ≡ q i) → anyBelow p n ≡ anyBelow q n
+any-cong p q zero h = any-none p ∙ sym (any-none q)
+any-cong p q (suc n) h =
+    any-suc p n ∙ ap₂ _||_ (any-cong p q n (λ i l. h i (omega arith))) (h n (omega arith)) ∙ sym (any-suc q n)
+
 -- where a test does not hold of every number, some number refutes it
 pub all-broken : (p : ℕ → Bool) (n : ℕ) → allBelow p n ≡ false → Witness (λ i. not (p i)) n
 all-broken p zero h = not-both (allBelow p 0) (all-none p) h

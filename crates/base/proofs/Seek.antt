@@ -3,11 +3,12 @@ use Prim.Native.Nat.{ℕ, zero, suc, _+_, _≤_, _<_, min, max}
 use native.Mathlib.Numerals.{add-one}
 use native.Mathlib.Omega.{arith}
 use mathlib.Core.Path.{_≡_, refl, _∙_, sym, ap, ap₂}
-use mathlib.Core.Bool.{Bool, true, false}
+use mathlib.Core.Bool.{Bool, true, false, _||_}
 use mathlib.Core.Logic.{⊎-elim}
 use lib.Dec.{ltb, eqb}
 use borrow.Author.Count.{below-none, below-more}
 use borrow.Author.Tests.{ltb-true, ltb-false, eqb-true, eq-eqb, ne-eqb}
+use Rattle.base.specs.Below.{anyBelow}
 use Rattle.base.specs.Seek.{flag, seek, highest, count}
 use Rattle.base.proofs.Numbers.{eq-or-ne, lt-or-le}
 
@@ -144,6 +145,18 @@ pub highest-cong : (f g : ℕ → ℕ) (n : ℕ) → ((i : ℕ) → i < n → f 
 highest-cong f g zero h = highest-none f ∙ sym (highest-none g)
 highest-cong f g (suc n) h =
     highest-suc f n ∙ ap₂ max (highest-cong f g n (λ i l. h i (omega arith))) (h n (omega arith)) ∙ sym (highest-suc g n)
+
+-- the highest flag says whether any test holds
+flag-either : (a b : Bool) → max (flag a) (flag b) ≡ flag (a || b)
+flag-either true true = refl
+flag-either true false = refl
+flag-either false true = refl
+flag-either false false = refl
+
+pub highest-flag : (p : ℕ → Bool) (n : ℕ) → highest (λ i. flag (p i)) n ≡ flag (anyBelow p n)
+unfolding highest anyBelow
+highest-flag p zero = refl
+highest-flag p (suc n) = ap (λ x. max x (flag (p n))) (highest-flag p n) ∙ flag-either (anyBelow p n) (p n)
 
 -- where the highest value stands
 pub record Top (f : ℕ → ℕ) (n : ℕ) : Type 0 where

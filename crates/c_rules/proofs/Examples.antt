@@ -3,7 +3,7 @@ use Rattle.base.specs.Below.{allBelow, anyBelow}
 use Rattle.base.specs.Best.{keepBest, best}
 use Rattle.base.specs.Seek.{seek, highest, count}
 use Rattle.base.specs.Tab.{tab, joined}
-use Rattle.plan_examples.specs.Plans.{fourRouters, smallPlan, M3Plan}
+use Rattle.plan_examples.specs.Plans.{fourRouters, smallPlan, M3Plan, M3WithNobody, nobodyBetween}
 use Rattle.plan_contents.specs.Header.{markOk, headerOk, routerCountOk}
 use Rattle.plan_contents.specs.Contents.{kindsOk, placesOk, sizesOk, contentsOk}
 use Rattle.plan_rules.specs.Routers.{routerOk, routersOk}
@@ -42,7 +42,7 @@ use Rattle.c_rules.specs.Examples.{twoRouters, ExportExamples, ConvertEx
 
 pub export-examples : ExportExamples
 unfolding
-    fourRouters smallPlan M3Plan twoRouters egressListRefusal compareRefusal reliesRefusal whichBetter hasMargin marginNumber
+    fourRouters smallPlan M3Plan M3WithNobody nobodyBetween twoRouters egressListRefusal compareRefusal reliesRefusal whichBetter hasMargin marginNumber
     againstOwn byOffer onReflector onClient explained
     isStable labelsOf ranksOf highestOf settledBytes cycleOf sizeOf buffersOk verdictRefusal labelsAfter ranksAfter tableAfter cycleAfter labelsLeft ranksLeft tableLeft cycleLeft
     tableChecks sequenceOk activateRefusal activateTable runRefusal runApplied runRounds runExhausted runTable
@@ -59,6 +59,9 @@ export-examples =
       sized = λ r n m e. (e .number, e .routers-are, e .lists-are);
       firstList = λ r s c e. (e .number, e .started, e .counted);
       secondList = λ r s c e. (e .number, e .started, e .counted);
+      listOfNobody = λ r s c e. (e .number, e .started, e .counted);
+      listAfterNobody = λ r s c e. (e .number, e .started, e .counted);
+      refusedAfterNobody = λ r s c e. (e .number, e .started, e .counted);
       firstBetter = λ r b p m e. (e .number, e .compared, e .flagged, e .measured);
       secondBetter = λ r b p m e. (e .number, e .compared, e .flagged, e .measured);
       neitherBetter = λ r b p m e. (e .number, e .compared, e .flagged, e .measured);
@@ -77,6 +80,7 @@ export-examples =
       refusedRelies = λ r v e. (e .number, e .answered);
       suspect = λ r l k t c v s e. (e .numbered, e .judged, e .sized, e .labelled, e .ranked, e .settled, e .cycled);
       stable = λ r l k t c v s e. (e .numbered, e .judged, e .sized, e .labelled, e .ranked, e .settled, e .cycled);
+      stableForNobody = λ r l k t c v s e. (e .numbered, e .judged, e .sized, e .labelled, e .ranked, e .settled, e .cycled);
       refusedVerdict = λ r l k t c v s e. (e .numbered, e .judged, e .sized, e .labelled, e .ranked, e .settled, e .cycled);
       activated = λ r t e. (e .number, e .bytes);
       limited = λ r t a n x e. (e .numbered, e .bytes, e .acted, e .whole, e .cut);

@@ -1,12 +1,13 @@
 -- The results that C sees, by example: whatever a call does that satisfies its export has these results, in literal bytes and numbers.
--- `M3Plan` is that of document 01, "Small plans"; its lists are 2,3 and 3 and 0.
+-- `M3Plan` is that of document 01, "Small plans"; its lists are 2,3 and 3 and 0. `M3WithNobody` has the lists 2,3 and nobody and 0,
+-- `nobodyBetween`, of three routers, the lists 1 and nobody and 1,2.
 use Prim.Native.Nat.{ℕ}
 use mathlib.Core.Path.{_≡_}
 use mathlib.Core.List.{List, [], _∷_, _++_}
 use lib.IntN.{ℤ, pos, negℤ}
 use lib.ListN.{replicate}
 use Rattle.base.specs.Lent.{Lent}
-use Rattle.plan_examples.specs.Plans.{M3Plan}
+use Rattle.plan_examples.specs.Plans.{M3Plan, M3WithNobody, nobodyBetween}
 use Rattle.plan_rules.specs.ConvertedExamples.{withNarrow, withWide}
 use Rattle.links_rules.specs.Distances.{DistancesCall}
 use Rattle.call_run.specs.Activate.{Activates}
@@ -71,6 +72,14 @@ pub record ExportExamples : Type 0 where
       → (r ≡ 0) × (start .after ≡ 86) × (count .after ≡ 2)
   pub secondList : (r : ℕ) (start count : Lent ℕ) → ListExport M3Plan 1 r start count
       → (r ≡ 0) × (start .after ≡ 89) × (count .after ≡ 1)
+  -- a list of nobody: its place is byte 67 of the plan, and it has no byte, where a refused list leaves both variables as they were; the
+  -- list after it is bytes 68 and 69
+  pub listOfNobody : (r : ℕ) (start count : Lent ℕ) → ListExport nobodyBetween 1 r start count
+      → (r ≡ 0) × (start .after ≡ 67) × (count .after ≡ 0)
+  pub listAfterNobody : (r : ℕ) (start count : Lent ℕ) → ListExport nobodyBetween 2 r start count
+      → (r ≡ 0) × (start .after ≡ 68) × (count .after ≡ 2)
+  pub refusedAfterNobody : (r : ℕ) (start count : Lent ℕ) → ListExport nobodyBetween 3 r start count
+      → (r ≡ 8) × (start .after ≡ start .before) × (count .after ≡ count .before)
   -- from router 0 it is 6 to router 3 and 10 to router 2
   pub firstBetter : (r : ℕ) (better present : Lent ℕ) (margin : Lent ℤ) → CompareExport M3Plan 0 3 2 r better present margin
       → (r ≡ 0) × (better .after ≡ 1) × (present .after ≡ 1) × (margin .after ≡ negℤ (pos 4))
@@ -115,6 +124,12 @@ pub record ExportExamples : Type 0 where
       → (r ≡ 0) × (stable .after ≡ 1) × (size .after ≡ 3)
       × (labels ≡ 0 ∷ 1 ∷ 2 ∷ 3 ∷ 9 ∷ []) × (ranks ≡ 2 ∷ 1 ∷ 3 ∷ 0 ∷ 9 ∷ [])
       × (table ≡ 3 ∷ 1 ∷ 3 ∷ 3 ∷ 3 ∷ 0 ∷ 3 ∷ 3 ∷ 9 ∷ []) × (cycle ≡ five)
+  -- nobody: stable, highest rank 1, and all hold nothing
+  pub stableForNobody : (r : ℕ) (labels ranks table cycle : List ℕ) (stable size : Lent ℕ)
+      → VerdictExport M3WithNobody 1 r (from five labels) (from five ranks) (from nine table) (from five cycle) stable size
+      → (r ≡ 0) × (stable .after ≡ 1) × (size .after ≡ 1)
+      × (labels ≡ 0 ∷ 1 ∷ 2 ∷ 3 ∷ 9 ∷ []) × (ranks ≡ 0 ∷ 0 ∷ 1 ∷ 1 ∷ 9 ∷ [])
+      × (table ≡ 255 ∷ 255 ∷ 255 ∷ 255 ∷ 255 ∷ 255 ∷ 255 ∷ 255 ∷ 9 ∷ []) × (cycle ≡ five)
   -- there is no list 3: number 8, and everything is left as it was
   pub refusedVerdict : (r : ℕ) (labels ranks table cycle : List ℕ) (stable size : Lent ℕ)
       → VerdictExport M3Plan 3 r (from five labels) (from five ranks) (from nine table) (from five cycle) stable size

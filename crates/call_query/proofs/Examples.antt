@@ -13,7 +13,7 @@ use Rattle.plan_rules.specs.Distances.{distancesOk}
 use Rattle.plan_rules.specs.Lists.{listPlace, memberOk, listAtOk, listOk, eachListOk, listsOk}
 use Rattle.plan_rules.specs.Refusal.{refuse, bodyChecks, planChecks, planRefusal}
 use Rattle.net_rules.specs.FromPlan.{named}
-use Rattle.plan_examples.specs.Plans.{threeRouters}
+use Rattle.plan_examples.specs.Plans.{threeRouters, nobodyBetween}
 use Rattle.route_rules.specs.Preference.{prefers}
 use Rattle.route_rules.specs.Reliance.{listedClientOf, bestClient, offer, betterOffer, relies}
 use Rattle.call_rules.specs.Refusals.{egressListRefusal}
@@ -24,7 +24,7 @@ use Rattle.call_query.specs.Examples.{QueryExamples}
 
 pub query-examples : QueryExamples
 unfolding
-    threeRouters sizeRouters sizeLists egressListStart egressListSize relied egressListRefusal
+    threeRouters nobodyBetween sizeRouters sizeLists egressListStart egressListSize relied egressListRefusal
     listedClientOf bestClient offer betterOffer relies prefers
     pairs inSession named refuse bodyChecks planChecks planRefusal
     markOk headerOk routerCountOk kindsOk placesOk sizesOk contentsOk routerOk routersOk sessionOk sessionsOk
@@ -37,6 +37,12 @@ query-examples =
       partStart = refl;
       partSize = refl;
       refusedPart = refl;
+      emptyPartStart = refl;
+      emptyPartSize = refl;
+      emptyPartNumber = refl;
+      afterTheEmptyPart = refl;
+      itsSize = refl;
+      stillCounted = refl;
       itRelies = refl;
       itDoesNot = refl;
       flagOfYes = refl;

@@ -13,7 +13,7 @@ use Rattle.plan_rules.specs.Distances.{distancesOk}
 use Rattle.plan_rules.specs.Lists.{listPlace, memberOk, listAtOk, listOk, eachListOk, listsOk}
 use Rattle.plan_rules.specs.Refusal.{refuse, bodyChecks, planChecks, planRefusal}
 use Rattle.net_rules.specs.FromPlan.{named}
-use Rattle.plan_examples.specs.Plans.{threeRouters}
+use Rattle.plan_examples.specs.Plans.{threeRouters, nobodyBetween}
 use Rattle.route_rules.specs.Preference.{prefers}
 use Rattle.route_rules.specs.Activation.{reflects, advertises, hears, senderOf, routeTo, choice, choose, entryOk, tableOk}
 use Rattle.route_rules.specs.Rounds.{acted, roundsFrom, rounds}
@@ -21,11 +21,11 @@ use Rattle.net_tables.specs.TableBytes.{readRoute, tableOf, activateBytes, runB
 use Rattle.call_rules.specs.Refusals.{sequenceOk, egressListRefusal, tableChecks, activateRefusal, runRefusal}
 use Rattle.call_run.specs.Activate.{activateTable}
 use Rattle.call_run.specs.Run.{runApplied, runRounds, runExhausted, runTable}
-use Rattle.call_run.specs.Examples.{lent, RunExamples}
+use Rattle.call_run.specs.Examples.{lent, leftOver, RunExamples}
 
 pub run-examples : RunExamples
 unfolding
-    threeRouters lent activateTable runApplied runRounds runExhausted runTable
+    threeRouters nobodyBetween lent leftOver activateTable runApplied runRounds runExhausted runTable
     sequenceOk egressListRefusal tableChecks activateRefusal runRefusal readRoute tableOf activateBytes runBytes
     acted roundsFrom rounds reflects advertises hears senderOf routeTo choice choose entryOk tableOk prefers
     pairs inSession named refuse bodyChecks planChecks planRefusal
@@ -44,6 +44,8 @@ run-examples =
       tableToTheLimit = refl;
       tableToTheEnd = refl;
       activated = refl;
+      oldRouteDropped = refl;
+      oldRoutesFlushed = refl;
       refusedApplied = refl;
       refusedExhausted = refl;
       refusedTable = refl;

@@ -7,4 +7,5 @@ pub mod MarginExamples
 pub mod SkippingExamples
 pub mod ParentsExamples
 pub mod WideExamples
+pub mod NobodyExamples
 pub mod ExplainExamples

@@ -6,4 +6,5 @@ pub mod MarginExamples
 pub mod SkippingExamples
 pub mod ParentsExamples
 pub mod WideExamples
+pub mod NobodyExamples
 pub mod ExplainExamples

@@ -1,8 +1,11 @@
 pub mod VerdictMeaning
 pub mod Series
+pub mod Nobody
 pub mod Comparisons
 pub mod Conversions
 pub mod Explanations
 pub mod Occurring
 pub mod CallsExamples
+pub mod LeftOfExample
+pub mod NobodyExamples
 pub mod RefusedCalls

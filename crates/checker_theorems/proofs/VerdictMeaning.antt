@@ -1,14 +1,14 @@
 -- The verdict of a plan's list means what document 01 says.
 use Prim.Native.Nat.{ℕ, _≤_, _<_}
 use native.Mathlib.Omega.{arith}
-use mathlib.Core.Path.{_≡_, refl, ap}
-use mathlib.Core.Bool.{Bool, true, false}
+use mathlib.Core.Path.{_≡_, ap}
+use mathlib.Core.Bool.{true, false}
 use mathlib.Core.List.{List}
-use mathlib.Core.Logic.{_⊎_, inl, inr, ⊎-elim}
+use mathlib.Core.Logic.{inl, inr, ⊎-elim}
 use lib.ListN.{length, getD}
 use Rattle.base.specs.Seek.{flag}
 use Rattle.base.proofs.Numbers.{lt-or-le}
-use Rattle.base.proofs.Seek.{highest-over}
+use Rattle.base.proofs.Seek.{flag-yes, highest-over}
 use Rattle.plan_contents.specs.Header.{routerCount}
 use Rattle.graph_groups.specs.Closure.{closure, Irreflexive, Acyclic}
 use Rattle.graph_groups.specs.Groups.{together}
@@ -27,17 +27,13 @@ use Rattle.net_rules.specs.FromPlan.{instanceOf}
 use Rattle.net_verdict.specs.Assessed.{reliance, isStable, highestOf, cycleOf}
 use Rattle.checker_theorems.specs.VerdictMeaning.{Shares, labelIn, rankIn, HighestBelow, VerdictMeans}
 
--- a test as a number, and back
-flag-yes : (b : Bool) → b ≡ true → 1 ≤ flag b
-flag-yes b h = rw h (omega arith)
-
-yes-flag : (b : Bool) → 1 ≤ flag b → b ≡ true
-yes-flag true h = refl
-yes-flag false h = absurd (omega arith)
-
 module _ (plan : List ℕ) (k : ℕ) where
   relies-irreflexive : Irreflexive (reliance (instanceOf plan k)) (routerCount plan)
   relies-irreflexive i l = ap flag (relies-other (instanceOf plan k) i)
+
+  -- a reliance, as the number that chains and ranks are made of
+  relied-on : (w v : ℕ) → relies (instanceOf plan k) w v ≡ true → 1 ≤ reliance (instanceOf plan k) w v
+  relied-on w v h = rw h (omega arith)
 
   module _ (w v : ℕ) (l : w < routerCount plan) (m : v < routerCount plan) where
     shares-together : Shares plan k w v → 1 ≤ together (closure (reliance (instanceOf plan k)) (routerCount plan)) w v
@@ -57,12 +53,12 @@ module _ (plan : List ℕ) (k : ℕ) where
         (together-cases (closure (reliance (instanceOf plan k)) (routerCount plan)) w v h)
 
   module _ (stableList : isStable (instanceOf plan k) ≡ true) where
-    acyclic : Acyclic (reliance (instanceOf plan k)) (routerCount plan)
+    pub acyclic : Acyclic (reliance (instanceOf plan k)) (routerCount plan)
     unfolding isStable
     acyclic = stable-acyclic (reliance (instanceOf plan k)) (routerCount plan) relies-irreflexive stableList
 
     falls : (w v : ℕ) → w < routerCount plan → v < routerCount plan → relies (instanceOf plan k) w v ≡ true → rankIn plan k v < rankIn plan k w
-    falls w v l m h = rank-falls (reliance (instanceOf plan k)) (routerCount plan) acyclic w v l m (flag-yes (relies (instanceOf plan k) w v) h)
+    falls w v l m h = rank-falls (reliance (instanceOf plan k)) (routerCount plan) acyclic w v l m (relied-on w v h)
 
     pub ranked : Ranked (instanceOf plan k) (rankIn plan k) (highestOf (instanceOf plan k))
     unfolding highestOf
@@ -74,13 +70,13 @@ module _ (plan : List ℕ) (k : ℕ) where
     highest-below : (w v : ℕ) → w < routerCount plan → v < routerCount plan → relies (instanceOf plan k) w v ≡ true → HighestBelow plan k w
     highest-below w v l m h =
         let b : OneMore (reliance (instanceOf plan k)) (routerCount plan) (rankIn plan k) w
-        = rank-means (reliance (instanceOf plan k)) (routerCount plan) acyclic .onSome w v l m (flag-yes (relies (instanceOf plan k) w v) h) in
+        = rank-means (reliance (instanceOf plan k)) (routerCount plan) acyclic .onSome w v l m (relied-on w v h) in
         record {
           at = b .at;
           below = b .below;
-          relied = yes-flag (relies (instanceOf plan k) w (b .at)) (b .related);
+          relied = flag-yes (relies (instanceOf plan k) w (b .at)) (b .related);
           is = b .is;
-          top = λ u o q. b .highest u o (flag-yes (relies (instanceOf plan k) w u) q);
+          top = λ u o q. b .highest u o (relied-on w u q);
         }
 
   -- no router relies on itself, so no cycle is of one

@@ -1,7 +1,9 @@
 pub mod VerdictMeaning
 pub mod Series
+pub mod Nobody
 pub mod Comparisons
 pub mod Conversions
 pub mod Explanations
 pub mod CallsExamples
+pub mod NobodyExamples
 pub mod RefusedCalls

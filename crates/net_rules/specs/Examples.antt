@@ -1,12 +1,12 @@
--- Examples that tell the network of a plan from a misreading of its bytes, on the plan of three routers and two lists that crate
--- plan_examples gives in literal bytes. Beside each stands what a misreading gives.
+-- Examples that tell the network of a plan from a misreading of its bytes, on the plans of three routers that crate plan_examples gives in
+-- literal bytes. Beside each stands what a misreading gives.
 use Prim.Native.Nat.{ℕ}
 use mathlib.Core.Path.{_≡_}
 use mathlib.Core.Bool.{true, false}
 use mathlib.Core.Option.{none, some}
 use mathlib.Core.List.{List, [], _∷_}
 use lib.ListN.{set}
-use Rattle.plan_examples.specs.Plans.{threeRouters, wideEnds}
+use Rattle.plan_examples.specs.Plans.{threeRouters, nobodyBetween, wideEnds}
 use Rattle.route_rules.specs.Instance.{Instance}
 use Rattle.net_rules.specs.FromPlan.{instanceOf}
 use Rattle.net_rules.specs.RouterBytes.{asRouter}
@@ -28,6 +28,13 @@ withNoWay = instanceOf (set (set threeRouters 49 255) 50 255) 0
 
 abbrev pub withALongWay : Instance
 withALongWay = instanceOf (set (set threeRouters 49 254) 50 255) 0
+
+-- .. and with a list of nobody, and the list after it
+abbrev pub withNobody : Instance
+withNobody = instanceOf nobodyBetween 1
+
+abbrev pub withListAfter : Instance
+withListAfter = instanceOf nobodyBetween 2
 
 -- .. and an RRP2 plan
 abbrev pub wide : Instance
@@ -67,6 +74,11 @@ pub record NetworkExamples : Type 0 where
   pub notByPosition : withList0 .listed 0 ≡ false  -- by its place in the list: true
   pub ofTheListAsked : withList1 .listed 2 ≡ true  -- of the first list: false
   pub ofThatListAlone : withList0 .listed 2 ≡ false  -- of the list after it: true
+  -- "A list with count 0 is now legal: no outside route is left."
+  pub nobodyListed : withNobody .listed 0 ≡ false  -- count 0 for all routers: true
+  pub notOfTheListBefore : withNobody .listed 1 ≡ false  -- the list before it, or after it: true
+  pub notOfTheListAfter : withNobody .listed 2 ≡ false  -- the list after it: true
+  pub afterNobody : withListAfter .listed 2 ≡ true  -- count 0 ending the lists: false
   -- a router in a byte, 255 for none
   pub noRouter : asRouter 255 ≡ none
   pub lastRouterByte : asRouter 254 ≡ some 254

@@ -45,14 +45,18 @@ smallLists = 3 ∷ 2 ∷ 2 ∷ 3 ∷ 1 ∷ 3 ∷ 1 ∷ 0 ∷ []
 unfoldable pub M3Plan : List ℕ
 M3Plan = smallPlan 6 6 smallLists
 
--- reflector 0, clients 1 and 2
-unfoldable pub threeRouters : List ℕ
-threeRouters =
-    82 ∷ 82 ∷ 80 ∷ 49 ∷ 3 ∷ 4
+-- .. with lists 2,3, then of nobody, then 0
+unfoldable pub M3WithNobody : List ℕ
+M3WithNobody = smallPlan 6 6 (3 ∷ 2 ∷ 2 ∷ 3 ∷ 0 ∷ 1 ∷ 0 ∷ [])
+
+-- Reflector 0, clients 1 and 2, of which 2 has a session with client 1 alone, and so no parent. The body of kind 4 is given.
+abbrev pub threeWith : (lists : List ℕ) → List ℕ
+threeWith lists =
+    (82 ∷ 82 ∷ 80 ∷ 49 ∷ 3 ∷ 4
     ∷ 1 ∷ 26 ∷ 0 ∷ 15 ∷ 0
     ∷ 2 ∷ 41 ∷ 0 ∷ 4 ∷ 0
     ∷ 3 ∷ 45 ∷ 0 ∷ 18 ∷ 0
-    ∷ 4 ∷ 63 ∷ 0 ∷ 6 ∷ 0
+    ∷ 4 ∷ 63 ∷ 0 ∷ length lists ∷ 0
     ∷ 1 ∷ 10 ∷ 0 ∷ 0 ∷ 0
     ∷ 2 ∷ 20 ∷ 0 ∷ 0 ∷ 0
     ∷ 2 ∷ 30 ∷ 0 ∷ 0 ∷ 0
@@ -60,10 +64,16 @@ threeRouters =
     ∷ 0 ∷ 0 ∷ 5 ∷ 0 ∷ 2 ∷ 1  -- distances from 0: that to 2 is 258
     ∷ 7 ∷ 0 ∷ 0 ∷ 0 ∷ 9 ∷ 0
     ∷ 3 ∷ 0 ∷ 4 ∷ 0 ∷ 0 ∷ 0
-    ∷ 2  -- m
-    ∷ 1 ∷ 1  -- list 0: count, number
-    ∷ 2 ∷ 1 ∷ 2  -- list 1
-    ∷ []
+    ∷ [])
+    ++ lists
+
+-- its lists: m, then count and numbers of lists 0 and 1
+unfoldable pub threeRouters : List ℕ
+threeRouters = threeWith (2 ∷ 1 ∷ 1 ∷ 2 ∷ 1 ∷ 2 ∷ [])
+
+-- .. and a list of nobody between the two, list 1
+unfoldable pub nobodyBetween : List ℕ
+nobodyBetween = threeWith (3 ∷ 1 ∷ 1 ∷ 0 ∷ 2 ∷ 1 ∷ 2 ∷ [])
 
 -- Three clients without a session, in an RRP2 plan. From 0 it is 4,294,967,294 to 1 and 65,535 to 2; from 1 there is no way to 0, and it is
 -- 7 to 2; from 2 it is 70,000 to 0, which a reader of two bytes takes for 4,464, and 5,000 to 1.

@@ -41,9 +41,6 @@ fn list_at_ok(s: &[u8], n: u8, place: usize) -> bool
         return false;
     }
     let count = s[place];
-    if count < 1 {
-        return false;
-    }
     if n < count {
         return false;
     }

@@ -96,13 +96,12 @@ module _ (s : List ℕ) (n : ℕ) where
   list-facts place h =
       let c = memberCount s place in
       let f :
-      ((((place < length s) × (1 ≤ c)) × (c ≤ n)) × (place + 1 + c ≤ length s))
+      (((place < length s) × (c ≤ n)) × (place + 1 + c ≤ length s))
       × (allBelow (memberOk s n place) c ≡ true) = simp facts at h
       in
       let each : (j : ℕ) → j < c → MemberAt place j = λ j l. member-iff place j .0 (all-at _ c (f .1) j l) in
       record {
-        starts = f .0 .0 .0 .0;
-        some = f .0 .0 .0 .1;
+        starts = f .0 .0 .0;
         most = f .0 .0 .1;
         within = f .0 .1;
         below = λ j l. each j l .0;
@@ -113,7 +112,7 @@ module _ (s : List ℕ) (n : ℕ) where
   unfolding listAtOk
   list-holds place f =
       simp facts (
-        (((f .starts, f .some), f .most), f .within),
+        ((f .starts, f .most), f .within),
         all-intro _ _
             (λ j l. member-iff place j .1 (f .below j l, numbers-step (member s place) (memberCount s place) (f .rising) j l)),
       )

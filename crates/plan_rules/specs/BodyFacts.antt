@@ -45,10 +45,9 @@ pub record FiveParents (routers sessions : List ℕ) (n : ℕ) : Type 0 where
 pub record Distances (width : ℕ) (s : List ℕ) (n : ℕ) : Type 0 where
   pub diagonal : (u : ℕ) → u < n → distanceIn width s n u u ≡ 0
 
--- one list, its count byte at `place`: 1 to n numbers below n, strictly rising, within the body
+-- one list, its count byte at `place`: at most n numbers, or none, below n, strictly rising, within the body
 pub record ListAt (s : List ℕ) (n place : ℕ) : Type 0 where
   pub starts : place < length s
-  pub some : 1 ≤ memberCount s place
   pub most : memberCount s place ≤ n
   pub within : place + 1 + memberCount s place ≤ length s
   pub below : (j : ℕ) → j < memberCount s place → member s place j < n

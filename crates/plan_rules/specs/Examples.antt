@@ -4,7 +4,7 @@ use Prim.Native.Nat.{ℕ, zero, suc}
 use mathlib.Core.Path.{_≡_}
 use mathlib.Core.Bool.{true, false}
 use mathlib.Core.List.{List, [], _∷_}
-use lib.ListN.{set}
+use lib.ListN.{set, replicate}
 use Rattle.plan_rules.specs.Routers.{identifier, reflectorIn, routersOk}
 use Rattle.plan_rules.specs.Sessions.{sessionsOk, inSession}
 use Rattle.plan_rules.specs.Parents.{parentsOk}
@@ -91,7 +91,7 @@ pub record BodiesExamples : Type 0 where
   -- "The diagonal is 0.", in all four bytes
   pub wideDiagonal : distancesOk 4 (set (wideRow 4 3 2 1) 2 1) 2 ≡ false  -- by two bytes: true
   pub wideCutOffFromItself : distancesOk 4 (0 ∷ 0 ∷ 0 ∷ 0 ∷ 7 ∷ 0 ∷ 0 ∷ 0 ∷ 7 ∷ 0 ∷ 0 ∷ 0 ∷ 255 ∷ 255 ∷ 255 ∷ 255 ∷ []) 2 ≡ false  -- no way anywhere: true
-  -- "one byte m, 1 to 64, then m lists, each a count byte c from 1 to n and c router numbers below n, rising strictly"
+  -- "one byte m, 1 to 64, then m lists, each a count byte c .. to n and c router numbers below n, rising strictly"
   pub secondList : listPlace (2 ∷ 2 ∷ 0 ∷ 1 ∷ 1 ∷ 3 ∷ []) 1 ≡ 4  -- by lists of one number: 3
   pub itsNumber : member (2 ∷ 2 ∷ 0 ∷ 1 ∷ 1 ∷ 3 ∷ []) 4 0 ≡ 3  -- the count byte: 1
   pub lastNumber : listsOk (2 ∷ 2 ∷ 0 ∷ 1 ∷ 1 ∷ 3 ∷ []) 4 ≡ true  -- below n - 1: false
@@ -99,9 +99,19 @@ pub record BodiesExamples : Type 0 where
   pub numbersFall : listsOk (1 ∷ 2 ∷ 1 ∷ 0 ∷ []) 4 ≡ false  -- in any order: true
   pub everyRouter : listsOk (1 ∷ 2 ∷ 0 ∷ 1 ∷ []) 2 ≡ true  -- below n: false
   pub oneMoreThanN : listsOk (1 ∷ 3 ∷ 0 ∷ 1 ∷ 2 ∷ []) 2 ≡ false
-  pub emptyList : listsOk (1 ∷ 0 ∷ []) 4 ≡ false  -- from 0: true
   pub sixtyFiveLists : listsOk (65 ∷ listsOfOne 65) 4 ≡ false  -- to 65: true
   pub noList : listsOk (0 ∷ []) 4 ≡ false  -- from 0: true
   pub emptyBody : listsOk [] 4 ≡ false  -- as no list: true
+  -- "A list with count 0 is now legal": alone, and before, between and after others
+  pub emptyList : listsOk (1 ∷ 0 ∷ []) 4 ≡ true  -- count 0 refused: false
+  pub emptyListOfOne : listsOk (1 ∷ 0 ∷ []) 1 ≡ true  -- from 1 where n is 1: false
+  pub emptyFirst : listsOk (2 ∷ 0 ∷ 1 ∷ 3 ∷ []) 4 ≡ true  -- count 0 ending the lists: false
+  pub emptyBetween : listsOk (3 ∷ 1 ∷ 2 ∷ 0 ∷ 1 ∷ 3 ∷ []) 4 ≡ true  -- .. : false
+  pub emptyLast : listsOk (2 ∷ 1 ∷ 3 ∷ 0 ∷ []) 4 ≡ true  -- numbers after every count byte: false
+  pub afterAnEmptyList : listPlace (3 ∷ 1 ∷ 2 ∷ 0 ∷ 1 ∷ 3 ∷ []) 2 ≡ 4  -- no count byte for an empty list: 3
+  pub emptyIsCounted : listsOk (2 ∷ 0 ∷ []) 4 ≡ false  -- count 0 ending the lists: true
+  pub sixtyFourEmpty : listsOk (64 ∷ replicate 64 0) 4 ≡ true
+  pub sixtyFiveEmpty : listsOk (65 ∷ replicate 65 0) 4 ≡ false  -- lists of someone alone counted: true
+  pub byteAfterAnEmptyList : listsOk (1 ∷ 0 ∷ 3 ∷ []) 4 ≡ false  -- .. : true
   -- "Nothing follows."
   pub oneByteAfter : listsOk (1 ∷ 1 ∷ 3 ∷ 0 ∷ []) 4 ≡ false  -- with bytes after: true

@@ -30,11 +30,11 @@ memberBefore s place i j = ltb (member s place i) (member s place j)
 unfoldable pub memberOk : List ℕ → ℕ → ℕ → ℕ → Bool
 memberOk s n place j = ltb (member s place j) n && risesAt (memberBefore s place) j
 
--- "each a count byte c from 1 to n and c router numbers", all within the body
+-- "each a count byte c .. to n and c router numbers", all within the body. Document 01 has c "from 1"; document 02, "Prefix gone
+-- everywhere": "A list with count 0 is now legal: no outside route is left. Refusal 7 no longer covers it."
 unfoldable pub listAtOk : List ℕ → ℕ → ℕ → Bool
 listAtOk s n place =
     ltb place (length s)
-    && leb 1 (memberCount s place)
     && leb (memberCount s place) n
     && leb (place + 1 + memberCount s place) (length s)
     && allBelow (memberOk s n place) (memberCount s place)

@@ -1,16 +1,16 @@
 -- Where no router is listed, none offers anything, and every table ends empty.
-use Prim.Native.Nat.{ℕ, zero, suc, _≤_, _<_, max}
+use Prim.Native.Nat.{ℕ, suc, _≤_, _<_}
 use native.Mathlib.Omega.{arith}
-use mathlib.Core.Path.{_≡_, refl, _∙_, sym, ap, ap₂}
-use mathlib.Core.Bool.{Bool, true, false, cond, _&&_, _||_, and-false, or-false}
+use mathlib.Core.Path.{_≡_, refl, _∙_, sym, ap}
+use mathlib.Core.Bool.{Bool, true, false, cond, _&&_, and-false, or-false}
 use mathlib.Core.Option.{none}
 use lib.ListN.{length-replicate, getD-replicate}
 use Rattle.base.specs.Below.{anyBelow}
 use Rattle.base.specs.Seek.{flag, highest}
-use Rattle.base.proofs.Below.{any-none, any-suc, any-refuted}
+use Rattle.base.proofs.Below.{any-refuted, any-cong}
 use Rattle.base.proofs.Best.{best-unique}
 use Rattle.base.proofs.Numbers.{both-right, not-both}
-use Rattle.base.proofs.Seek.{highest-over, highest-under, highest-cong}
+use Rattle.base.proofs.Seek.{highest-over, highest-under, highest-cong, highest-flag}
 use Rattle.route_rules.specs.Instance.{Instance, nothing}
 use Rattle.route_rules.specs.Preference.{prefers}
 use Rattle.route_rules.specs.Reliance.{listedClientOf, bestClient, offer, betterOffer, relies}
@@ -24,21 +24,6 @@ use Rattle.route_theorems.specs.Nobody.{NoneListed, RankRule, hasParent,
 use Rattle.route_theorems.proofs.Existence.{holds-steady}
 use Rattle.route_theorems.proofs.Settling.{settles}
 use Rattle.route_theorems.proofs.Uniqueness.{one-steady-table}
-
-any-cong : (p q : ℕ → Bool) (n : ℕ) → ((i : ℕ) → i < n → p i ≡ q i) → anyBelow p n ≡ anyBelow q n
-any-cong p q zero e = any-none p ∙ sym (any-none q)
-any-cong p q (suc n) e = any-suc p n ∙ ap₂ _||_ (any-cong p q n (λ i l. e i (omega arith))) (e n (omega arith)) ∙ sym (any-suc q n)
-
-flag-either : (a b : Bool) → max (flag a) (flag b) ≡ flag (a || b)
-flag-either true true = refl
-flag-either true false = refl
-flag-either false true = refl
-flag-either false false = refl
-
-highest-flag : (p : ℕ → Bool) (n : ℕ) → highest (λ i. flag (p i)) n ≡ flag (anyBelow p n)
-unfolding highest anyBelow
-highest-flag p zero = refl
-highest-flag p (suc n) = ap (λ x. max x (flag (p n))) (highest-flag p n) ∙ flag-either (anyBelow p n) (p n)
 
 -- ranks that obey the rule fall along every reliance
 rule-ranked : (I : Instance) (rank : ℕ → ℕ) → RankRule I rank → Ranked I rank (highest rank (I .n))
@@ -78,7 +63,7 @@ module _ (I : Instance) (h : NoneListed I) where
         go false r = both-right (I .neighbour w v) (I .reflector v) (sym (client-relies r) ∙ p)
 
   -- who has a parent is who relies on some router
-  parent-relied : (w : ℕ) → w < I .n → hasParent I w ≡ anyBelow (relies I w) (I .n)
+  pub parent-relied : (w : ℕ) → w < I .n → hasParent I w ≡ anyBelow (relies I w) (I .n)
   unfolding hasParent
   parent-relied w l = go (I .reflector w) refl
     where

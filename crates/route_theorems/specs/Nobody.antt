@@ -1,4 +1,4 @@
--- What holds where no router is listed (document 02, slip 9: "A list with count 0 is now legal: no outside route is left.").
+-- What holds where no router is listed (document 02, "Prefix gone everywhere": "A list with count 0 is now legal: no outside route is left.").
 use Prim.Native.Nat.{ℕ, suc, _+_, _≤_, _<_}
 use mathlib.Core.Path.{_≡_}
 use mathlib.Core.Bool.{Bool, true, false, not, cond, _&&_}

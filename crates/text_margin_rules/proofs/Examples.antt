@@ -2,7 +2,7 @@
 use mathlib.Core.Path.{refl}
 use Rattle.base.specs.Below.{allBelow, anyBelow}
 use Rattle.base.specs.Seek.{count}
-use Rattle.plan_examples.specs.Plans.{fourRouters, wideEnds}
+use Rattle.plan_examples.specs.Plans.{fourRouters, nobodyBetween, wideEnds}
 use Rattle.plan_contents.specs.Header.{markOk, headerOk, routerCountOk}
 use Rattle.plan_contents.specs.Contents.{kindsOk, placesOk, sizesOk, contentsOk}
 use Rattle.plan_rules.specs.Routers.{routerOk, routersOk}
@@ -20,7 +20,7 @@ use Rattle.text_margin_rules.specs.Examples.{cutOff, MarginTextExamples}
 
 pub margin-text-examples : MarginTextExamples
 unfolding
-    fourRouters wideEnds cutOff marginText compareLine marginOf refusedLine marginLine noneLine spaced digits decimal compareRefusal
+    fourRouters nobodyBetween wideEnds cutOff marginText compareLine marginOf refusedLine marginLine noneLine spaced digits decimal compareRefusal
     refuse bodyChecks planChecks
     markOk headerOk routerCountOk kindsOk placesOk sizesOk contentsOk routerOk routersOk sessionOk sessionsOk
     pairs inSession parentCount fewParents parentsOk count distancesOk
@@ -36,6 +36,7 @@ margin-text-examples =
       wideLeast = refl;
       wideGreatest = refl;
       wideNoWay = refl;
+      nobodyListed = refl;
       noWayToTheFirst = refl;
       noWayToTheSecond = refl;
       noWayToEither = refl;

@@ -3,7 +3,7 @@
 use Prim.Native.Nat.{ℕ}
 use mathlib.Core.Path.{_≡_}
 use mathlib.Core.List.{List, [], _∷_, _++_}
-use Rattle.plan_examples.specs.Plans.{fourRouters, smallFrom0, smallFrom2, wideEnds}
+use Rattle.plan_examples.specs.Plans.{fourRouters, smallFrom0, smallFrom2, nobodyBetween, wideEnds}
 use Rattle.text_margin_rules.specs.Margin.{marginText}
 
 -- M3's plan, but for the distances from 1 to 0 and from 3, which has no way to 0 and 2
@@ -35,6 +35,8 @@ pub record MarginTextExamples : Type 0 where
   pub wideLeast : marginText (0 ∷ 0 ∷ 1 ∷ wideEnds) ≡ 45 ∷ 52 ∷ 50 ∷ 57 ∷ 52 ∷ 57 ∷ 54 ∷ 55 ∷ 50 ∷ 57 ∷ 52 ∷ 10 ∷ []  -- in 32 bits: "2"
   pub wideGreatest : marginText (0 ∷ 1 ∷ 0 ∷ wideEnds) ≡ 52 ∷ 50 ∷ 57 ∷ 52 ∷ 57 ∷ 54 ∷ 55 ∷ 50 ∷ 57 ∷ 52 ∷ 10 ∷ []
   pub wideNoWay : marginText (1 ∷ 0 ∷ 2 ∷ wideEnds) ≡ noneText  -- no way as a distance: "4294967288"
+  -- "A list with count 0 is now legal": -253, the distances 5 and 258 from 0
+  pub nobodyListed : marginText (0 ∷ 1 ∷ 2 ∷ nobodyBetween) ≡ 45 ∷ 50 ∷ 53 ∷ 51 ∷ 10 ∷ []  -- count 0 refused: "refused 7"
   -- "or `none`"
   pub noWayToTheFirst : marginText (3 ∷ 0 ∷ 1 ∷ cutOff) ≡ noneText  -- no way as a distance: "65505"
   pub noWayToTheSecond : marginText (3 ∷ 1 ∷ 0 ∷ cutOff) ≡ noneText

@@ -4,7 +4,7 @@ use Rattle.base.specs.Below.{allBelow, anyBelow}
 use Rattle.base.specs.Best.{keepBest, best}
 use Rattle.base.specs.Seek.{seek, highest, count}
 use Rattle.base.specs.Tab.{tab}
-use Rattle.plan_examples.specs.Plans.{fourRouters, smallPlan}
+use Rattle.plan_examples.specs.Plans.{fourRouters, smallPlan, M3WithNobody}
 use Rattle.plan_contents.specs.Header.{markOk, headerOk, routerCountOk}
 use Rattle.plan_contents.specs.Contents.{kindsOk, placesOk, sizesOk, contentsOk}
 use Rattle.plan_rules.specs.Routers.{routerOk, routersOk}
@@ -24,11 +24,11 @@ use Rattle.net_verdict.specs.Assessed.{isStable, highestOf, cycleOf}
 use Rattle.text_fields.specs.Fields.{digits, decimal, spaced}
 use Rattle.text_lines.specs.Text.{headLine, refusedLine, stableLine, suspectLine}
 use Rattle.text_verdict_rules.specs.Listing.{listLine, listLines, planText}
-use Rattle.text_verdict_rules.specs.Examples.{examplePlan, exampleText, refused1, refused3, examples, TextExamplesHold}
+use Rattle.text_verdict_rules.specs.Examples.{examplePlan, exampleText, nobodyText, refused1, refused3, examples, TextExamplesHold}
 
 pub text-examples : TextExamplesHold
 unfolding
-    fourRouters smallPlan examplePlan exampleText refused1 refused3 examples
+    fourRouters smallPlan M3WithNobody examplePlan exampleText nobodyText refused1 refused3 examples
     planText listLines listLine headLine refusedLine stableLine suspectLine spaced digits decimal
     isStable highestOf cycleOf start next walk metAgainAt metFirstAt repeatedPart cycleIn cycle rankOver ranksByChains rank together label stable grouped closing
     listedClientOf bestClient offer betterOffer relies prefers pairs inSession named refuse bodyChecks planChecks planRefusal

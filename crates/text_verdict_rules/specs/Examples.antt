@@ -2,7 +2,7 @@
 use Prim.Native.Nat.{ℕ}
 use mathlib.Core.Path.{_≡_}
 use mathlib.Core.List.{List, [], _∷_, _++_, map}
-use Rattle.plan_examples.specs.Plans.{smallPlan}
+use Rattle.plan_examples.specs.Plans.{smallPlan, M3WithNobody}
 use Rattle.text_verdict_rules.specs.Listing.{planText}
 
 -- "M3's distances with lists 2,3 and 3"
@@ -17,6 +17,15 @@ exampleText =
     ∷ 49 ∷ 32 ∷ 115 ∷ 116 ∷ 97 ∷ 98 ∷ 108 ∷ 101 ∷ 32 ∷ 51 ∷ 10  -- "1 stable 3"
     ∷ []
 
+-- M3's distances with lists 2,3 and nobody and 0
+unfoldable pub nobodyText : List ℕ
+nobodyText =
+    114 ∷ 111 ∷ 117 ∷ 116 ∷ 101 ∷ 114 ∷ 115 ∷ 32 ∷ 52 ∷ 32 ∷ 108 ∷ 105 ∷ 115 ∷ 116 ∷ 115 ∷ 32 ∷ 51 ∷ 10  -- "routers 4 lists 3"
+    ∷ 48 ∷ 32 ∷ 115 ∷ 117 ∷ 115 ∷ 112 ∷ 101 ∷ 99 ∷ 116 ∷ 32 ∷ 50 ∷ 32 ∷ 48 ∷ 32 ∷ 49 ∷ 10  -- "0 suspect 2 0 1"
+    ∷ 49 ∷ 32 ∷ 115 ∷ 116 ∷ 97 ∷ 98 ∷ 108 ∷ 101 ∷ 32 ∷ 49 ∷ 10  -- "1 stable 1"
+    ∷ 50 ∷ 32 ∷ 115 ∷ 116 ∷ 97 ∷ 98 ∷ 108 ∷ 101 ∷ 32 ∷ 50 ∷ 10  -- "2 stable 2"
+    ∷ []
+
 -- "A refused plan gives the single line `refused`, a space and its number": here 1, and 3
 unfoldable pub refused1 : List ℕ
 refused1 = 114 ∷ 101 ∷ 102 ∷ 117 ∷ 115 ∷ 101 ∷ 100 ∷ 32 ∷ 49 ∷ 10 ∷ []
@@ -28,11 +37,13 @@ pub record Example : Type 0 where
   pub plan : List ℕ
   pub text : List ℕ
 
--- the plan of document 01; no bytes at all; that plan with a byte after its last body (a text that went on after the refusal would
--- have the lines of its two lists)
+-- the plan of document 01; one with a list of nobody (a text without a line for it would end with "1 stable 2", one that refused it would
+-- be "refused 7"); no bytes at all; the first plan with a byte after its last body (a text that went on after the refusal would have the
+-- lines of its two lists)
 unfoldable pub examples : List Example
 examples =
     record { plan = examplePlan; text = exampleText }
+    ∷ record { plan = M3WithNobody; text = nobodyText }
     ∷ record { plan = []; text = refused1 }
     ∷ record { plan = examplePlan ++ (0 ∷ []); text = refused3 }
     ∷ []

@@ -7,14 +7,14 @@ from argparse import ArgumentParser, Namespace
 from ..columns import left, widest
 from ..effects import Effect, effect_on
 from ..encoding import NARROW, WIDE, longest
-from ..output import plan_line, plan_values, verdict_lines, verdict_values, verdict_words
+from ..output import list_values, plan_line, plan_values, verdict_lines, verdict_words
 from ..output import write_json, write_notes
 from ..plan import Plan, Verdict
 
 SET_HELP = (
     "judge a change beside what was; repeatable. The statement goes in place of what the plan has "
     "on the same two routers, or of the list of that name: link A B 12, link A B none, "
-    "distance A > B 12, session A B, session A B none, list NAME A B"
+    "distance A > B 12, session A B, session A B none, list NAME A B, list NAME for nobody"
 )
 
 STRICT_HELP = "end with 1 also where a list is stable but leaves a router without a route"
@@ -26,9 +26,11 @@ def arguments(parser: ArgumentParser) -> None:
     parser.add_argument("--set", metavar="STATEMENT", action="append", default=[], help=SET_HELP)
     parser.add_argument("--strict", action="store_true", help=STRICT_HELP)
     parser.epilog = (
-        "Routers that a stable list leaves without a route are named. With --set, so are those "
-        "that settle on another route; as before says that every rank and route is the same, and "
-        "same cycle that a list is suspect with the cycle that it had, its routes not compared. "
+        "Routers that a stable list leaves without a route are named. Where nobody is in a list, "
+        "as where a prefix is gone everywhere, it is told within how many rounds all routes are "
+        "flushed; with --strict that ends with 1 too. With --set, routers that settle on another "
+        "route are named; as before says that every rank and route is the same, and same cycle "
+        "that a list is suspect with the cycle that it had, its routes not compared. "
         "Exit status: 0 all lists are stable, after the changes if any; 1 some list is suspect, "
         "or with --strict some router ends without a route; 2 error."
     )
@@ -47,7 +49,7 @@ def _run_plain(options: Namespace) -> tuple[Verdict, ...]:
     plan = Plan.read(options.plan)
     verdicts = plan.verdicts()
     if options.json:
-        lists = [{"list": verdict.name, **verdict_values(verdict)} for verdict in verdicts]
+        lists = [list_values(verdict) for verdict in verdicts]
         write_json({**plan_values(plan), "lists": lists, "notes": plan.notes})
     else:
         write_notes(plan.notes)

@@ -33,10 +33,15 @@ class Filed(NamedTuple):
         """The verdict in a few words."""
         if self.entry.refused:
             return self.entry.program.rstrip()
-        lists, lacking = self.entry.stable + self.entry.suspect, self.entry.lacking
-        leave = "leaves" if lacking == 1 else "leave"
-        last = f", {lacking} {leave} routers without a route" if lacking else ""
-        return f"{count_words(lists, 'list')}, {self.entry.suspect} suspect{last}"
+        lists, nobody = self.entry.stable + self.entry.suspect, self.entry.nobody
+        parts = [count_words(lists, "list"), f"{self.entry.suspect} suspect"]
+        if nobody:
+            parts.append(f"{nobody} {'names' if nobody == 1 else 'name'} nobody")
+        lacking = self.entry.lacking - nobody
+        if lacking:
+            leave = "leaves" if lacking == 1 else "leave"
+            parts.append(f"{lacking} {leave} routers without a route")
+        return ", ".join(parts)
 
 
 def arguments(parser: ArgumentParser) -> None:

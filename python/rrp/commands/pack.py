@@ -42,6 +42,7 @@ def run(options: Namespace) -> int:
             size = f"{len(plan.data)} bytes of {plan.mark}"
             print(f"{options.output}: {size}, from {sizes_line(plan)}")
             _print_why(plan)
+            _print_nobody(plan)
     return 0
 
 
@@ -51,9 +52,23 @@ def _print_why(plan: Plan) -> None:
         print(f"    RRP2, as it is {way:,} from {start} to {end}, and RRP1 goes up to {_RRP1}")
 
 
+def _nobody(plan: Plan) -> list[str]:
+    """The lists in which nobody is."""
+    return [name for name in plan.lists if not plan.egresses(name)]
+
+
+def _print_nobody(plan: Plan) -> None:
+    """In which lists nobody is, which may be a slip of the pen."""
+    lists = _nobody(plan)
+    if lists:
+        noun = "list" if len(lists) == 1 else "lists"
+        print(f"    nobody is in the {noun} {', '.join(lists)}")
+
+
 def _write_values(plan: Plan, output: str | None) -> None:
     """The names by number, which the bytes lack; and the bytes themselves, if no file has them."""
     values = {"plan": plan.source, "mark": plan.mark, "output": output, "length": len(plan.data)}
     if output is None:
         values["bytes"] = plan.data.hex()
-    write_json({**values, "routers": plan.routers, "lists": plan.lists, "notes": plan.notes})
+    names = {"routers": plan.routers, "lists": plan.lists, "lists_of_nobody": _nobody(plan)}
+    write_json({**values, **names, "notes": plan.notes})

@@ -7,7 +7,7 @@ from argparse import ArgumentParser, ArgumentTypeError, Namespace, RawDescriptio
 from ..columns import left, widest
 from ..errors import RrpError
 from ..orders import order_words, read_order
-from ..output import count_words, routers_do, write_json, write_notes
+from ..output import NOBODY_LISTED, count_words, routers_do, write_json, write_notes
 from ..plan import Plan, Verdict
 from ..table_files import NOTHING, Read, read_table, route_values, route_words, table_values
 from ..tracing import AT_REST, OPEN, REPEATS, SETTLED, Order, Step, Tracing
@@ -20,7 +20,8 @@ A table file has a line a router: ROUTER EGRESS FROM, or ROUTER nothing. A # sta
 router that is left out starts with its own route if it is in the list, else with nothing. What
 run --json wrote, or show --json of a stable list, is read too. It may be the table of another
 list, as of a network on which the list changes: routers that are in the list now start with their
-own routes, and those that are in it no more with nothing.
+own routes, and those that are in it no more with nothing. With a list of nobody, of a prefix that
+is gone everywhere, that shows how the old routes are flushed.
 
 A run ends when no activation changes the table; when table and place in the order are as they were
 before, so that it goes round forever under this order; or after N rounds. A round ends as soon as
@@ -109,6 +110,8 @@ def _print_run(tracing: Tracing, options: Namespace) -> None:
             changes = 0
     for line in _outcome_lines(tracing):
         print(line)
+    if tracing.verdict.nobody and options.start == NOTHING:
+        print(_WITH_OLD_ROUTES)
 
 
 def _order_words(tracing: Tracing, options: Namespace) -> str:
@@ -129,15 +132,30 @@ def _outcome_lines(tracing: Tracing) -> list[str]:
 
 def _lacking_lines(tracing: Tracing) -> list[str]:
     """Who is without a route in a table that stays."""
+    if tracing.verdict.nobody:
+        return _nobody_lines(tracing)
     lacking = [router for router, route in tracing.table.items() if route is None]
     if not lacking or tracing.outcome.kind not in (SETTLED, AT_REST):
         return []
     return [f"{routers_do(lacking, 'end')} without a route: {', '.join(lacking)}."]
 
 
+def _nobody_lines(tracing: Tracing) -> list[str]:
+    """That nobody is listed, and who holds an old route still."""
+    listed = NOBODY_LISTED.capitalize()
+    held = [router for router, route in tracing.table.items() if route is not None]
+    if held:
+        return [f"{listed}, and {routers_do(held, 'hold')} an old route still: {', '.join(held)}."]
+    return [f"{listed}, so every router ends without a route."]
+
+
 def _settled(tracing: Tracing, made: str) -> list[str]:
     promise = f"which is promised within {tracing.verdict.rounds} rounds"
-    return [f"settled {made}: this is the table of the verdict, {promise}."]
+    if not tracing.verdict.nobody:
+        return [f"settled {made}: this is the table of the verdict, {promise}."]
+    if tracing.activations:
+        return [f"settled {made}: all routes are flushed, {promise}."]
+    return [f"settled {made}: no router holds a route at the start, so there is none to flush."]
 
 
 def _at_rest(tracing: Tracing, made: str) -> list[str]:
@@ -171,6 +189,10 @@ def _open(tracing: Tracing, made: str) -> list[str]:
     return [f"not settled {made}, nor does the run repeat so far: give more --rounds."]
 
 
+_WITH_OLD_ROUTES = (
+    "To see old routes flushed, start from the table of another list, which "
+    "show PLAN LIST --json writes: --from TABLE."
+)
 _OUTCOMES = {SETTLED: _settled, AT_REST: _at_rest, REPEATS: _repeats, OPEN: _open}
 
 
@@ -181,7 +203,9 @@ def _write_values(tracing: Tracing, options: Namespace, notes: list[str]) -> Non
         {
             "plan": tracing.plan.source,
             "list": tracing.verdict.name,
+            "routers": tracing.verdict.egresses,
             "stable": tracing.verdict.stable,
+            "rounds": tracing.verdict.rounds,
             "order": tracing.order.routers if seed is None else None,
             "seed": seed,
             "start": options.start,

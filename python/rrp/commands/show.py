@@ -9,8 +9,8 @@ from textwrap import wrap
 
 from ..accounts import Account, account
 from ..columns import left, right, widest
-from ..output import plan_line, plan_values, verdict_lines, verdict_values, verdict_words
-from ..output import without_route_lines, write_json, write_notes
+from ..output import list_values, plan_line, plan_values, verdict_lines, verdict_values
+from ..output import verdict_words, without_route_lines, write_json, write_notes
 from ..plan import Plan, Verdict
 from ..remedies import Remedy, recommended, smallest_remedy
 from ..senders import heard_again, sender_note
@@ -52,10 +52,7 @@ def _show_lists(plan: Plan, options: Namespace) -> int:
     """The lists of the plan, each with its verdict in a word and its routers."""
     verdicts = plan.verdicts()
     if options.json:
-        lists = [
-            {"list": each.name, "routers": plan.egresses(each.name), **verdict_values(each)}
-            for each in verdicts
-        ]
+        lists = [list_values(each) for each in verdicts]
         write_json({**plan_values(plan), "lists": lists, "notes": plan.notes})
     else:
         write_notes(plan.notes)
@@ -63,21 +60,29 @@ def _show_lists(plan: Plan, options: Namespace) -> int:
         width = widest(["list", *plan.lists])
         print(f"{left('list', width)}  verdict  routers")
         for each in verdicts:
-            word, routers = "stable " if each.stable else "suspect", plan.egresses(each.name)
-            print(f"{left(each.name, width)}  {word}  {', '.join(routers)}")
-            for line in without_route_lines(each):
+            first, *more = _router_lines(each)
+            word = "stable " if each.stable else "suspect"
+            print(f"{left(each.name, width)}  {word}  {first}")
+            for line in more:
                 print(f"{'':{width}}  {'':7}  {line}")
         name = ["--"] * plan.lists[0].startswith("-") + [plan.lists[0]]
         print(f"to explain one: {join(['rrp', 'show', options.plan, *name])}")
     return 0 if all(each.stable for each in verdicts) else 1
 
 
+def _router_lines(verdict: Verdict) -> list[str]:
+    """The routers of a list, or that nobody is in it; and who ends without a route."""
+    routers = [] if verdict.nobody else [", ".join(verdict.egresses)]
+    return [*routers, *without_route_lines(verdict)]
+
+
 def _show_stable(plan: Plan, verdict: Verdict, options: Namespace) -> None:
     """The rank of each router and what it settles on, by rank and then by number."""
     again = heard_again(plan, verdict)
+    said = None if verdict.nobody else sender_note(again)
     if options.json:
         values = {"ranks": verdict.ranks, "table": table_values(verdict.table)}
-        senders = {"sender_may_differ": again, "sender_note": sender_note(again)}
+        senders = {"sender_may_differ": again, "sender_note": said}
         _write(plan, verdict, {**verdict_values(verdict), **values, **senders})
         return
     rows = [("router", "rank", "egress", "from")]
@@ -88,7 +93,7 @@ def _show_stable(plan: Plan, verdict: Verdict, options: Namespace) -> None:
     for router, rank, egress, sender in rows:
         cells = left(router, widths[0]), right(rank, widths[1]), left(egress, widths[2]), sender
         print("  ".join(cells).rstrip())
-    note = wrap(f"note: {sender_note(again)}", _COLUMNS, **_WHOLE)
+    note = [] if said is None else wrap(f"note: {said}", _COLUMNS, **_WHOLE)
     for line in [*without_route_lines(verdict), *note]:
         print(line)
 
@@ -143,4 +148,5 @@ def _print_advice(path: str, remedies: list[Remedy]) -> None:
 
 
 def _write(plan: Plan, verdict: Verdict, values: dict[str, object]) -> None:
-    write_json({"plan": plan.source, "list": verdict.name, **values, "notes": plan.notes})
+    which = {"plan": plan.source, "list": verdict.name, "routers": verdict.egresses}
+    write_json({**which, **values, "notes": plan.notes})

@@ -6,6 +6,7 @@ plan. Where it refuses, the statement to blame is found by asking it again with 
 
 from __future__ import annotations
 
+import re
 from collections.abc import Iterable
 from math import gcd
 
@@ -15,6 +16,9 @@ from ..errors import cut_names
 from ..plan import Plan
 from .draft import Draft, Way
 from .problems import Problem, TextErrors
+
+#: What may stand between names in place of a blank.
+_NO_BLANK = re.compile("[,;:=]")
 
 #: So many pairs without a way are named in a note.
 _PAIRS_NAMED = 3
@@ -141,8 +145,6 @@ def _raise_refused(draft: Draft, names: list[str], model: Model, refusal: int) -
     problems: list[Problem] = []
     if refusal == library.TOO_MANY_PARENTS:
         problems = _clients_of_many(draft, names, model)
-    elif refusal == library.BAD_LISTS:
-        problems = _bad_lists(draft, model)
     if problems:
         raise TextErrors(problems)
     raise library.Refused(refusal, draft.file)
@@ -170,21 +172,29 @@ def _too_many(
     return Problem(draft.sessions[last], message, "a client has at most four: leave some out")
 
 
-def _bad_lists(draft: Draft, model: Model) -> list[Problem]:
-    """Each list that the library refuses by itself."""
-    problems = []
-    for stated, numbers in zip(draft.lists.values(), model.lists):
-        alone = model._replace(lists=[numbers])
-        if library.refusal(encoding.encode(alone)) == library.BAD_LISTS:
-            name = stated.word.text
-            advice = f"name its egress routers: list {name} ROUTER .."
-            problems.append(Problem(stated.word, f"the list {name} has no router", advice))
-    return problems
-
-
 def _notes(draft: Draft, names: list[str], model: Model) -> list[str]:
     """What may be a slip of the pen."""
-    return [*_note_on_no_way(draft, names, model), *_note_on_65535(draft)]
+    return [
+        *_note_on_no_way(draft, names, model),
+        *_note_on_65535(draft),
+        *_notes_on_nobody(draft),
+    ]
+
+
+def _notes_on_nobody(draft: Draft) -> list[str]:
+    """A note on each list of nobody that is named as a router is, as where the list's own name was
+    left out, or that has routers in its name, as where a blank was."""
+    notes = []
+    for name in (name for name, each in draft.lists.items() if not each.routers):
+        parts = [name] if name in draft.routers else _NO_BLANK.split(name)
+        routers = [part for part in parts if part in draft.routers]
+        why = f"its name has {', '.join(routers)} in it"
+        if routers == [name]:
+            why = "it is named as a router is"
+        if routers:
+            advice = f"to list routers, write: list NAME {' '.join(routers)}"
+            notes.append(cut_names(f"nobody is in the list {name}, though {why}: {advice}"))
+    return notes
 
 
 def _note_on_65535(draft: Draft) -> list[str]:

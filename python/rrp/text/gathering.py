@@ -19,6 +19,9 @@ from .statements import (
 )
 from .words import Word
 
+#: Words by which someone may say that nobody is in a list, where none is needed.
+_NOBODY = {"none", "nobody", "nothing"}
+
 #: A router whose identifier has a problem is known by name all the same.
 _NO_IDENTIFIER = -1
 
@@ -91,11 +94,21 @@ class Gathering:
     def members(self, statement: ListStatement) -> EgressList:
         """The routers of a list; problems for those that are unknown or named twice."""
         seen: dict[str, Word] = {}
+        if self._says_nobody(statement):
+            word, name = statement.routers[0], statement.name.text
+            advice = f"for a list of nobody write its name alone: list {name}"
+            self.problem(word, f"no router is named {word.text}", advice)
+            return EgressList((), statement.name)
         for word in statement.routers:
             if self.known(word) and seen.setdefault(word.text, word) is not word:
                 message = f"{word.text} is twice in the list {statement.name.text}"
                 self.problem(word, message, "name it once")
         return EgressList(tuple(seen), statement.name)
+
+    def _says_nobody(self, statement: ListStatement) -> bool:
+        """Whether a list has, in place of routers' names, words that say nobody."""
+        names = {word.text for word in statement.routers}
+        return bool(names) and names <= _NOBODY and names.isdisjoint(self.draft.routers)
 
     def room_for_list(self, name: Word) -> bool:
         """Whether a list more is not too many; a problem if it is."""

@@ -17,7 +17,7 @@ FORMS = {
     "session": "session NAME NAME",
     "link": "link NAME NAME WEIGHT, or one way: link NAME > NAME WEIGHT",
     "distance": "distance NAME NAME NUMBER, or one way: distance NAME > NAME NUMBER",
-    "list": "list NAME ROUTER ..",
+    "list": "list NAME [ROUTER ..]",
     "wide": "wide",
 }
 
@@ -71,7 +71,7 @@ class WayStatement(NamedTuple):
 
 
 class ListStatement(NamedTuple):
-    """`list`."""
+    """`list`. With no router it is a list of nobody: a prefix that is gone everywhere."""
 
     name: Word
     routers: list[Word]

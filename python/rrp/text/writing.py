@@ -10,6 +10,9 @@ from ..encoding import CLIENT, SKIPPING, WIDE
 from ..plan import Plan
 from .statements import NO_REFLECTION, NO_WAY
 
+#: The comment after the name of a list of nobody.
+_NOBODY = " # nobody"
+
 #: Identifiers from here on, those whose first byte is not 0, are written as IPv4 addresses.
 _FIRST_ADDRESS = 1 << 24
 
@@ -83,5 +86,6 @@ def _way(distance: int | None) -> str:
 
 
 def _lists(plan: Plan) -> Iterator[str]:
+    """A line a list. Of one that names nobody, a comment says that this is so."""
     for name in plan.lists:
-        yield " ".join(["list", name, *plan.egresses(name)])
+        yield " ".join(["list", name, *(plan.egresses(name) or [_NOBODY])])

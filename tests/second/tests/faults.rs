@@ -6,12 +6,16 @@ use crate::SEED;
 use second_checker::harness::comparison::compare::differ;
 use second_checker::harness::faults::careless::Careless;
 use second_checker::harness::faults::convert_slips::CONVERT_SLIPS;
+use second_checker::harness::faults::count_slips::{self, count_faults};
+use second_checker::harness::faults::empty_list_misreadings::{MisreadEmptyList, EMPTY_LIST_MISREADINGS};
+use second_checker::harness::faults::empty_list_slips::EMPTY_LIST_SLIPS;
 use second_checker::harness::faults::explain_misreadings::{MisreadExplanation, EXPLAIN_MISREADINGS};
+use second_checker::harness::faults::misreader::{Misreader, PlanCall};
 use second_checker::harness::faults::misreadings::{Misread, MISREADINGS};
 use second_checker::harness::faults::parent_slips::PARENT_SLIPS;
 use second_checker::harness::faults::skip_misreadings::{MisreadSkip, SKIP_MISREADINGS};
 use second_checker::harness::faults::slips::{Slip, SLIPS};
-use second_checker::harness::faults::width_slips::{width_faults, Misreader};
+use second_checker::harness::faults::width_slips::{self, width_faults};
 use second_checker::harness::faults::wrong_programs::{Program, WRONG_PROGRAMS};
 use second_checker::harness::plans::questions;
 use second_checker::interface::Checker;
@@ -41,6 +45,24 @@ fn none_missed<F: Debug>(faults: impl IntoIterator<Item = F>, is_found: impl Fn(
     assert!(missed.is_empty(), "not found: {missed:?}");
 }
 
+/// The comparison tells a checker that takes plans for others, as a slip has it, in one call
+/// from the right one. Each is looked for from the plan on that showed the slip in the call
+/// before, since plans that show one are few.
+fn each_is_found_in_each_call<S: Copy + Debug>(
+    faults: Vec<(S, Vec<PlanCall>)>,
+    taken_for: fn(S, &[u8]) -> Option<Vec<u8>>,
+) {
+    for (slip, calls) in faults {
+        let mut first = 0;
+        for call in calls {
+            let mut misreader = Misreader::new(call, |plan: &[u8]| taken_for(slip, plan));
+            let mut is_found = |number: &u64| differ(&mut Oracle::right(), &mut misreader, SEED, *number..number + 1);
+            let found = (first..PLANS).find(|number| is_found(number));
+            first = found.unwrap_or_else(|| panic!("not found: {slip:?} in {call:?}"));
+        }
+    }
+}
+
 #[test]
 fn each_misread_rule_is_found() {
     each_is_found(MISREADINGS, |&fault| Oracle::with(Misread(fault)));
@@ -59,6 +81,16 @@ fn each_misreading_of_role_3_is_found() {
 #[test]
 fn each_misreading_of_role_3_is_found_beside_itself() {
     each_is_found_beside_itself(SKIP_MISREADINGS, |&fault| MisreadSkip(fault));
+}
+
+#[test]
+fn each_misreading_of_an_empty_list_is_found() {
+    each_is_found(EMPTY_LIST_MISREADINGS, |&fault| Oracle::with(MisreadEmptyList(fault)));
+}
+
+#[test]
+fn each_misreading_of_an_empty_list_is_found_beside_itself() {
+    each_is_found_beside_itself(EMPTY_LIST_MISREADINGS, |&fault| MisreadEmptyList(fault));
 }
 
 #[test]
@@ -81,19 +113,19 @@ fn each_slip_in_the_check_of_parents_is_found() {
     each_is_found(PARENT_SLIPS, |&slip| Careless::new(Slip::Parents(slip)));
 }
 
-/// Each is looked for from the plan on that showed the slip in the call before, since
-/// plans that show one are few.
 #[test]
 fn each_slip_in_what_a_mark_says_is_found_in_each_call() {
-    for (slip, calls) in width_faults() {
-        let mut first = 0;
-        for call in calls {
-            let mut misreader = Misreader::new(slip, call);
-            let mut is_found = |number: &u64| differ(&mut Oracle::right(), &mut misreader, SEED, *number..number + 1);
-            let found = (first..PLANS).find(|number| is_found(number));
-            first = found.unwrap_or_else(|| panic!("not found: {slip:?} in {call:?}"));
-        }
-    }
+    each_is_found_in_each_call(width_faults(), width_slips::taken_for);
+}
+
+#[test]
+fn each_slip_in_a_count_of_0_is_found_in_each_call() {
+    each_is_found_in_each_call(count_faults(), count_slips::taken_for);
+}
+
+#[test]
+fn each_slip_for_an_empty_list_is_found() {
+    each_is_found(EMPTY_LIST_SLIPS, |&slip| Careless::new(Slip::EmptyList(slip)));
 }
 
 #[test]

@@ -10,17 +10,17 @@ use Rattle.plan_rules.specs.Lists.{listAtOk, memberOk}
 use Rattle.plan_lists.proofs.list_at_ok.Statement.{statement}
 use Rattle.plan_lists.proofs.list_at_ok.Tie as tie
 
+returns-3 : tie.Need-returns-3
+unfolding listAtOk
+returns-3 c =
+    let a = c .before .before .before .before .before .before .args in
+    let past : length (a .s .now) < a .place + 1 + getD (a .s .now) (a .place) 0 = omega arith in
+    search tests
+
 returns-4 : tie.Need-returns-4
 unfolding listAtOk
 returns-4 c =
     let a = c .before .before .before .before .before .before .before .args in
-    let past : length (a .s .now) < a .place + 1 + getD (a .s .now) (a .place) 0 = omega arith in
-    search tests
-
-returns-5 : tie.Need-returns-5
-unfolding listAtOk
-returns-5 c =
-    let a = c .before .before .before .before .before .before .before .before .args in
     let within : a .place + 1 + getD (a .s .now) (a .place) 0 ≤ length (a .s .now) = omega arith in
     let members : c .members-ok .result ≡ allBelow (memberOk (a .s .now) (a .n) (a .place)) (getD (a .s .now) (a .place) 0) =
     c .members-ok .ensures ∙ ap (allBelow (memberOk (a .s .now) (a .n) (a .place))) (c .before .before .wide .ensures .0)
@@ -35,10 +35,9 @@ list-at-ok-spec =
     (λ c. search tests)
     (λ c. search needs)
     (λ c. search tests)
-    (λ c. search tests)
     (λ c κs. search needs)
     (λ c. search needs)
     (λ c. search needs)
-    returns-4
+    returns-3
     (λ c κs. search needs)
-    returns-5)
+    returns-4)

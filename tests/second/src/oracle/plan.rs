@@ -21,7 +21,7 @@ pub const REFLECTOR: u8 = 1;
 pub const CLIENT: u8 = 2;
 pub const SKIPPING: u8 = 3;
 
-/// An egress list, and where in the plan its router numbers start.
+/// An egress list, which may name nobody, and where in the plan its router numbers start.
 #[derive(Clone)]
 pub struct EgressList {
     pub start: usize,
@@ -71,6 +71,11 @@ impl Plan {
     /// Whether some distance is above the greatest of this mark.
     pub fn has_distances_past(&self, mark: Mark) -> bool {
         self.distances.iter().flatten().flatten().any(|&distance| distance > mark.farthest())
+    }
+
+    /// The lists that name nobody.
+    pub fn empty_lists(&self) -> Vec<usize> {
+        (0..self.lists.len()).filter(|&list| self.lists[list].listed.is_empty()).collect()
     }
 
     /// Whether some router has no way to some other.
@@ -185,7 +190,7 @@ fn read_lists(body: &[u8], body_start: usize, n: usize) -> Result<Vec<EgressList
     while lists.len() < m {
         let (&count, after) = rest.split_first().ok_or(7)?;
         let count = usize::from(count);
-        if count == 0 || count > n || count > after.len() {
+        if count > n || count > after.len() {
             return Err(7);
         }
         let start = body_start + body.len() - after.len();

@@ -137,7 +137,7 @@ fn check_lists(body: &[u8], n: usize) -> Result<(), u8> {
     for _ in 0..m {
         let (&count, after) = rest.split_first().ok_or(7)?;
         let count = usize::from(count);
-        if count == 0 || count > n || count > after.len() {
+        if count > n || count > after.len() {
             return Err(7);
         }
         let mut least = 0;

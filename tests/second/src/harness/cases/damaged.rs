@@ -5,10 +5,15 @@ use super::{small, LISTS, START};
 use crate::harness::plans::draft::Bodies;
 use crate::harness::plans::small_plans;
 
-/// Every call on a plan, for list 0; the run goes on from the activation's table.
+/// Every call on a plan, for list 0.
 pub fn every_call(name: &str, plan: &[u8]) -> String {
+    every_call_from(name, plan, START)
+}
+
+/// .. with this table; the run goes on from the activation's.
+pub fn every_call_from(name: &str, plan: &[u8], table: [u8; 8]) -> String {
     line(name, plan, |line| {
-        let mut table = START.to_vec();
+        let mut table = table.to_vec();
         line.check();
         line.list(0);
         line.compare(0, 2, 3);
@@ -94,7 +99,7 @@ fn distances_and_lists() -> Vec<String> {
         lists("7-65-lists", &[65, 2, 2, 3, 1, 3, 1, 0, 3, 1, 2, 3]),
         lists("7-list-missing", &[5, 2, 2, 3, 1, 3, 1, 0, 3, 1, 2, 3]),
         lists("7-bytes-after", &[3, 2, 2, 3, 1, 3, 1, 0, 3, 1, 2, 3]),
-        lists("7-count-0", &[4, 0, 2, 3, 1, 3, 1, 0, 3, 1, 2, 3]),
+        lists("7-count-0-before-numbers", &[4, 0, 2, 3, 1, 3, 1, 0, 3, 1, 2, 3]),
         lists("7-count-5", &[4, 5, 2, 3, 1, 3, 1, 0, 3, 1, 2, 3]),
         lists("7-router-4", &[4, 2, 2, 4, 1, 3, 1, 0, 3, 1, 2, 3]),
         lists("7-same-twice", &[4, 2, 2, 2, 1, 3, 1, 0, 3, 1, 2, 3]),

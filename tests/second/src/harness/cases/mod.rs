@@ -4,6 +4,7 @@
 mod asked;
 mod cuts;
 mod damaged;
+mod empty_lists;
 mod limits;
 mod line;
 mod misread;
@@ -28,6 +29,7 @@ fn small(p: u32, q: u32) -> Vec<u8> {
 /// All lines of the program.
 pub fn lines() -> String {
     let plans = [limits::lines(), damaged::lines(), parents::lines(), asked::lines()];
-    let rules = [misread::lines(), runs::lines(), cuts::lines(), skips::lines(), widths::lines()];
-    [plans.concat(), rules.concat()].concat().concat()
+    let rules = [misread::lines(), runs::lines(), cuts::lines(), skips::lines()];
+    let requests = [widths::lines(), empty_lists::lines()];
+    [plans.concat(), rules.concat(), requests.concat()].concat().concat()
 }

@@ -22,7 +22,12 @@ pub struct Counts {
     pub plans_with_skips: u64,
     /// .. in which some client has as many parents as there may be.
     pub plans_with_most_parents: u64,
+    /// .. of which some list is empty.
+    pub plans_with_empty_lists: u64,
     pub lists: u64,
+    pub empty_lists: u64,
+    /// Empty lists of plans in which some client has a parent.
+    pub empty_lists_of_rank_1: u64,
     pub suspect_lists: u64,
     pub sheets: u64,
     /// Sheets whose distances are written.
@@ -40,6 +45,7 @@ pub struct Counts {
     pub series: u64,
     pub series_with_cuts: u64,
     pub series_with_skips: u64,
+    pub series_on_empty_lists: u64,
     pub acts_in_series: u64,
     pub highest_rank: u64,
     pub longest_cycle: u64,
@@ -107,6 +113,20 @@ impl Counts {
             _ => (),
         }
     }
+
+    /// The verdict of a list, which is not refused.
+    pub fn count_verdict(&mut self, answer: &Answer) {
+        let size = answer.fields[1] as u64;
+        self.lists += 1;
+        if answer.fields[0] == 1 {
+            self.highest_rank = self.highest_rank.max(size);
+            return;
+        }
+        self.suspect_lists += 1;
+        let (labels, first) = (&answer.buffers[0], answer.buffers[3][0]);
+        self.entered_cycles += u64::from(labels[usize::from(first)] != first);
+        self.longest_cycle = self.longest_cycle.max(size);
+    }
 }
 
 impl fmt::Display for Counts {
@@ -122,6 +142,11 @@ impl fmt::Display for Counts {
         writeln!(out, "plans with cuts {}, series on these {}", self.plans_with_cuts, self.series_with_cuts)?;
         writeln!(out, "plans with role 3 {}, series on these {}", self.plans_with_skips, self.series_with_skips)?;
         writeln!(out, "plans with a client of four parents {}", self.plans_with_most_parents)?;
+        writeln!(
+            out,
+            "plans with an empty list {}, empty lists {}, of highest rank 1 {}, series on these {}",
+            self.plans_with_empty_lists, self.empty_lists, self.empty_lists_of_rank_1, self.series_on_empty_lists
+        )?;
         writeln!(out, "sheets with distances {}", self.sheets_with_distances)?;
         writeln!(out, "{}", self.margins)?;
         writeln!(out, "{}", self.explanations)?;

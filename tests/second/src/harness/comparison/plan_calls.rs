@@ -4,9 +4,10 @@ use super::arguments;
 use super::call::{Answer, Call};
 use super::compare::{Comparison, Mismatch, Outcome};
 use super::convert_calls;
+use super::empty_lists;
 use super::preferences::Preferences;
 use super::reliance_calls;
-use super::series;
+use super::series::{self, Promise};
 use crate::harness::plans::generate;
 use crate::harness::random::Random;
 use crate::oracle::mark::Mark;
@@ -69,6 +70,7 @@ fn sound(comparison: &mut Comparison, random: &mut Random, bytes: &[u8], plan: &
     comparison.counts.plans_with_cuts += u64::from(plan.has_cuts());
     comparison.counts.plans_with_skips += u64::from(!plan.skipping.is_empty());
     comparison.counts.plans_with_most_parents += u64::from(plan.most_parents() == MOST_PARENTS);
+    comparison.counts.plans_with_empty_lists += u64::from(!plan.empty_lists().is_empty());
     if plan.n <= FEW {
         let preferences = Preferences::ask(comparison, bytes, plan.n)?;
         comparison.go_by(bytes, preferences);
@@ -81,10 +83,26 @@ fn sound(comparison: &mut Comparison, random: &mut Random, bytes: &[u8], plan: &
         let list = random.below(plan.lists.len());
         list_calls(comparison, random, bytes, list, plan)?;
     }
+    all_series(comparison, random, bytes, plan, &verdicts)
+}
+
+/// A series on a stable list, by its verdict, and one on an empty list, by what is stated of it.
+fn all_series(
+    comparison: &mut Comparison,
+    random: &mut Random,
+    bytes: &[u8],
+    plan: &Plan,
+    verdicts: &[Answer],
+) -> Outcome {
     let stable: Vec<usize> = (0..plan.lists.len()).filter(|&list| verdicts[list].fields[0] == 1).collect();
     if !stable.is_empty() {
         let list = random.pick(&stable);
-        series::compare(comparison, random, bytes, plan, list, &verdicts[list])?;
+        series::compare(comparison, random, bytes, plan, list, Promise::of(&verdicts[list], plan.n))?;
+    }
+    let empty = plan.empty_lists();
+    if !empty.is_empty() {
+        let list = random.pick(&empty);
+        series::compare(comparison, random, bytes, plan, list, empty_lists::promise(plan))?;
     }
     Ok(())
 }
@@ -147,15 +165,11 @@ fn verdicts_of_lists(
         comparison.call(bytes, &Call::List { list })?;
         let buffers = arguments::verdict_buffers(random, plan.n);
         let answer = comparison.call(bytes, &Call::Verdict { list, buffers })?;
-        let counts = &mut comparison.counts;
-        counts.lists += 1;
-        if answer.fields[0] == 0 {
-            counts.suspect_lists += 1;
-            let (labels, first) = (&answer.buffers[0], answer.buffers[3][0]);
-            counts.entered_cycles += u64::from(labels[usize::from(first)] != first);
-            counts.longest_cycle = counts.longest_cycle.max(answer.fields[1] as u64);
-        } else {
-            counts.highest_rank = counts.highest_rank.max(answer.fields[1] as u64);
+        comparison.counts.count_verdict(&answer);
+        if plan.lists[list].listed.is_empty() {
+            empty_lists::hold_verdict(bytes, plan, &answer)?;
+            comparison.counts.empty_lists += 1;
+            comparison.counts.empty_lists_of_rank_1 += u64::from(answer.fields[1] == 1);
         }
         verdicts.push(answer);
     }

@@ -4,6 +4,7 @@
 use super::arguments;
 use super::call::{Answer, Call};
 use super::compare::{hex, Comparison, Mismatch, Outcome};
+use super::empty_lists;
 use super::plan_calls::FEW;
 use crate::harness::random::Random;
 use crate::oracle::plan::{Plan, Router};
@@ -16,7 +17,7 @@ pub fn compare(comparison: &mut Comparison, random: &mut Random, bytes: &[u8], p
     let few = plan.n <= FEW;
     for list in 0..plan.lists.len() {
         let pairs = if few { pairs_below(plan.n + 1).collect() } else { some_pairs(random, plan) };
-        pairs.into_iter().try_for_each(|pair| both_calls(comparison, bytes, list, pair))?;
+        pairs.into_iter().try_for_each(|pair| both_calls(comparison, bytes, plan, list, pair))?;
     }
     if few {
         return Ok(());
@@ -52,12 +53,16 @@ fn explain(list: usize, (router, other): Pair) -> Call {
     Call::Explain { list, router, other }
 }
 
-/// Both calls; and, where a margin is given, the comparison of the two routes.
-fn both_calls(comparison: &mut Comparison, bytes: &[u8], list: usize, pair: Pair) -> Outcome {
+/// Both calls, for an empty list held to what is stated of it; and, where a margin is given,
+/// the comparison of the two routes.
+fn both_calls(comparison: &mut Comparison, bytes: &[u8], plan: &Plan, list: usize, pair: Pair) -> Outcome {
     let relied = comparison.call(bytes, &relies(list, pair))?;
     let explained = comparison.call(bytes, &explain(list, pair))?;
     comparison.counts.pairs += 1;
     agree(bytes, list, pair, &relied, &explained)?;
+    if plan.lists[list].listed.is_empty() && explained.refusal == 0 {
+        empty_lists::hold_explanation(bytes, plan, pair, &explained)?;
+    }
     let Some((offer, own, margin)) = explained.better_than_own() else { return Ok(()) };
     let compared = comparison.call(bytes, &Call::Compare { router: pair.0, first: offer, second: own })?;
     if compared.refusal == 0 && compared.compared() == (1, Some(margin)) {

@@ -1,5 +1,5 @@
-//! Series of act and run calls on one table, refused ones among them, until
-//! the rounds make the highest rank plus two; then the table is the verdict's.
+//! Series of act and run calls on one table, refused ones among them, until the rounds
+//! are as many as promised, the highest rank plus two; then the table is the verdict's.
 
 use super::arguments;
 use super::call::{Answer, Call};
@@ -8,6 +8,19 @@ use crate::harness::random::Random;
 use crate::oracle::plan::{self, Plan};
 use crate::oracle::rules::Case;
 use crate::oracle::tables::Rounds;
+
+/// The table that every series of so many rounds ends in.
+pub struct Promise {
+    pub rounds: u64,
+    pub table: Vec<u8>,
+}
+
+impl Promise {
+    /// What a verdict for n routers promises, which is stable.
+    pub fn of(verdict: &Answer, n: usize) -> Self {
+        Promise { rounds: verdict.fields[1] as u64 + 2, table: verdict.buffers[2][..2 * n].to_vec() }
+    }
+}
 
 /// How the acts of a series are drawn.
 #[derive(Clone, Copy)]
@@ -34,23 +47,21 @@ struct Series<'a> {
     acts: u64,
 }
 
-/// Compares one series for a list whose verdict is stable.
+/// Compares one series for a list, which must keep the promise.
 pub fn compare(
     comparison: &mut Comparison,
     random: &mut Random,
     bytes: &[u8],
     plan: &Plan,
     list: usize,
-    verdict: &Answer,
+    promise: Promise,
 ) -> Outcome {
     let mut series = Series::new(random, bytes, plan, list);
     let start = series.table.clone();
-    let needed = verdict.fields[1] as u64 + 2;
-    while series.rounds.whole < needed {
+    while series.rounds.whole < promise.rounds {
         series.step(comparison, random)?;
     }
-    let mut settled = verdict.buffers[2][..2 * plan.n].to_vec();
-    settled.extend(&start[2 * plan.n..]);
+    let settled = [&promise.table, &start[2 * plan.n..]].concat();
     for more in 0..6 {
         if series.table != settled {
             return Err(series.unsettled(&start, &settled, more));
@@ -60,6 +71,7 @@ pub fn compare(
     comparison.counts.series += 1;
     comparison.counts.series_with_cuts += u64::from(plan.has_cuts());
     comparison.counts.series_with_skips += u64::from(!plan.skipping.is_empty());
+    comparison.counts.series_on_empty_lists += u64::from(plan.lists[list].listed.is_empty());
     comparison.counts.acts_in_series += series.acts;
     Ok(())
 }

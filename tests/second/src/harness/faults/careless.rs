@@ -2,6 +2,7 @@
 
 use super::compare_slips;
 use super::convert_slips::{self, Asked};
+use super::empty_list_slips::{self, EmptyListSlip};
 use super::explain_slips;
 use super::parent_slips;
 use super::sheet_slips;
@@ -31,6 +32,14 @@ impl Careless {
 
     fn is(&self, slip: Slip) -> bool {
         self.slip == slip
+    }
+
+    /// The slip, if it is one for an empty list and this list of a sound plan is empty.
+    fn slip_for(&mut self, plan: &[u8], list: usize) -> Option<EmptyListSlip> {
+        let Slip::EmptyList(slip) = self.slip else { return None };
+        let mut fields = ListFields { start: 0, count: 1 };
+        self.inner.list(plan, list, &mut fields);
+        (fields.count == 0).then_some(slip)
     }
 }
 
@@ -91,7 +100,11 @@ impl Checker for Careless {
 
     fn list(&mut self, plan: &[u8], list: usize, fields: &mut ListFields) -> u8 {
         let list = if self.is(Slip::ListCutToAByte) { list % 256 } else { list };
+        let before = *fields;
         let refusal = self.inner.list(plan, list, fields);
+        if let Some(slip) = self.slip_for(plan, list) {
+            return empty_list_slips::list(slip, plan, before, fields);
+        }
         if refusal == 13 && self.is(Slip::EightBeforeThirteen) && is_past_the_lists(plan, list) {
             return 8;
         }
@@ -112,8 +125,15 @@ impl Checker for Careless {
 
     fn verdict(&mut self, plan: &[u8], list: usize, lent: VerdictBuffers, fields: &mut VerdictFields) -> u8 {
         let VerdictBuffers { labels, ranks, table, cycle } = lent;
-        let again = VerdictBuffers { labels, ranks, table, cycle: &mut *cycle };
+        let before = [&labels, &ranks, &table].map(|buffer| buffer.to_vec());
+        let again =
+            VerdictBuffers { labels: &mut *labels, ranks: &mut *ranks, table: &mut *table, cycle: &mut *cycle };
         let refusal = self.inner.verdict(plan, list, again, fields);
+        if let (0, Some(slip)) = (refusal, self.slip_for(plan, list)) {
+            let again = VerdictBuffers { labels, ranks, table, cycle };
+            empty_list_slips::verdict(slip, plan, &before, again, fields);
+            return 0;
+        }
         if refusal == 0 && self.is(Slip::SuspectToAll) {
             fields.stable.value = 0;
         }
@@ -139,6 +159,9 @@ impl Checker for Careless {
         if refusal == 9 && self.is(Slip::TenBeforeNine) {
             return 10;
         }
+        if let (0, Some(slip)) = (refusal, self.slip_for(plan, list)) {
+            return empty_list_slips::activated(slip, plan, &before, table);
+        }
         if refusal == 0 && self.is(Slip::EntryWithoutAWayRefused) && holds_without_way(plan, &before) {
             table.copy_from_slice(&before);
             return 10;
@@ -157,8 +180,16 @@ impl Checker for Careless {
             Slip::LimitCutToAWord => acts.limit %= 1 << 32,
             _ => (),
         }
+        let before = (table.to_vec(), *fields);
         let refusal = self.inner.run(plan, list, acts, table, fields);
         if refusal != 0 {
+            return refusal;
+        }
+        if let Some(slip) = self.slip_for(plan, list) {
+            let refusal = empty_list_slips::activated(slip, plan, &before.0, table);
+            if refusal != 0 {
+                *fields = before.1;
+            }
             return refusal;
         }
         match self.slip {

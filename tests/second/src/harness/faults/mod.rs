@@ -4,8 +4,12 @@
 pub mod careless;
 mod compare_slips;
 pub mod convert_slips;
+pub mod count_slips;
+pub mod empty_list_misreadings;
+pub mod empty_list_slips;
 pub mod explain_misreadings;
 mod explain_slips;
+pub mod misreader;
 pub mod misreadings;
 pub mod parent_slips;
 mod sheet_slips;

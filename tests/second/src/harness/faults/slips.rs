@@ -2,6 +2,7 @@
 //! finds each.
 
 use super::convert_slips::ConvertSlip;
+use super::empty_list_slips::EmptyListSlip;
 use super::parent_slips::ParentSlip;
 
 /// A slip in a call that reads the rules rightly.
@@ -77,6 +78,7 @@ pub enum Slip {
     Role4Accepted,
     Parents(ParentSlip),
     Convert(ConvertSlip),
+    EmptyList(EmptyListSlip),
     EightBeforeThirteen,
     EntryWithoutAWayRefused,
     TransposedDistances,
@@ -109,7 +111,7 @@ pub enum Slip {
     ByteAfterTheDistances,
 }
 
-/// All but those in the check of a client's parents and in the converter.
+/// All but those in the check of a client's parents, in the converter and for an empty list.
 pub const SLIPS: [Slip; 98] = [
     Slip::FirstActOnly,
     Slip::ActLeavesTable,

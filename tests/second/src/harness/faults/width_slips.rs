@@ -1,16 +1,10 @@
-//! Checkers that slip, in one call each, in what a plan's mark says: the width of a
-//! distance, no way, and how long the plan may be. In that call they take a plan for
-//! another.
+//! The slips of checkers in what a plan's mark says: the width of a distance, no way, and
+//! how long the plan may be. In one call they take a plan for another.
 
+use super::misreader::{PlanCall, BY_DISTANCES, WITHOUT_DISTANCES};
 use crate::harness::plans::draft::{Bodies, NO_WAY};
-use crate::interface::{
-    Acts, Checker, CompareFields, ExplainFields, Lent, ListFields, RunFields, SizeFields, VerdictBuffers,
-    VerdictFields,
-};
 use crate::oracle::mark::Mark;
 use crate::oracle::plan;
-use crate::oracle::rules::Right;
-use crate::oracle::Oracle;
 
 #[derive(Clone, Copy, Debug, PartialEq, Eq)]
 pub enum WidthSlip {
@@ -29,22 +23,6 @@ pub enum WidthSlip {
     LongestRefused,
     AnotherMarkAccepted,
     LastLetterNotRead,
-}
-
-/// A call that takes a plan.
-#[derive(Clone, Copy, Debug, PartialEq, Eq)]
-pub enum PlanCall {
-    Check,
-    Size,
-    List,
-    Compare,
-    Relies,
-    Explain,
-    Verdict,
-    Activate,
-    Run,
-    Widen,
-    Narrow,
 }
 
 /// Slips in a distance, which show in calls that go by distances.
@@ -70,11 +48,6 @@ const REFUSAL_SLIPS: [WidthSlip; 9] = [
     WidthSlip::LastLetterNotRead,
 ];
 
-const WITHOUT_DISTANCES: [PlanCall; 3] = [PlanCall::Check, PlanCall::Size, PlanCall::List];
-
-const BY_DISTANCES: [PlanCall; 6] =
-    [PlanCall::Compare, PlanCall::Relies, PlanCall::Explain, PlanCall::Verdict, PlanCall::Activate, PlanCall::Run];
-
 /// Each slip, with the calls in which it shows.
 pub fn width_faults() -> Vec<(WidthSlip, Vec<PlanCall>)> {
     let direction = |slip: WidthSlip| match slip {
@@ -91,7 +64,7 @@ pub fn width_faults() -> Vec<(WidthSlip, Vec<PlanCall>)> {
 }
 
 /// The plan that a checker with this slip takes a plan for.
-fn taken_for(slip: WidthSlip, plan: &[u8]) -> Option<Vec<u8>> {
+pub fn taken_for(slip: WidthSlip, plan: &[u8]) -> Option<Vec<u8>> {
     let (mark, longest) = (Mark::of(plan), Mark::Rrp1.longest_plan());
     let refused_with_3 = |of: Mark| mark == Some(of) && plan::read(plan).err() == Some(3);
     match slip {
@@ -136,91 +109,4 @@ fn distances(slip: WidthSlip, plan: &[u8]) -> Vec<u8> {
     });
     bodies.write_distances(distances, Mark::Rrp2);
     bodies.bytes()
-}
-
-/// A checker with one slip in one call.
-pub struct Misreader {
-    slip: WidthSlip,
-    call: PlanCall,
-    inner: Oracle<Right>,
-    /// The last plan, and what it was taken for.
-    last: (Vec<u8>, Vec<u8>),
-}
-
-impl Misreader {
-    pub fn new(slip: WidthSlip, call: PlanCall) -> Self {
-        Misreader { slip, call, inner: Oracle::right(), last: Default::default() }
-    }
-
-    /// What the plan is taken for in a call.
-    fn read<'a>(&'a mut self, call: PlanCall, plan: &'a [u8]) -> (&'a mut Oracle<Right>, &'a [u8]) {
-        if call != self.call {
-            return (&mut self.inner, plan);
-        }
-        if self.last.0 != plan {
-            self.last = (plan.to_vec(), taken_for(self.slip, plan).unwrap_or_else(|| plan.to_vec()));
-        }
-        (&mut self.inner, &self.last.1)
-    }
-}
-
-impl Checker for Misreader {
-    fn check(&mut self, plan: &[u8]) -> u8 {
-        let (inner, plan) = self.read(PlanCall::Check, plan);
-        inner.check(plan)
-    }
-
-    fn size(&mut self, plan: &[u8], fields: &mut SizeFields) -> u8 {
-        let (inner, plan) = self.read(PlanCall::Size, plan);
-        inner.size(plan, fields)
-    }
-
-    fn list(&mut self, plan: &[u8], list: usize, fields: &mut ListFields) -> u8 {
-        let (inner, plan) = self.read(PlanCall::List, plan);
-        inner.list(plan, list, fields)
-    }
-
-    fn compare(&mut self, plan: &[u8], router: usize, pair: (usize, usize), fields: &mut CompareFields) -> u8 {
-        let (inner, plan) = self.read(PlanCall::Compare, plan);
-        inner.compare(plan, router, pair, fields)
-    }
-
-    fn relies(&mut self, plan: &[u8], list: usize, pair: (usize, usize), relies: &mut u8) -> u8 {
-        let (inner, plan) = self.read(PlanCall::Relies, plan);
-        inner.relies(plan, list, pair, relies)
-    }
-
-    fn explain(&mut self, plan: &[u8], list: usize, pair: (usize, usize), fields: &mut ExplainFields) -> u8 {
-        let (inner, plan) = self.read(PlanCall::Explain, plan);
-        inner.explain(plan, list, pair, fields)
-    }
-
-    fn verdict(&mut self, plan: &[u8], list: usize, lent: VerdictBuffers, fields: &mut VerdictFields) -> u8 {
-        let (inner, plan) = self.read(PlanCall::Verdict, plan);
-        inner.verdict(plan, list, lent, fields)
-    }
-
-    fn activate(&mut self, plan: &[u8], list: usize, router: usize, table: &mut [u8]) -> u8 {
-        let (inner, plan) = self.read(PlanCall::Activate, plan);
-        inner.activate(plan, list, router, table)
-    }
-
-    fn run(&mut self, plan: &[u8], list: usize, acts: Acts, table: &mut [u8], fields: &mut RunFields) -> u8 {
-        let (inner, plan) = self.read(PlanCall::Run, plan);
-        inner.run(plan, list, acts, table, fields)
-    }
-
-    fn widen(&mut self, plan: &[u8], out: &mut [u8], length: &mut Lent<u64>) -> u8 {
-        let (inner, plan) = self.read(PlanCall::Widen, plan);
-        inner.widen(plan, out, length)
-    }
-
-    fn narrow(&mut self, plan: &[u8], out: &mut [u8], length: &mut Lent<u64>) -> u8 {
-        let (inner, plan) = self.read(PlanCall::Narrow, plan);
-        inner.narrow(plan, out, length)
-    }
-
-    fn distances(&mut self, n: usize, links: &[u8], out: &mut [u8]) -> u8 {
-        self.inner.distances(n, links, out)
-    }
 }

@@ -290,28 +290,32 @@ fn set_distance(bodies: &mut Bodies, from: usize, to: usize, distance: u32) {
     bytes.zip(distance_bytes(distance, bodies.mark)).for_each(|(byte, new)| *byte = new);
 }
 
+/// The lists are broken: how many there are, a count, a number, or what follows them.
 fn lists(random: &mut Random, bodies: &mut Bodies) {
-    let n = bodies.n;
-    let lists = &mut bodies.lists;
-    if lists.len() < 3 {
-        return lists.clear();
-    }
-    let last = lists.len() - 1;
-    match random.below(10) {
-        0 => lists.clear(),
-        1 => lists[0] = random.pick(&[0, 65, 255]),
-        2 => lists[0] = lists[0].wrapping_add(1),
-        3 => lists[0] -= 1,
-        4 => lists[1] = random.pick(&[0, n + 1, 255]),
-        5 => lists[2] = random.pick(&[n, 64, 255]),
-        6 => lists[last] = random.pick(&[n, 255]),
+    let Some(last) = bodies.lists.len().checked_sub(1) else { return };
+    // The counts that router numbers follow.
+    let counts: Vec<usize> = bodies.counts().into_iter().filter(|&at| bodies.lists[at] > 0 && at < last).collect();
+    let (n, lists) = (bodies.n, &mut bodies.lists);
+    let count = if counts.is_empty() { last } else { random.pick(&counts) };
+    match random.below(14) {
+        0..=1 => lists.clear(),
+        2..=3 => *lists = vec![0],
+        4 => lists[0] = random.pick(&[0, 65, 255]),
+        5 => lists[0] = lists[0].wrapping_add(1),
+        6 => lists[0] = lists[0].wrapping_sub(1),
         7 => _ = lists.pop(),
         8 => lists.push(0),
+        9 => lists[last] = random.pick(&[n, 255]),
+        // All lists are empty: no router numbers follow the last count.
+        _ if counts.is_empty() => lists[count] = random.pick(&[1, n + 1, 255]),
+        // With 0, the numbers are read as lists, or are left over.
+        10..=11 => lists[count] = random.pick(&[0, n + 1, 255]),
+        12 => lists[count + 1] = random.pick(&[n, 64, 255]),
         _ => {
-            // The first list, its first number twice.
-            let twice = lists[2];
-            lists[1] = lists[1].wrapping_add(1);
-            lists.insert(2, twice);
+            // The first number twice.
+            let twice = lists[count + 1];
+            lists[count] = lists[count].wrapping_add(1);
+            lists.insert(count + 1, twice);
         }
     }
     trim_to_longest(bodies);

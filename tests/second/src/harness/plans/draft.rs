@@ -3,6 +3,7 @@
 use crate::oracle::mark::Mark;
 use crate::oracle::plan::{Router, CLIENT, FIRST_BODY, REFLECTOR, SKIPPING};
 use std::collections::BTreeSet;
+use std::iter;
 
 /// No way, in a draft of either mark.
 pub const NO_WAY: u32 = u32::MAX;
@@ -78,6 +79,13 @@ impl Bodies {
             [7, 12, 17, 22].map(|entry| plan[number(entry)..][..number(entry + 2)].to_vec());
         let mark = Mark::of(plan).expect("the plan has a mark");
         Bodies { mark, n: plan[4], routers, sessions, distances, lists }
+    }
+
+    /// Where the counts of the lists are in their body, as far as it goes.
+    pub fn counts(&self) -> Vec<usize> {
+        let next = |&at: &usize| Some(at + 1 + usize::from(*self.lists.get(at)?));
+        let most = usize::from(self.lists.first().copied().unwrap_or(0));
+        iter::successors(Some(1), next).take(most).take_while(|&at| at < self.lists.len()).collect()
     }
 
     /// The distances as a draft has them.

@@ -28,7 +28,8 @@ pub fn numbered(seed: u64, number: u64) -> (Vec<u8>, Random) {
     let bytes = match number % 10 {
         _ if number == 3 || number == 4 => [draft.bytes(), vec![0]].concat(),
         7 => {
-            let refusal = random.pick(&AIMED_AT);
+            // Lists can be broken in more ways than other bodies.
+            let refusal = if random.chance(25) { 7 } else { random.pick(&AIMED_AT) };
             damage::aimed(&mut random, &draft, refusal)
         }
         8 => damage::any(&mut random, &draft),
@@ -199,7 +200,7 @@ fn near_distances(random: &mut Random, topology: &Topology) -> Vec<Vec<u32>> {
     (0..n).map(&mut row).collect()
 }
 
-/// Lists, of which so many in a hundred name all clients or nearly all.
+/// Lists, of which so many in a hundred name all clients or nearly all; some are empty.
 fn lists(random: &mut Random, reflector: &[bool], nearly_all: usize) -> Vec<BTreeSet<Router>> {
     let count = match random.below(40) {
         0..=15 => 1,
@@ -207,7 +208,22 @@ fn lists(random: &mut Random, reflector: &[bool], nearly_all: usize) -> Vec<BTre
         38 => random.between(5, 63),
         _ => MOST_LISTS,
     };
-    (0..count).map(|_| egress_list(random, reflector, nearly_all)).collect()
+    let mut lists: Vec<_> = (0..count).map(|_| egress_list(random, reflector, nearly_all)).collect();
+    empty_lists(random, count).into_iter().for_each(|list| lists[list].clear());
+    lists
+}
+
+/// Which of so many lists name nobody: none in three of four plans, else the first, the
+/// last, any one, some or all.
+fn empty_lists(random: &mut Random, count: usize) -> Vec<usize> {
+    match random.below(20) {
+        0 => vec![0],
+        1 => vec![count - 1],
+        2 => vec![random.below(count)],
+        3 => (0..count).filter(|_| random.chance(40)).collect(),
+        4 => (0..count).collect(),
+        _ => Vec::new(),
+    }
 }
 
 fn egress_list(random: &mut Random, reflector: &[bool], nearly_all: usize) -> BTreeSet<Router> {
