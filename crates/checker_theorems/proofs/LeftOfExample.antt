@@ -1,4 +1,5 @@
--- What is left of a list's settled table, before the laws by its name, so that a `LeftOf` that holds of nothing is refused here.
+-- What is left of a list's settled table. By its name this file is checked before the laws, so that a `LeftOf` that holds of nothing is
+-- refused here.
 use native.Mathlib.Omega.{arith}
 use mathlib.Core.Path.{refl}
 use borrow.Author.Count.{below-none, below-more}

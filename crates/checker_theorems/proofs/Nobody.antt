@@ -121,41 +121,6 @@ module _ (plan : List ℕ) (small : routerCount plan ≤ 64) (j : ℕ) (buffer :
       entry-facts (instanceOf plan j) v _ _ small unlisted
       (sym (ap (entryOk (instanceOf plan j) v) (table-held buffer (routerCount plan) v l)) ∙ all-at _ (routerCount plan) rule v l)
 
--- a list of nobody, by what is handed back for it
-part-given : (plan : List ℕ) (k : ℕ) → ListsNobody plan k → egressListRefusal plan k ≡ 0
-part-given plan k h = list-in-order plan k .none (h .planOk) (lt-ltb _ _ (h .listOk)) refl refl
-
-part-of-nobody : (plan : RefT (List ℕ)) (k : ℕ) (part : RefT (List ℕ)) → ListPartOf plan k part → ListsNobody (now plan) k
-    → PartOfNobody plan k part
-part-of-nobody plan k part s h =
-    let given = part-given (now plan) k h in
-    let back = handed-back plan k part s given in
-    record {
-      empty = back .numbers-are ∙ rw (h .nobody);
-      place = back .place;
-      number = given;
-      afterTheStart = omega arith;
-    }
-
-pub told-by-its-part : EveryListToldByItsPart
-told-by-its-part plan k =
-    record {
-      size = (
-        λ h. (part-given plan k h, placed-given plan k (part-given plan k h) .sizes ∙ h .nobody),
-        λ s. is-nobody (s .0) (sym (placed-given plan k (s .0) .sizes) ∙ s .1),
-      );
-      part =
-          λ slice part e s. (
-            λ h. (part-given plan k h, part-of-nobody slice k part s (rw e h) .empty),
-            λ p. is-nobody (p .0) (rw e at (sym (handed-back slice k part s (rw e (p .0)) .numbers .count) ∙ ap length (p .1))),
-          );
-    }
-  where
-    is-nobody : egressListRefusal plan k ≡ 0 → listSize plan k ≡ 0 → ListsNobody plan k
-    is-nobody given empty =
-        let asked = list-asked plan k given in
-        record { planOk = asked .planOk; listOk = asked .list; nobody = empty }
-
 module _ (plan : List ℕ) (k : ℕ) (h : ListsNobody plan k) where
   no-router : (v : ℕ) → named (listNumbers plan k) v ≡ false
   unfolding named
@@ -365,6 +330,41 @@ module _ (plan : List ℕ) (k : ℕ) (h : ListsNobody plan k) where
           inTwo = λ none two. flushed (omega (arith, highest-zero .1 none));
           rest = settles .rest;
         }
+
+-- a list of nobody, by what is handed back for it
+part-given : (plan : List ℕ) (k : ℕ) → ListsNobody plan k → egressListRefusal plan k ≡ 0
+part-given plan k h = list-in-order plan k .none (h .planOk) (lt-ltb _ _ (h .listOk)) refl refl
+
+part-of-nobody : (plan : RefT (List ℕ)) (k : ℕ) (part : RefT (List ℕ)) → ListPartOf plan k part → ListsNobody (now plan) k
+    → PartOfNobody plan k part
+part-of-nobody plan k part s h =
+    let given = part-given (now plan) k h in
+    let back = handed-back plan k part s given in
+    record {
+      empty = back .numbers-are ∙ rw (h .nobody);
+      place = back .place;
+      number = given;
+      afterTheStart = omega arith;
+    }
+
+pub told-by-its-part : EveryListToldByItsPart
+told-by-its-part plan k =
+    record {
+      size = (
+        λ h. (part-given plan k h, placed-given plan k (part-given plan k h) .sizes ∙ h .nobody),
+        λ s. is-nobody (s .0) (sym (placed-given plan k (s .0) .sizes) ∙ s .1),
+      );
+      part =
+          λ slice part e s. (
+            λ h. (part-given plan k h, part-of-nobody slice k part s (rw e h) .empty),
+            λ p. is-nobody (p .0) (rw e at (sym (handed-back slice k part s (rw e (p .0)) .numbers .count) ∙ ap length (p .1))),
+          );
+    }
+  where
+    is-nobody : egressListRefusal plan k ≡ 0 → listSize plan k ≡ 0 → ListsNobody plan k
+    is-nobody given empty =
+        let asked = list-asked plan k given in
+        record { planOk = asked .planOk; listOk = asked .list; nobody = empty }
 
 pub prefix-gone : EveryPrefixGone
 prefix-gone plan k h =

@@ -78,7 +78,8 @@ pub record SomeParent (plan : List ℕ) : Type 0 where
   pub below : client < routerCount plan
   pub has : HasParent plan client
 
--- Whether w relies on v and why, by the plan's bytes: rule 1 is left, and reasons 1, 2, 4 and 7.
+-- Document 02, "Every reliance with its rule", by the plan's bytes: of the reasons, "first that applies", 1, 2, 4 and 7 are left, and of the
+-- rules 1.
 abbrev pub explainedForNobody : List ℕ → ℕ → ℕ → Explanation
 explainedForNobody plan w v =
     cond (eqb w v) (No SameRouter)
@@ -151,7 +152,7 @@ pub record FlushedInTime (plan : List ℕ) (k : ℕ) (start : List ℕ) (calls :
 pub record PrefixGone (plan : List ℕ) (k : ℕ) : Type 0 where
   -- "no outside route is left": no router is listed
   pub unlisted : (v : ℕ) → named (listNumbers plan k) v ≡ false
-  -- the part handed back
+  -- the part handed back is empty, at the list's own place
   pub handedBack : (slice part : RefT (List ℕ)) → now slice ≡ plan → ListPartOf slice k part → PartOfNobody slice k part
   -- "Nobody offers anything,"
   pub noBestClient : (v : ℕ) → bestClient (instanceOf plan k) v ≡ none
@@ -159,6 +160,7 @@ pub record PrefixGone (plan : List ℕ) (k : ℕ) : Type 0 where
   -- so each router relies on its parents alone
   pub relied : (w v : ℕ) → w < routerCount plan → v < routerCount plan
       → (relies (instanceOf plan k) w v ≡ true) ↔ ParentOf plan w v
+  -- .. and by one rule, or does not for one of four reasons
   pub explained : (w v : ℕ) → w < routerCount plan → v < routerCount plan → explained (instanceOf plan k) w v ≡ explainedForNobody plan w v
   -- the explain call says so
   pub explains : (w v : ℕ) → w < routerCount plan → v < routerCount plan → (r : Explanation) → Explains plan k w v r
