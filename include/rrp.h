@@ -14,6 +14,10 @@
  *
  * A list names 0 to n routers. One that names nobody is for a prefix that is gone everywhere: every call takes it as any other.
  *
+ * A router's role is 1 for a reflector, 2 for a client, 3 for a reflector that does not reflect between its clients; 4 and 5 are as 1
+ * and 3, with the hop step. At a reflector with the hop step a route told by its own egress router is better than one passed on by a
+ * reflector, and only then distances and numbers count. At every other router it does not count who tells a route.
+ *
  * A table of held routes has two bytes a router: the egress router of the route that it holds and the neighbour that it has the
  * route from, or RRP_NONE twice if it holds none. A router of the list holds its own route: its number twice. To start from
  * nothing, put those in and RRP_NONE everywhere else.
@@ -49,7 +53,7 @@ enum rrp_refusal {
     RRP_BAD_ROUTER_COUNT = 2,
     /* a kind, an offset or a length in the table of contents is wrong */
     RRP_BAD_CONTENTS = 3,
-    /* a role is not 1, 2 or 3, or the identifiers do not rise strictly */
+    /* a role is not 1 to 5, or the identifiers do not rise strictly */
     RRP_BAD_ROUTERS = 4,
     /* a session is not two routers, the lower number first, or the sessions do not rise strictly */
     RRP_BAD_SESSIONS = 5,
@@ -82,7 +86,8 @@ enum rrp_rule {
     /* the router is a reflector, and the other its best client: of the clients of the list that it neighbours and has a way to, the
      * one that is best at the router */
     RRP_OWN_BEST_CLIENT = 3,
-    /* the other, a neighbouring reflector, offers a route that is better at the router than its own best client's, if it has one */
+    /* the other, a neighbouring reflector, offers a route that is better at the router than its own best client's, if it has one: the
+     * route of the other itself if it is in the list, else that of its best client, which it passes on */
     RRP_BETTER_OFFER = 4
 };
 
@@ -100,7 +105,8 @@ enum rrp_reason {
     RRP_NO_OFFER = 7,
     /* the router has no way to what the other offers */
     RRP_NO_WAY_TO_OFFER = 8,
-    /* what the other offers is not better at the router than its own best client */
+    /* what the other offers is not better at the router than its own best client; so it is, whatever the distances, where the router
+     * has the hop step and the other passes the route on */
     RRP_OFFER_NOT_BETTER = 9
 };
 
@@ -135,15 +141,22 @@ uint8_t rrp_size(const uint8_t *plan, size_t plan_len, uint64_t *routers, uint64
  * follows. That is not refused: RRP_OK is returned, as of any other list. Refusals 1 to 8 and 13. */
 uint8_t rrp_list(const uint8_t *plan, size_t plan_len, size_t list, uint64_t *start, uint64_t *count);
 
-/* Compares two egress routers at a router: *better is 1 if the first is better, 2 if the second is, 0 if neither is. The better
- * one is nearer to the router or, if both are as near, has the lower number. One that the router has a way to is better than one
- * that it has none to. Neither is better if they are the same, or if the router has no way to either.
+/* Compares the routes of two egress routers at a router: *better is 1 if the first is better, 2 if the second is, 0 if neither is.
+ * first_direct says that the first egress router itself tells its route to the router, and second_direct that the second does so; else
+ * a reflector passes the route on. A flag handed in counts as yes if it is not 0. Of what the router itself
+ * holds in a table the flag is yes exactly if egress and sender are the same; of an offer, exactly if the offering reflector is in the
+ * list; of a best client, always.
+ * One that the router has a way to is better than one that it has none to. Neither is better if they are the same, or if the router
+ * has no way to either. So it is whatever the flags. Else, at a reflector with the hop step and if just one of the flags is yes, the
+ * route of that one is better, whatever the distances: the step decides. Else the better one is nearer to the router or, if both are
+ * as near, has the lower number.
  * *has_margin is 1 if the router has a way to both, else 0. *margin is then the distance to the first minus the distance to the
- * second, from -4,294,967,294 to 4,294,967,294, which in an RRP1 plan is from -65,534 to 65,534. Below 0 the first is nearer, above
- * 0 the second; at 0 both are as near, and the lower number decides, or they are the same. Without a margin *margin is 0.
- * Refusals 1 to 8 and 13. */
-uint8_t rrp_compare(const uint8_t *plan, size_t plan_len, size_t router, size_t first, size_t second, uint8_t *better,
-                    uint8_t *has_margin, int64_t *margin);
+ * second, from -4,294,967,294 to 4,294,967,294, which in an RRP1 plan is from -65,534 to 65,534; the flags count for nothing in it.
+ * Below 0 the first is nearer, above 0 the second; at 0 both are as near, and the lower number decides, or they are the same, or at a
+ * reflector with the hop step the step decided. So where it decides, *better and not the sign says which is better. Without a margin
+ * *margin is 0. Refusals 1 to 8 and 13. */
+uint8_t rrp_compare(const uint8_t *plan, size_t plan_len, size_t router, size_t first, size_t second, uint8_t first_direct,
+                    uint8_t second_direct, uint8_t *better, uint8_t *has_margin, int64_t *margin);
 
 /* Says whether a router relies on another for a list: *relies is 1 if it does, else 0. Refusals 1 to 8 and 13. */
 uint8_t rrp_relies(const uint8_t *plan, size_t plan_len, size_t list, size_t router, size_t other, uint8_t *relies);

@@ -27,17 +27,41 @@ refuses_cut_plan() {
     [ "$("$out/verdicts" "$out/cut.plan")" = "refused 1" ]
 }
 
-# Which of two egress routers the C example calls better, and by how much; or the refusal.
-compares() {
-    local m3=examples/m3.plan cut=tests/verdict/no-way-from-0-to-3.plan wide=tests/verdict/rrp2-suspect.plan
-    [ "$("$out/compare" "$m3" 0 3 2)" = "first -4" ] && [ "$("$out/compare" "$m3" 0 2 3)" = "second 4" ] &&
-        [ "$("$out/compare" "$m3" 0 2 2)" = "neither 0" ] && [ "$("$out/compare" "$cut" 0 2 3)" = "first none" ] &&
-        [ "$("$out/compare" "$wide" 0 3 2)" = "first -400000" ] && [ "$("$out/compare" "$m3" 0 2 4)" = "refused 8" ]
+# The bundled plan with the hop step at router 0.
+write_hop_plan() {
+    { head -c 26 examples/m3.plan && printf '\4' && tail -c +28 examples/m3.plan; } >"$out/hop.plan"
 }
 
-# Why one router relies on another by the C example, or does not; or the refusal.
+# Which of two routes the C example calls better, and by how much its egress is nearer; or the refusal.
+compares() {
+    local plan asked expected
+    cp examples/m3.plan tests/verdict/no-way-from-0-to-3.plan tests/verdict/rrp2-suspect.plan "$out" && write_hop_plan || return 1
+    while IFS='|' read -r plan asked expected; do
+        # shellcheck disable=SC2086
+        [ "$("$out/compare" "$out/$plan.plan" $asked)" = "$expected" ] ||
+            { echo "embedding: compare $plan $asked is not: $expected"; return 1; }
+    done <<'END'
+m3|0 3 2 1 1|first -4
+m3|0 3 2 0 1|first -4
+m3|0 2 3 1 0|second 4
+m3|0 2 2 0 1|neither 0
+no-way-from-0-to-3|0 2 3 0 1|first none
+rrp2-suspect|0 3 2 1 1|first -400000
+m3|0 2 4 1 1|refused 8
+hop|0 3 2 1 1|first -4
+hop|0 3 2 0 0|first -4
+hop|0 3 2 1 0|first -4
+hop|0 3 2 0 1|second -4
+hop|0 2 3 2 0|first 4
+hop|0 2 2 0 1|neither 0
+hop|1 3 2 1 0|second 4
+END
+}
+
+# Why one router relies on another by the C example, or does not; or the refusal. With the hop step, 0 does not rely on 1.
 explains() {
     local asked expected
+    write_hop_plan && [ "$("$out/why" "$out/hop.plan" 0 0 1)" = "no, offer not better" ] || return 1
     while IFS='|' read -r asked expected; do
         # shellcheck disable=SC2086
         if [ "$("$out/why" examples/m3.plan $asked)" != "$expected" ]; then

@@ -30,7 +30,7 @@ static void nothing(void) {}
 static void check(void) { refused = rrp_check(plan, length); }
 static void plan_size(void) { refused = rrp_size(plan, length, &routers, &lists); }
 static void list(void) { refused = rrp_list(plan, length, 0, &start, &count); }
-static void compare(void) { refused = rrp_compare(plan, length, router, router, other, &better, &has_margin, &margin); }
+static void compare(void) { refused = rrp_compare(plan, length, router, router, other, 1, 0, &better, &has_margin, &margin); }
 static void relies(void) { refused = rrp_relies(plan, length, 0, router, other, &relied); }
 static void explain(void)
 {

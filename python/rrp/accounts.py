@@ -11,6 +11,12 @@ from typing import NamedTuple
 
 from .plan import Explanation, Plan, Which
 
+#: What is said where the hop step decided, and not the distances.
+_STEP = (
+    "by its hop step, a route told by its own egress router goes before one passed on, "
+    "whatever the distances"
+)
+
 
 class Account(NamedTuple):
     """An explanation with all that was compared.
@@ -20,6 +26,10 @@ class Account(NamedTuple):
     `margin` is the first distance minus the second. What the explanation does not turn on is None;
     a distance is also None where there is no way. `reason` has all that in words. `nobody` says
     whether nobody is in the list.
+
+    `direct` says whether the egress router of the offer itself tells its route, as the own best
+    client always does; else the other router passes it on. `by_step` says whether the hop step of
+    the router decided, so that distances and margin did not.
     """
 
     router: str
@@ -32,6 +42,8 @@ class Account(NamedTuple):
     margin: int | None = None
     reason: str = ""
     nobody: bool = False
+    direct: bool | None = None
+    by_step: bool = False
 
     @property
     def relies(self) -> bool:
@@ -46,9 +58,14 @@ class Account(NamedTuple):
         return f"{self.router} {verb} on {other} ({self.explanation.words})"
 
     @property
+    def lines(self) -> list[str]:
+        """What the claim turns on and, if the hop step decided, what that is."""
+        return [self.reason, *[_STEP] * self.by_step]
+
+    @property
     def sentence(self) -> str:
         """The claim and what it turns on."""
-        return f"{self.claim}: {self.reason}"
+        return f"{self.claim}: {'; '.join(self.lines)}"
 
     def values(self) -> dict[str, object]:
         """The account as plain values."""
@@ -58,15 +75,18 @@ class Account(NamedTuple):
             "relies": self.relies,
             "rule" if self.relies else "reason": self.explanation.words,
             "code": self.explanation.code,
-            "offer": _route_values(self.offer, self.offer_distance),
-            "own": _route_values(self.own, self.own_distance),
+            "offer": _route_values(self.offer, self.offer_distance, self.direct),
+            "own": _route_values(self.own, self.own_distance, True),
             "margin": self.margin,
+            "by_step": self.by_step,
             "sentence": self.sentence,
         }
 
 
-def _route_values(egress: str | None, distance: int | None) -> dict[str, object] | None:
-    return None if egress is None else {"egress": egress, "distance": distance}
+def _route_values(
+    egress: str | None, distance: int | None, direct: bool | None
+) -> dict[str, object] | None:
+    return None if egress is None else {"egress": egress, "distance": distance, "direct": direct}
 
 
 def account(plan: Plan, egress_list: Which, router: Which, other: Which) -> Account:
@@ -74,7 +94,6 @@ def account(plan: Plan, egress_list: Which, router: Which, other: Which) -> Acco
     first, second = (plan.routers[plan.router_number(which)] for which in (router, other))
     explanation = plan.explain(egress_list, first, second)
     offer, own = _routes(plan, egress_list, first, second, explanation)
-    compared = offer is not None and own is not None
     found = Account(
         router=first,
         other=second,
@@ -83,10 +102,21 @@ def account(plan: Plan, egress_list: Which, router: Which, other: Which) -> Acco
         offer_distance=None if offer is None else plan.distance(first, offer),
         own=own,
         own_distance=None if own is None else plan.distance(first, own),
-        margin=plan.compare(first, offer, own).margin if compared else None,
         nobody=not plan.egresses(egress_list),
+        direct=None if offer is None else offer == second,
     )
+    if offer is not None and own is not None:
+        found = _compared(plan, found)
     return found._replace(reason=_REASONS[explanation.words](found))
+
+
+def _compared(plan: Plan, found: Account) -> Account:
+    """The account with the margin of the offer, and whether the hop step decides: it puts a route
+    that is passed on behind that of the own best client, unless both are of one egress."""
+    routes = found.router, found.offer, found.own
+    margin = plan.compare(*routes, found.direct, True).margin
+    passed_on = found.offer != found.own and not found.direct
+    return found._replace(margin=margin, by_step=passed_on and plan.has_hop_step(found.router))
 
 
 def _routes(
@@ -190,6 +220,8 @@ def _offer_not_better(found: Account) -> str:
     if found.offer == found.own:
         return f"{offer}, which is its own best client too (margin 0)"
     own = f"its own best client {found.own} at {found.own_distance}"
+    if found.by_step:
+        return f"{offer}, passed on, so not better here than {own} (margin {found.margin})"
     if found.margin == 0:
         return f"{offer}, as far as {own}, which has the lower identifier (margin 0)"
     return f"{offer}, farther than {own} (margin {found.margin})"

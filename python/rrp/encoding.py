@@ -21,9 +21,21 @@ _ANY_MARK = b"RRP"
 _NO_WAYS = {NARROW: NO_WAY, WIDE: NO_WAY_WIDE}
 _LETTERS = {NARROW: "H", WIDE: "I"}
 
+#: The roles. A skipping reflector does not reflect between its clients, and one with the hop step
+#: puts a route that its own egress router tells before one that is passed on.
 REFLECTOR = 1
 CLIENT = 2
 SKIPPING = 3
+HOP_STEP = 4
+SKIPPING_HOP_STEP = 5
+
+#: The role of a reflector, by whether it skips its clients and whether it has the hop step.
+REFLECTORS = {
+    (False, False): REFLECTOR,
+    (True, False): SKIPPING,
+    (False, True): HOP_STEP,
+    (True, True): SKIPPING_HOP_STEP,
+}
 
 #: The distances from each router to each other, None for no way.
 Rows = List[List[Optional[int]]]
@@ -40,6 +52,16 @@ class Model(NamedTuple):
     distances: Rows
     lists: list[list[int]]
     width: int = NARROW
+
+
+def skips(role: int) -> bool:
+    """Whether a role is that of a reflector that skips its clients."""
+    return role in (SKIPPING, SKIPPING_HOP_STEP)
+
+
+def has_step(role: int) -> bool:
+    """Whether a role is that of a reflector with the hop step."""
+    return role in (HOP_STEP, SKIPPING_HOP_STEP)
 
 
 def is_bytes(data: bytes) -> bool:

@@ -35,7 +35,7 @@ REFUSALS = {
     "(RRP1) or 24,923 (RRP2), or byte 5 is not 4; or it has the wrong mark to be converted",
     2: "the number of routers is 0 or above 64",
     3: "a kind, an offset or a length in the table of contents is wrong",
-    4: "a role is not 1, 2 or 3, or the identifiers do not rise strictly",
+    4: "a role is not 1 to 5, or the identifiers do not rise strictly",
     5: "a session is not two routers, the lower number first, or the sessions do not rise strictly",
     6: "the distance from a router to itself is not 0",
     7: "there are not 1 to 64 lists, the routers of each rising strictly, up to the plan's end",
@@ -63,8 +63,8 @@ class Refused(RrpError):
 
 
 class Compared(NamedTuple):
-    """Which of two egresses is better at a router: 1 the first, 2 the second, 0 neither. The
-    margin is the distance to the first minus that to the second, None where there is no way."""
+    """Which of two routes is better at a router: 1 the first, 2 the second, 0 neither. The margin
+    is the distance to the first egress minus that to the second, None where there is no way."""
 
     better: int
     margin: int | None
@@ -103,18 +103,19 @@ class Ran(NamedTuple):
     exhausted: bool
 
 
-_SIZE, _LONG = ctypes.c_size_t, ctypes.c_uint64
+_SIZE, _LONG, _FLAG = ctypes.c_size_t, ctypes.c_uint64, ctypes.c_uint8
 _FLAG_OUT, _LONG_OUT = ctypes.POINTER(ctypes.c_uint8), ctypes.POINTER(ctypes.c_uint64)
 _SIGNED_OUT = ctypes.POINTER(ctypes.c_int64)
 _BYTES = (ctypes.c_char_p, ctypes.c_size_t)
 _WHY_OUT = (_FLAG_OUT, _FLAG_OUT, _LONG_OUT, _FLAG_OUT, _LONG_OUT, _SIGNED_OUT)
+_COMPARED_OUT = (_FLAG_OUT, _FLAG_OUT, _SIGNED_OUT)
 
 #: The arguments of each function of the header. All return the refusal number.
 PROTOTYPES = {
     "rrp_check": _BYTES,
     "rrp_size": (*_BYTES, _LONG_OUT, _LONG_OUT),
     "rrp_list": (*_BYTES, _SIZE, _LONG_OUT, _LONG_OUT),
-    "rrp_compare": (*_BYTES, _SIZE, _SIZE, _SIZE, _FLAG_OUT, _FLAG_OUT, _SIGNED_OUT),
+    "rrp_compare": (*_BYTES, _SIZE, _SIZE, _SIZE, _FLAG, _FLAG, *_COMPARED_OUT),
     "rrp_relies": (*_BYTES, _SIZE, _SIZE, _SIZE, _FLAG_OUT),
     "rrp_explain": (*_BYTES, _SIZE, _SIZE, _SIZE, *_WHY_OUT),
     "rrp_verdict": (*_BYTES, _SIZE, *_BYTES, *_BYTES, *_BYTES, *_BYTES, _FLAG_OUT, _LONG_OUT),
@@ -126,6 +127,12 @@ PROTOTYPES = {
 }
 
 _BUILD = "build it with ./build at the root of the repository"
+
+#: A plan of one router, of role 4. A library from before the hop step refuses it, and is not to be
+#: called as this one is.
+_ROLE_4 = bytes.fromhex(
+    "52525031 01 04 01 1a00 0500 02 1f00 0000 03 1f00 0200 04 2100 0200 04 00000000 0000 01 00"
+)
 
 
 def places() -> list[str]:
@@ -166,6 +173,8 @@ def _open(path: str) -> ctypes.CDLL:
             raise LibraryMissing(f"{path} has no {name}: {_BUILD}")
         function.argtypes = arguments
         function.restype = ctypes.c_uint8
+    if loaded.rrp_check(_ROLE_4, len(_ROLE_4)):
+        raise LibraryMissing(f"{path} is older than this tool: {_BUILD}")
     return loaded
 
 
@@ -211,11 +220,14 @@ def egress_list(plan: bytes, egresses: int) -> bytes:
     return plan[start.value : start.value + count.value]
 
 
-def compare(plan: bytes, router: int, first: int, second: int) -> Compared:
-    """Which of two egresses is better at a router, and by how much (rrp_compare)."""
+def compare(
+    plan: bytes, router: int, first: int, second: int, first_direct: bool, second_direct: bool
+) -> Compared:
+    """Which of the routes of two egresses is better at a router, and how much farther the first
+    egress is (rrp_compare). A flag says that the egress router itself tells its route."""
     better, has_margin, margin = ctypes.c_uint8(), ctypes.c_uint8(), ctypes.c_int64()
-    numbers = _sizes(router, first, second)
-    _raise_if(library().rrp_compare(plan, len(plan), *numbers, better, has_margin, margin))
+    asked = *_sizes(router, first, second), bool(first_direct), bool(second_direct)
+    _raise_if(library().rrp_compare(plan, len(plan), *asked, better, has_margin, margin))
     return Compared(better.value, margin.value if has_margin.value else None)
 
 

@@ -6,7 +6,7 @@ import sys
 from argparse import Namespace
 from collections.abc import Iterable, Sequence
 
-from .encoding import CLIENT, WIDE
+from .encoding import CLIENT, WIDE, has_step
 from .errors import RrpError
 from .plan import Plan, Verdict
 
@@ -35,11 +35,12 @@ def write_notes(notes: Iterable[str]) -> None:
 
 
 def sizes(plan: Plan) -> dict[str, int]:
-    """How much a plan has of everything."""
+    """How much a plan has of everything. Those with the hop step are among the reflectors."""
     clients = plan.model.roles.count(CLIENT)
     return {
         "routers": len(plan.routers),
         "reflectors": len(plan.routers) - clients,
+        "hop_step_reflectors": sum(map(has_step, plan.model.roles)),
         "clients": clients,
         "sessions": len(plan.model.sessions),
         "lists": len(plan.lists),
@@ -59,8 +60,18 @@ def plan_line(plan: Plan) -> str:
 def sizes_line(plan: Plan) -> str:
     """A line on the sizes of a plan, without its mark."""
     counts = {name: count_words(count, name[:-1]) for name, count in sizes(plan).items()}
-    parts = f"{counts['routers']} ({counts['reflectors']}, {counts['clients']})"
+    parts = f"{counts['routers']} ({counts['reflectors']}{_step_words(plan)}, {counts['clients']})"
     return f"{plan.source}: {parts}, {counts['sessions']}, {counts['lists']}"
+
+
+def _step_words(plan: Plan) -> str:
+    """How many of the reflectors have the hop step, nothing if none has."""
+    reflectors, stepping = (sizes(plan)[name] for name in ("reflectors", "hop_step_reflectors"))
+    if stepping == 0:
+        return ""
+    if stepping < reflectors:
+        return f", {stepping} of them with the hop step"
+    return ", with the hop step" if reflectors == 1 else ", all with the hop step"
 
 
 def count_words(count: int, noun: str) -> str:

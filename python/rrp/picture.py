@@ -10,6 +10,7 @@ from .plan import Explanation, Plan, Verdict
 
 _LISTED = 'style=filled, fillcolor="#cfe8cf"'
 _CYCLE = "color=red, fontcolor=red, penwidth=2"
+_STEP = "peripheries=2"
 
 
 class Edge(NamedTuple):
@@ -40,8 +41,8 @@ def edges(plan: Plan, verdict: Verdict) -> list[Edge]:
 
 
 def graphviz(plan: Plan, verdict: Verdict) -> str:
-    """The text that Graphviz draws: reflectors as boxes, listed routers filled, the cycle red, the
-    routers of a rank in a row."""
+    """The text that Graphviz draws: reflectors as boxes, double ones with the hop step, listed
+    routers filled, the cycle red, the routers of a rank in a row."""
     title = [f"{verdict.name} is {verdict_words(verdict)}"]
     if verdict.nobody:
         title.append(nobody_words(verdict))
@@ -60,7 +61,10 @@ def _nodes(plan: Plan, verdict: Verdict) -> Iterator[str]:
     listed = set(plan.egresses(verdict.name))
     for router in plan.routers:
         shape = "box" if plan.role(router) == "reflector" else "ellipse"
-        attributes = [f"label={label([router])}", f"shape={shape}"]
+        step = plan.has_hop_step(router)
+        attributes = [f"label={label([router, *['hop step'] * step])}", f"shape={shape}"]
+        if step:
+            attributes.append(_STEP)
         if router in listed:
             attributes.append(_LISTED)
         if router in verdict.cycle:

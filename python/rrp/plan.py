@@ -46,7 +46,7 @@ _KEEP = (
     "is as far; never round, or a suspect list may look stable",
 )
 
-ROLES = {encoding.REFLECTOR: "reflector", encoding.CLIENT: "client", encoding.SKIPPING: "reflector"}
+ROLES = {encoding.CLIENT: "client", **dict.fromkeys(encoding.REFLECTORS.values(), "reflector")}
 
 
 class Verdict(NamedTuple):
@@ -102,8 +102,9 @@ class Explanation(NamedTuple):
 
 
 class Comparison(NamedTuple):
-    """Which of two egresses is better at a router, None if neither is. `margin` is the distance to
-    the first minus that to the second, None where the router has no way to one of them."""
+    """The egress of two whose route is better at a router, None if neither is. `margin` is the
+    distance to the first minus that to the second, None where the router has no way to one of them.
+    At a reflector with the hop step the better one may be the farther one."""
 
     better: str | None
     margin: int | None
@@ -255,7 +256,12 @@ class Plan:
 
     def skips_clients(self, router: Which) -> bool:
         """Whether a router is a reflector without reflection between its clients."""
-        return self.model.roles[self.router_number(router)] == encoding.SKIPPING
+        return encoding.skips(self.model.roles[self.router_number(router)])
+
+    def has_hop_step(self, router: Which) -> bool:
+        """Whether a router is a reflector with the hop step: there a route that its own egress
+        router tells is better than one that is passed on, whatever the distances."""
+        return encoding.has_step(self.model.roles[self.router_number(router)])
 
     def identifier(self, router: Which) -> int:
         """The identifier of a router. The first byte of an IPv4 address is the most significant."""
@@ -293,10 +299,24 @@ class Plan:
 
     # What the library answers
 
-    def compare(self, router: Which, first: Which, second: Which) -> Comparison:
-        """Which of two egress routers is better at a router, and by how much."""
+    def compare(
+        self,
+        router: Which,
+        first: Which,
+        second: Which,
+        first_direct: bool,
+        second_direct: bool,
+    ) -> Comparison:
+        """Which of the routes of two egress routers is better at a router, and how much farther
+        the first egress is.
+
+        A flag says that the egress router itself tells its route, and that no reflector passes it
+        on. Of what a router holds that is so exactly if sender and egress are the same. It counts
+        at reflectors with the hop step alone.
+        """
         egresses = self.router_number(first), self.router_number(second)
-        answer = library.compare(self.data, self.router_number(router), *egresses)
+        asked = self.router_number(router), *egresses, first_direct, second_direct
+        answer = library.compare(self.data, *asked)
         better = self.routers[egresses[answer.better - 1]] if answer.better else None
         return Comparison(better, answer.margin)
 

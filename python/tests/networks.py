@@ -13,7 +13,8 @@ def random_network(
     draw: random.Random, nearest: int = 0, width: int = encoding.NARROW
 ) -> Plan:
     """A few reflectors in a mesh, each with some clients, and distances that are often equal: the
-    nearest one given and up to 12 more. At times nobody is in a list."""
+    nearest one given and up to 12 more. At times nobody is in a list. Of some plans a few
+    reflectors have the hop step, or all."""
     reflectors = draw.randint(2, 4)
     count = reflectors + draw.randint(reflectors, 6)
     sessions = set(combinations(range(reflectors), 2))
@@ -23,7 +24,7 @@ def random_network(
     clients = range(reflectors, count)
     sessions.update(pair for pair in combinations(clients, 2) if draw.random() < 0.1)
     model = encoding.Model(
-        roles=[draw.choice([1, 1, 3]) for _ in range(reflectors)] + [2] * len(clients),
+        roles=_reflector_roles(draw, reflectors) + [encoding.CLIENT] * len(clients),
         identifiers=list(range(count)),
         sessions=sorted(sessions),
         distances=[
@@ -33,6 +34,12 @@ def random_network(
         width=width,
     )
     return Plan(encoding.encode(model))
+
+
+def _reflector_roles(draw: random.Random, count: int) -> list[int]:
+    stepping = draw.choice([0.0, 0.0, 0.3, 0.3, 1.0])
+    kinds = [(draw.random() < 1 / 3, draw.random() < stepping) for _ in range(count)]
+    return [encoding.REFLECTORS[kind] for kind in kinds]
 
 
 def _way(draw: random.Random, nearest: int) -> int | None:
@@ -48,9 +55,9 @@ def _members(draw: random.Random, reflectors: int, clients: range) -> list[int]:
 
 def random_table(plan: Plan, egress_list: str, draw: random.Random) -> Table:
     """A table with left-over routes."""
-    table = plan.empty_table(egress_list)
-    for router in set(plan.routers) - set(plan.egresses(egress_list)):
-        neighbours = plan.neighbours(router)
+    table, listed = plan.empty_table(egress_list), plan.egresses(egress_list)
+    for router in plan.routers:
+        neighbours = () if router in listed else plan.neighbours(router)
         if neighbours and draw.random() < 0.8:
             route = Route(draw.choice(plan.routers), draw.choice(neighbours))
             table = table.with_route(router, route)

@@ -20,6 +20,7 @@ BUNDLED = (
     f"{STORED_PLANS}/no-way-from-0-to-3.plan",
     f"{STORED_PLANS}/cycle-of-four.plan",
     f"{STORED_PLANS}/role-3.plan",
+    f"{EXAMPLES}/hop.rrp",
 )
 
 
@@ -60,9 +61,14 @@ class Accounts(unittest.TestCase):
         if found.margin is not None:
             self.assertEqual(found.margin, found.offer_distance - found.own_distance)
             self.assertIn(f"(margin {found.margin})", found.sentence)
-            comparison = plan.compare(found.router, found.offer, found.own)
+            comparison = plan.compare(found.router, found.offer, found.own, found.direct, True)
             better = found.offer if found.relies else found.own
-            self.assertIn(comparison.better, (better, None))
+            due = None if found.offer == found.own else better
+            self.assertEqual((comparison.better, comparison.margin), (due, found.margin))
+        if found.offer is not None:
+            passed_on = plan.role(found.other) == "reflector"
+            passed_on = passed_on and found.other not in plan.egresses(name)
+            self.assertEqual(found.direct, not passed_on)
 
     def test_best_client(self) -> None:
         net = Plan.read(f"{EXAMPLES}/net.rrp")

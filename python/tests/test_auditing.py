@@ -211,7 +211,8 @@ class Told(InFolder):
     """What is told of all plans, and of each that is not right."""
 
     def test_lists_are_counted(self) -> None:
-        for name in ("cycle-of-four", "role-3", "no-way-from-0-to-3", "refused-4-role-4", "empty"):
+        refused = "refused-5-session-with-itself"
+        for name in ("cycle-of-four", "role-3", "no-way-from-0-to-3", refused, "empty"):
             self.copy(f"{STORED_PLANS}/{name}.plan")
             write(f"{name}.plan.verdict", verdict_of(f"{name}.plan"))
         answer = rrp("audit", ".")

@@ -91,6 +91,11 @@ class Calls(unittest.TestCase):
             order = ORDERS[1] if name == "rrp_distances" else ORDERS[0]
             self.assertEqual(numbers, [number for number in order if number in numbers], name)
 
+    def test_flags(self) -> None:
+        sentence = "A flag handed in counts as yes if it is not 0."
+        for text in (PAGE, words(HEADER), read(f"{ROOT}/docs/EMBEDDING.md")):
+            self.assertEqual(" ".join(text.split()).count(sentence), 1)
+
     def test_rules_and_reasons(self) -> None:
         told = [(number, name) for number, name, _ in rows("explain")]
         known = [*members("rrp_rule"), *members("rrp_reason")]

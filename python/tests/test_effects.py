@@ -27,7 +27,8 @@ NOT_COMPARED = "routes are not compared: a suspect list has no settled table"
 
 
 def varied(plan: Plan, draw: random.Random) -> Plan:
-    """The plan with a few other distances, a session less, or another list, perhaps of nobody."""
+    """The plan with a few other distances, a session less, a reflector of another role, or another
+    list, perhaps of nobody."""
     model = encoding.decode(plan.data)
     routers = range(len(model.roles))
     for _ in range(draw.choice([0, 1, 3])):
@@ -35,6 +36,9 @@ def varied(plan: Plan, draw: random.Random) -> Plan:
         model.distances[start][end] = draw.choice([None, *range(12)])
     if draw.random() < 0.3:
         model.sessions.remove(draw.choice(model.sessions))
+    if draw.random() < 0.3:
+        reflectors = [each for each in routers if model.roles[each] != encoding.CLIENT]
+        model.roles[draw.choice(reflectors)] = draw.choice([*encoding.REFLECTORS.values()])
     if draw.random() < 0.3:
         model.lists[0] = sorted(draw.sample(routers, draw.choice([0, 2, 2, 2])))
     return Plan(encoding.encode(model), plan.routers, plan.lists)
@@ -134,7 +138,8 @@ class Command(unittest.TestCase):
         return {each.pop("list"): each for each in answer["lists"]}
 
     def test_the_text_has_the_facts_of_the_json(self) -> None:
-        for change in ("link lon-b man-a none", "session lon-rr man-a none", "list peering lon-a"):
+        changes = ["link lon-b man-a none", "session lon-rr man-a none", "list peering lon-a"]
+        for change in [*changes, "reflector par-rr hop-step", "reflector fra-rr hop-step"]:
             text = rrp("check", NET, "--set", change).output
             plan, changed = self.plans(change)
             for name, values in self.judged(change).items():

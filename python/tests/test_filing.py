@@ -48,7 +48,7 @@ class Filing(InFolder):
     def test_status(self) -> None:
         stable, suspect, refused = (
             self.copy(f"{STORED_PLANS}/{name}.plan")
-            for name in ("no-way-from-0-to-3", "cycle-of-four", "refused-4-role-4")
+            for name in ("no-way-from-0-to-3", "cycle-of-four", "refused-5-session-with-itself")
         )
         self.assertEqual(rrp("file", stable).status, 0)
         self.assertEqual(rrp("file", stable, suspect).status, 1)

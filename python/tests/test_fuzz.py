@@ -24,22 +24,23 @@ from .support import EXAMPLES, FAULT, STORED_PLANS, TESTS, Answer, rrp
 COUNT = int(os.environ.get("RRP_FUZZ", "600"))
 
 _WORDS = (
-    "reflector client mesh session link distance list wide of none no-client-reflection > # - 0 1 "
-    "64 65534 65535 65536 4294967294 4294967295 4294967296 10.0.0.1 0.0.0.0 lon-rr par-rr lon-a "
-    "par-a r0 r1 l0 transit gone é \u2028 \x85 \x00 \x1b[1m \ufeff 999999999999999999999"
+    "reflector client mesh session link distance list wide of none no-client-reflection hop-step > "
+    "# - 0 1 64 65534 65535 65536 4294967294 4294967295 4294967296 10.0.0.1 0.0.0.0 lon-rr par-rr "
+    "lon-a par-a r0 r1 l0 transit gone é \u2028 \x85 \x00 \x1b[1m \ufeff 999999999999999999999"
 ).split(" ")
 
 
 def corpus() -> list[bytes]:
     """What the inputs are made of: examples, all stored errors, plans in bytes of both marks."""
-    paths = [f"{EXAMPLES}/{name}" for name in ("net.rrp", "wide.rrp", "gone.rrp", "m3.plan")]
+    examples = ("net.rrp", "wide.rrp", "gone.rrp", "hop.rrp", "m3.plan")
+    paths = [f"{EXAMPLES}/{name}" for name in examples]
     paths += [*glob.glob(f"{TESTS}/errors/*.rrp"), *glob.glob(f"{STORED_PLANS}/*.plan")]
     inputs = []
     for path in sorted(paths):
         with open(path, "rb") as file:
             inputs.append(file.read())
     plans = [data for data in inputs if data.startswith(b"RRP1") and library.refusal(data) == 0]
-    packed = [Plan.read(f"{EXAMPLES}/{name}").data for name in ("wide.rrp", "gone.rrp")]
+    packed = [Plan.read(f"{EXAMPLES}/{name}").data for name in ("wide.rrp", "gone.rrp", "hop.rrp")]
     return [*inputs, *map(library.widen, plans), *packed]
 
 
@@ -61,9 +62,12 @@ def damaged(data: bytes, draw: random.Random) -> bytes:
 
 
 def random_line(draw: random.Random) -> str:
-    """A line of words that plans have, at times a list of nobody."""
+    """A line of words that plans have, at times a list of nobody or a reflector's role."""
     if draw.random() < 0.1:
         return f"\nlist {draw.choice(_WORDS)}\n"
+    if draw.random() < 0.1:
+        words = draw.sample(["hop-step", "no-client-reflection", draw.choice(_WORDS)], k=2)
+        return " ".join(["\nreflector", draw.choice(["lon-rr", "fra-rr", "r0"]), *words, "\n"])
     return "\n" + " ".join(draw.choices(_WORDS, k=draw.randint(1, 6))) + "\n"
 
 

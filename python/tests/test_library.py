@@ -8,6 +8,7 @@ import os
 import re
 import unittest
 from collections.abc import Callable
+from itertools import product
 from unittest import mock
 
 from rrp import library
@@ -21,6 +22,7 @@ _KINDS = {
     "uint64_t *": [ctypes.POINTER(ctypes.c_uint64)],
     "int64_t *": [ctypes.POINTER(ctypes.c_int64)],
     "size_t ": [ctypes.c_size_t],
+    "uint8_t ": [ctypes.c_uint8],
     "uint64_t ": [ctypes.c_uint64],
 }
 
@@ -70,8 +72,8 @@ class Calls(unittest.TestCase):
         plan = self.plan
         self.assertEqual(library.size(plan), (4, 2))
         self.assertEqual(library.egress_list(plan, 0), b"\2\3")
-        self.assertEqual(library.compare(plan, 0, 3, 2), (1, -4))
-        self.assertEqual(library.compare(plan, 0, 2, 3), (2, 4))
+        self.assertEqual(library.compare(plan, 0, 3, 2, False, True), (1, -4))
+        self.assertEqual(library.compare(plan, 0, 2, 3, True, False), (2, 4))
         self.assertTrue(library.relies(plan, 0, 0, 1))
         self.assertFalse(library.relies(plan, 0, 2, 0))
         verdict = library.verdict(plan, 0)
@@ -92,6 +94,26 @@ class Calls(unittest.TestCase):
         self.assertEqual(library.egress_list(plan, 0), b"")
         nothing = (True, 1, b"\0\1\2\3", b"\0\0\1\1", bytes([255] * 8), b"")
         self.assertEqual([library.verdict(plan, number) for number in (0, 2)], [nothing] * 2)
+
+    def test_roles(self) -> None:
+        self.assertEqual(library._ROLE_4[26], 4)
+        for role in range(256):
+            plan = self.plan[:26] + bytes([role]) + self.plan[27:]
+            self.assertEqual(library.refusal(plan), 0 if 1 <= role <= 5 else 4, role)
+
+    def test_the_hop_step(self) -> None:
+        plan = self.plan[:26] + b"\4" + self.plan[27:]
+        flags = list(product((False, True), (False, True)))
+        near, far = (1, -4), (2, -4)
+        answers = [library.compare(plan, 0, 3, 2, *each) for each in flags]
+        self.assertEqual(answers, [near, far, near, near])
+        self.assertEqual(library.compare(plan, 0, 3, 2, 256, 256), near)
+        self.assertEqual(library.compare(plan, 0, 3, 2, 0, 256), far)
+        for each in flags:
+            self.assertEqual(library.compare(plan, 0, 2, 2, *each), (0, 0))
+            self.assertEqual(library.compare(plan, 1, 3, 2, *each), (2, 4))
+        stable = (True, 2, b"\0\1\2\3", b"\1\2\0\0", bytes([2, 2, 2, 0, 2, 2, 3, 3]), b"")
+        self.assertEqual(library.verdict(plan, 0), stable)
 
     def test_tables(self) -> None:
         start = bytes([255] * 4 + [2, 2, 3, 3])
@@ -114,6 +136,7 @@ class Calls(unittest.TestCase):
             (8, lambda: library.egress_list(self.plan, -1)),
             (8, lambda: library.egress_list(self.plan, 2**64)),
             (8, lambda: library.relies(self.plan, 0, 4, 0)),
+            (8, lambda: library.compare(self.plan, 0, 1, 4, True, True)),
             (8, lambda: library.verdict(self.plan, 2)),
             (9, lambda: library.activate(self.plan, 0, 0, b"")),
             (10, lambda: library.activate(self.plan, 0, 0, bytes(8))),
@@ -180,8 +203,11 @@ class Conversions(unittest.TestCase):
 
     def test_margins(self) -> None:
         far = self.with_words("00000000", "feffffff", "00000000")
-        self.assertEqual(library.compare(far, 0, 2, 3), (2, 4294967294))
-        self.assertEqual(library.compare(far, 0, 3, 2), (1, -4294967294))
+        self.assertEqual(library.compare(far, 0, 2, 3, True, True), (2, 4294967294))
+        self.assertEqual(library.compare(far, 0, 3, 2, True, True), (1, -4294967294))
+        far = far[:26] + b"\4" + far[27:]
+        self.assertEqual(library.compare(far, 0, 2, 3, True, False), (1, 4294967294))
+        self.assertEqual(library.compare(far, 0, 3, 2, False, True), (2, -4294967294))
 
 
 class Missing(unittest.TestCase):
@@ -205,6 +231,12 @@ class Missing(unittest.TestCase):
         self.assertIn("RRP_LIBRARY is /no/c.so", self.report([], RRP_LIBRARY="/no/c.so"))
         self.assertIn("cannot be loaded", self.report([], RRP_LIBRARY=f"{EXAMPLES}/m3.plan"))
         self.assertIn("has no rrp_check", self.report([], RRP_LIBRARY=_ctypes.__file__))
+
+    def test_older(self) -> None:
+        role_6 = library._ROLE_4[:26] + b"\6" + library._ROLE_4[27:]
+        with mock.patch.object(library, "_ROLE_4", role_6):
+            said = self.report(library.places(), **dict(os.environ))
+        self.assertIn("librrp.so is older than this tool: build it with ", said)
 
 
 if __name__ == "__main__":

@@ -25,6 +25,7 @@ class ByName(unittest.TestCase):
         self.assertEqual((net.role("lon-rr"), net.role("lon-a")), ("reflector", "client"))
         self.assertTrue(net.skips_clients("fra-rr"))
         self.assertFalse(net.skips_clients("lon-rr"))
+        self.assertFalse(any(map(net.has_hop_step, net.routers)))
         self.assertEqual(net.identifier("lon-a"), 10 * 2**24 + 257)
         self.assertEqual(net.neighbours("mrs-a"), ("lon-rr", "par-rr"))
         self.assertEqual(net.egresses("peering"), ("lon-b", "fra-b"))
@@ -67,12 +68,14 @@ class ByName(unittest.TestCase):
         self.assertEqual((verdict.cycle, verdict.groups), ((), ()))
 
     def test_comparison(self) -> None:
-        answer = self.m3.compare("r0", "r3", "r2")
-        self.assertEqual((answer.better, answer.margin), ("r3", -4))
-        same = self.m3.compare(0, 2, 2)
-        self.assertEqual((same.better, same.margin), (None, 0))
-        cut = Plan.read(f"{STORED_PLANS}/no-way-from-0-to-3.plan").compare(0, 3, 2)
-        self.assertEqual((cut.better, cut.margin), ("r2", None))
+        cut = Plan.read(f"{STORED_PLANS}/no-way-from-0-to-3.plan")
+        for flags in product((False, True), (False, True)):
+            answer = self.m3.compare("r0", "r3", "r2", *flags)
+            self.assertEqual((answer.better, answer.margin), ("r3", -4))
+            same = self.m3.compare(0, 2, 2, *flags)
+            self.assertEqual((same.better, same.margin), (None, 0))
+            none = cut.compare(0, 3, 2, *flags)
+            self.assertEqual((none.better, none.margin), ("r2", None))
 
     def test_reliance(self) -> None:
         self.assertTrue(self.net.relies("transit", "lon-rr", "par-rr"))

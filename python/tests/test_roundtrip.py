@@ -40,7 +40,7 @@ def random_model(draw: random.Random) -> encoding.Model:
     count, width = draw.choice([1, 2, 3, 5, 9, 16]), draw.choice([encoding.NARROW, encoding.WIDE])
     most = encoding.longest(draw.choice([encoding.NARROW, width]))
     pairs = list(combinations(range(count), 2))
-    roles = [draw.choice([1, 2, 2, 3]) for _ in range(count)]
+    roles = [draw.choice([1, 2, 2, 2, 3, 4, 5]) for _ in range(count)]
     sessions = sorted(draw.sample(pairs, draw.randint(0, len(pairs))))
     return encoding.Model(
         roles=roles,
@@ -111,12 +111,14 @@ def rough_text(model: encoding.Model, draw: random.Random) -> str:
 def rough_router(
     model: encoding.Model, names: list[str], number: int, draw: random.Random
 ) -> str:
-    """The statement of a router, its identifier as a number or as an address."""
-    kind = {1: "reflector", 2: "client", 3: "reflector"}[model.roles[number]]
-    identifier = model.identifiers[number]
+    """The statement of a router, its identifier as a number or as an address, the words after it in
+    any order."""
+    role, identifier = model.roles[number], model.identifiers[number]
     address = ".".join(map(str, identifier.to_bytes(4, "big")))
-    tail = " no-client-reflection" if model.roles[number] == 3 else ""
-    return f"{kind} {names[number]} {draw.choice([identifier, address])}{tail}"
+    skips, step = ["no-client-reflection"] * (role in (3, 5)), ["hop-step"] * (role in (4, 5))
+    words = draw.sample([*skips, *step], len([*skips, *step]))
+    kind = "client" if role == 2 else "reflector"
+    return " ".join([kind, names[number], str(draw.choice([identifier, address])), *words])
 
 
 def least_sums(count: int, links: dict[tuple[int, int], int]) -> list[list[int | None]]:
@@ -164,9 +166,10 @@ class RoundTrip(unittest.TestCase):
             self.assertEqual("".join(f"{line}\n" for line in lines), read(f"{path[:-5]}.expected"))
 
     def test_random_models(self) -> None:
-        draw, kinds, nobody = random.Random(4456), set(), set()
+        draw, kinds, nobody, roles = random.Random(4456), set(), set(), set()
         for number in range(300):
             model = random_model(draw)
+            roles.update(model.roles)
             kinds.add((model.width, encoding.width_for(model.distances)))
             nobody |= places_of_nobody(model)
             data = encoding.encode(model)
@@ -177,6 +180,7 @@ class RoundTrip(unittest.TestCase):
             self.assertEqual(Plan.parse(rough_text(model, draw)).data, data, number)
         self.assertEqual(kinds, {(2, 2), (4, 2), (4, 4)})
         self.assertEqual(nobody, {"alone", "first", "between", "last"})
+        self.assertEqual(roles, {1, 2, 3, 4, 5})
 
     def converts(self, plan: Plan, what: object) -> bool:
         """Whether a plan has one of the other mark. That is then the same in all else, and leads

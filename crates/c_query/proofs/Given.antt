@@ -23,7 +23,7 @@ use Rattle.call_query.specs.Size.{sizeRouters, sizeLists, Sizes}
 use Rattle.plan_rules.proofs.Refused.{when-refused, when-given}
 use Rattle.call_verdict.proofs.Judging.{kept}
 use Rattle.plan_rules.specs.EgressLists.{SpanOf}
-use Rattle.c_rules.specs.Exports.{SizeExport, ListExport, CompareExport, ReliesExport}
+use Rattle.c_rules.specs.Exports.{saysYes, SizeExport, ListExport, CompareExport, ReliesExport}
 use Rattle.c_rules.proofs.Written.{wrote, written, refused-by, cond-answers}
 
 module _ (plan : List ℕ) (r : SizeAnswer) (call : Sizes plan r) (routers lists : ℕ) where
@@ -58,13 +58,14 @@ abbrev compareRefuses : CompareAnswer → ℕ
 compareRefuses (compares.Refused number) = 1
 compareRefuses (compares.Compared preferred margin) = 0
 
-module _ (plan : List ℕ) (w e f : ℕ) (r : CompareAnswer) (call : Compares plan w e f r) (better present : ℕ) (margin : ℤ) where
-  compared-answers : compareRefuses (compared plan w e f) ≡ 0
+module _ (plan : List ℕ) (w e d f d' : ℕ) (r : CompareAnswer) (call : Compares plan w e (saysYes d) f (saysYes d') r)
+    (better present : ℕ) (margin : ℤ) where
+  compared-answers : compareRefuses (compared plan w e (saysYes d) f (saysYes d')) ≡ 0
   unfolding compared
   compared-answers = refl
 
   pub compare-refused : (number : ℕ) → r ≡ compares.Refused number
-      → CompareExport plan w e f number (kept better) (kept present) (kept margin)
+      → CompareExport plan w e d f d' number (kept better) (kept present) (kept margin)
   compare-refused number is =
       let n : compareRefusal plan w e f ≡ 0 → ⊥ =
       refused-by compareRefuses _ r _ _ (call .answer) (ap compareRefuses is) compared-answers in
@@ -78,7 +79,7 @@ module _ (plan : List ℕ) (w e f : ℕ) (r : CompareAnswer) (call : Compares pl
   pub compare-given : (preferred : Preferred) (found : Margin) → r ≡ compares.Compared preferred found
       → (better′ present′ : ℕ) (margin′ : ℤ)
       → better′ ≡ preferredNumber preferred → present′ ≡ flag (marginPresent found) → margin′ ≡ marginValue found
-      → CompareExport plan w e f 0 (wrote better better′) (wrote present present′) (wrote margin margin′)
+      → CompareExport plan w e d f d' 0 (wrote better better′) (wrote present present′) (wrote margin margin′)
   compare-given preferred found is better′ present′ margin′ b p m =
       let n : compareRefusal plan w e f ≡ 0 = sym (call .number) ∙ ap compareNumber is in
       record {

@@ -73,13 +73,18 @@ pub fn compare(
     router: usize,
     first: usize,
     second: usize,
+    first_direct: u8,
+    second_direct: u8,
     better: &mut u8,
     has_margin: &mut u8,
     margin: &mut i64,
 ) -> u8
-    ensures { λ r. ⌜ CompareExport (now (plan .entry)) router first second r (lent better) (lent «has_margin») (lent margin) ⌝ }
+    ensures { λ r. ⌜ CompareExport (now (plan .entry)) router first «first_direct» second «second_direct» r
+        (lent better) (lent «has_margin») (lent margin) ⌝ }
 {
-    let answer = checker::compare::compare(plan, router, first, second);
+    let first_told = first_direct != 0;
+    let second_told = second_direct != 0;
+    let answer = checker::compare::compare(plan, router, first, second, first_told, second_told);
     match answer {
         CompareAnswer::Refused(number) => {
             return number;

@@ -18,7 +18,7 @@ use Rattle.links_rules.specs.Sheet.{linkOk, sheetOk}
 use Rattle.links_rules.specs.Sums.{direct, summing}
 use Rattle.links_rules.specs.Distances.{sumsOk, distancesRefusal, sheetBody, distancesAfter}
 use Rattle.net_rules.specs.FromPlan.{named}
-use Rattle.route_rules.specs.Preference.{prefers, better, marginOf}
+use Rattle.route_rules.specs.Preference.{nearer, hasStep, hops, prefers, prefersBy, better, marginOf}
 use Rattle.route_rules.specs.Reliance.{listedClientOf, bestClient, offer, betterOffer, relies}
 use Rattle.route_rules.specs.Activation.{reflects, advertises, hears, senderOf, routeTo, choice, choose, entryOk, tableOk}
 use Rattle.route_rules.specs.Rounds.{acted, roundsFrom, rounds}
@@ -48,7 +48,7 @@ unfolding
     tableChecks sequenceOk activateRefusal activateTable runRefusal runApplied runRounds runExhausted runTable
     readRoute tableOf tableBytes activateBytes runBytes chooseAll chosenAfter settledTable start next walk metAgainAt metFirstAt repeatedPart cycleIn cycle
     rankOver ranksByChains rank together label stable grouped closing acted roundsFrom rounds
-    reflects advertises hears senderOf routeTo choice choose entryOk tableOk listedClientOf bestClient offer betterOffer relies prefers better marginOf
+    reflects advertises hears senderOf routeTo choice choose entryOk tableOk listedClientOf bestClient offer betterOffer relies nearer hasStep hops prefers prefersBy better marginOf
     pairs inSession named refuse bodyChecks planChecks planRefusal
     markOk headerOk routerCountOk kindsOk placesOk sizesOk contentsOk routerOk routersOk sessionOk sessionsOk
     parentCount fewParents parentsOk count distancesOk
@@ -66,6 +66,12 @@ export-examples =
       secondBetter = λ r b p m e. (e .number, e .compared, e .flagged, e .measured);
       neitherBetter = λ r b p m e. (e .number, e .compared, e .flagged, e .measured);
       noMargin = λ r b p m e. (e .number, e .compared, e .flagged, e .measured);
+      firstTold = λ r b p m e. (e .number, e .compared, e .flagged, e .measured);
+      secondTold = λ r b p m e. (e .number, e .compared, e .flagged, e .measured);
+      withoutTheStep = λ r b p m e. (e .number, e .compared, e .flagged, e .measured);
+      flag2IsYes = λ r b p m e. (e .number, e .compared, e .flagged, e .measured);
+      flag255IsYes = λ r b p m e. (e .number, e .compared, e .flagged, e .measured);
+      flags1And255AreAlike = λ r b p m e. (e .number, e .compared, e .flagged, e .measured);
       relies = λ r v e. (e .number, e .answered);
       reliesNot = λ r v e. (e .number, e .answered);
       betterOffer = λ r a c o p n m e. (e .number, e .answered, e .coded, e .offer, e .compared, e .owned, e .measured);

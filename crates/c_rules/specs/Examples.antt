@@ -5,7 +5,7 @@ use Prim.Native.Nat.{ℕ}
 use mathlib.Core.Path.{_≡_}
 use mathlib.Core.List.{List, [], _∷_, _++_}
 use lib.IntN.{ℤ, pos, negℤ}
-use lib.ListN.{replicate}
+use lib.ListN.{set, replicate}
 use Rattle.base.specs.Lent.{Lent}
 use Rattle.plan_examples.specs.Plans.{M3Plan, M3WithNobody, nobodyBetween}
 use Rattle.plan_rules.specs.ConvertedExamples.{withNarrow, withWide}
@@ -28,6 +28,10 @@ twoRouters =
     ∷ 7 ∷ 0 ∷ 0 ∷ 0
     ∷ 1 ∷ 1 ∷ 1
     ∷ []
+
+-- M3's plan with role 4 for router 0
+abbrev pub stepping : List ℕ
+stepping = set M3Plan 26 4
 
 -- a buffer that holds `before` when it is lent and `after` when the call returns
 abbrev pub from : List ℕ → List ℕ → Lent (List ℕ)
@@ -53,6 +57,12 @@ links = 0 ∷ 1 ∷ 1 ∷ 0 ∷ 0 ∷ 2 ∷ 9 ∷ 0 ∷ 1 ∷ 2 ∷ 2 ∷ 0 ∷ 
 
 abbrev pub nineteen : List ℕ
 nineteen = 9 ∷ 9 ∷ 9 ∷ 9 ∷ 9 ∷ 9 ∷ 9 ∷ 9 ∷ 9 ∷ 9 ∷ 9 ∷ 9 ∷ 9 ∷ 9 ∷ 9 ∷ 9 ∷ 9 ∷ 9 ∷ 9 ∷ []
+
+-- rrp_compare, called with these flags, returns 0 and leaves these numbers in its three variables
+abbrev pub ComparedAs : (plan : List ℕ) (w e d f d' : ℕ) (b p : ℕ) (m : ℤ) → Type 0
+ComparedAs plan w e d f d' b p m =
+    (r : ℕ) (better present : Lent ℕ) (margin : Lent ℤ) → CompareExport plan w e d f d' r better present margin
+    → (r ≡ 0) × (better .after ≡ b) × (present .after ≡ p) × (margin .after ≡ m)
 
 -- rrp_explain, called on M3's plan, returns r and leaves these numbers in its six variables
 abbrev pub Explained : (k w v r : ℕ) (a b c d e : ℕ) (m : ℤ) → Type 0
@@ -81,15 +91,19 @@ pub record ExportExamples : Type 0 where
   pub refusedAfterNobody : (r : ℕ) (start count : Lent ℕ) → ListExport nobodyBetween 3 r start count
       → (r ≡ 8) × (start .after ≡ start .before) × (count .after ≡ count .before)
   -- from router 0 it is 6 to router 3 and 10 to router 2
-  pub firstBetter : (r : ℕ) (better present : Lent ℕ) (margin : Lent ℤ) → CompareExport M3Plan 0 3 2 r better present margin
-      → (r ≡ 0) × (better .after ≡ 1) × (present .after ≡ 1) × (margin .after ≡ negℤ (pos 4))
-  pub secondBetter : (r : ℕ) (better present : Lent ℕ) (margin : Lent ℤ) → CompareExport M3Plan 0 2 3 r better present margin
-      → (r ≡ 0) × (better .after ≡ 2) × (present .after ≡ 1) × (margin .after ≡ pos 4)
-  pub neitherBetter : (r : ℕ) (better present : Lent ℕ) (margin : Lent ℤ) → CompareExport M3Plan 0 3 3 r better present margin
-      → (r ≡ 0) × (better .after ≡ 0) × (present .after ≡ 1) × (margin .after ≡ pos 0)
+  pub firstBetter : ComparedAs M3Plan 0 3 1 2 1 1 1 (negℤ (pos 4))
+  pub secondBetter : ComparedAs M3Plan 0 2 1 3 1 2 1 (pos 4)
+  pub neitherBetter : ComparedAs M3Plan 0 3 1 3 1 0 1 (pos 0)
   -- router 0 has a way to itself and none to router 1
-  pub noMargin : (r : ℕ) (better present : Lent ℕ) (margin : Lent ℤ) → CompareExport twoRouters 0 0 1 r better present margin
-      → (r ≡ 0) × (better .after ≡ 1) × (present .after ≡ 0) × (margin .after ≡ pos 0)
+  pub noMargin : ComparedAs twoRouters 0 0 1 1 1 1 0 (pos 0)
+  -- with role 4, router 0 prefers 2, told by itself, to 3, passed on; with role 1 it does not. Misread with the flags exchanged: 2, 2, 1
+  pub firstTold : ComparedAs stepping 0 2 1 3 0 1 1 (pos 4)
+  pub secondTold : ComparedAs stepping 0 3 0 2 1 2 1 (negℤ (pos 4))
+  pub withoutTheStep : ComparedAs M3Plan 0 2 1 3 0 2 1 (pos 4)
+  -- A flag handed in counts as yes if it is not 0. Misread as yes if it is 1: 2, 1, 1
+  pub flag2IsYes : ComparedAs stepping 0 2 2 3 0 1 1 (pos 4)
+  pub flag255IsYes : ComparedAs stepping 0 3 0 2 255 2 1 (negℤ (pos 4))
+  pub flags1And255AreAlike : ComparedAs stepping 0 2 1 3 255 2 1 (pos 4)
   -- for list 2,3 reflector 0 relies on its client 2, and 2, which is listed, on no one
   pub relies : (r : ℕ) (relied : Lent ℕ) → ReliesExport M3Plan 0 0 2 r relied → (r ≡ 0) × (relied .after ≡ 1)
   pub reliesNot : (r : ℕ) (relied : Lent ℕ) → ReliesExport M3Plan 0 2 0 r relied → (r ≡ 0) × (relied .after ≡ 0)
@@ -110,7 +124,7 @@ pub record ExportExamples : Type 0 where
       → (r ≡ 1) × (routers .after ≡ routers .before) × (lists .after ≡ lists .before)
   pub refusedList : (r : ℕ) (start count : Lent ℕ) → ListExport M3Plan 3 r start count
       → (r ≡ 8) × (start .after ≡ start .before) × (count .after ≡ count .before)
-  pub refusedCompare : (r : ℕ) (better present : Lent ℕ) (margin : Lent ℤ) → CompareExport M3Plan 0 2 4 r better present margin
+  pub refusedCompare : (r : ℕ) (better present : Lent ℕ) (margin : Lent ℤ) → CompareExport M3Plan 0 2 1 4 0 r better present margin
       → (r ≡ 8) × (better .after ≡ better .before) × (present .after ≡ present .before) × (margin .after ≡ margin .before)
   pub refusedRelies : (r : ℕ) (relied : Lent ℕ) → ReliesExport M3Plan 0 0 4 r relied → (r ≡ 8) × (relied .after ≡ relied .before)
   -- list 2,3: suspect, a cycle of two routers, 0 and 1

@@ -1,8 +1,10 @@
 -- The public calls as C sees them: the returned number r is the call's refusal, and every variable and buffer that a pointer reaches is
 -- given before the call and after it.
 use Prim.Native.Nat.{ℕ}
+use mathlib.Core.Bool.{Bool, not}
 use mathlib.Core.List.{List}
 use mathlib.Core.Path.{_≡_}
+use lib.Dec.{eqb}
 use lib.IntN.{ℤ}
 use lib.ListN.{length}
 use Rattle.base.specs.Lent.{Lent}
@@ -29,6 +31,10 @@ use Rattle.call_convert.specs.Convert.{convertBuffer}
 abbrev pub VariableHolds : {A : Type 0} (number : ℕ) (variable : Lent A) (value : A) → Type 0
 VariableHolds number variable value = variable .after ≡ unlessRefused number (variable .before) value
 
+-- a flag handed in counts as yes if it is not 0
+abbrev pub saysYes : ℕ → Bool
+saysYes flag = not (eqb flag 0)
+
 -- rrp_size: n, the number of routers, and m, the number of lists
 pub record SizeExport (plan : List ℕ) (r : ℕ) (routers lists : Lent ℕ) : Type 0 where
   pub number : r ≡ planRefusal plan
@@ -42,10 +48,10 @@ pub record ListExport (plan : List ℕ) (k r : ℕ) (start count : Lent ℕ) : T
   pub counted : VariableHolds (egressListRefusal plan k) count (listSize plan k)
 
 -- rrp_compare: 1 if at w the first, e, is better, 2 if the second, f, is, 0 if neither is; 1 if there is a margin, else 0; and the
--- margin, an integer, 0 where there is none
-pub record CompareExport (plan : List ℕ) (w e f r : ℕ) (preferred present : Lent ℕ) (margin : Lent ℤ) : Type 0 where
+-- margin, an integer, 0 where there is none. The flags d and d' say that e and f told their routes themselves.
+pub record CompareExport (plan : List ℕ) (w e d f d' r : ℕ) (preferred present : Lent ℕ) (margin : Lent ℤ) : Type 0 where
   pub number : r ≡ compareRefusal plan w e f
-  pub compared : VariableHolds (compareRefusal plan w e f) preferred (whichBetter plan w e f)
+  pub compared : VariableHolds (compareRefusal plan w e f) preferred (whichBetter plan w e (saysYes d) f (saysYes d'))
   pub flagged : VariableHolds (compareRefusal plan w e f) present (flag (hasMargin plan w e f))
   pub measured : VariableHolds (compareRefusal plan w e f) margin (marginNumber plan w e f)
 

@@ -43,8 +43,18 @@ fn compared(preferred: Preferred, margin: Margin) {
     apart(margin);
 }
 
-pub fn compare(plan: &[u8], router: usize, first: usize, second: usize) {
-    let answer = checker::compare::compare(plan, router, first, second);
+// The flags count as yes if they are not 0.
+pub fn compare(
+    plan: &[u8],
+    router: usize,
+    first: usize,
+    second: usize,
+    first_direct: usize,
+    second_direct: usize,
+) {
+    let first_told = first_direct != 0;
+    let second_told = second_direct != 0;
+    let answer = checker::compare::compare(plan, router, first, second, first_told, second_told);
     match answer {
         CompareAnswer::Refused(number) => text::number(wide(number)),
         CompareAnswer::Compared(preferred, margin) => compared(preferred, margin),

@@ -31,6 +31,21 @@ fn sequence(numbers: &[usize], plan: &[u8], table: &mut [u8]) {
     );
 }
 
+// `better ROUTER FIRST SECOND FLAGS`: a comparison; a flag of 0 says that the route was passed on, and where it is left out its own
+// egress router told it.
+fn better(numbers: &[usize], plan: &[u8]) {
+    let first_direct = script::number(numbers, 3, 1);
+    let second_direct = script::number(numbers, 4, 1);
+    calls::compare(
+        plan,
+        script::number(numbers, 0, 0),
+        script::number(numbers, 1, 0),
+        script::number(numbers, 2, 0),
+        first_direct,
+        second_direct,
+    );
+}
+
 // `verdict LIST LENGTHS`: the lengths of the four buffers, 5, 5, 10 and 5 where they are left out; each byte is 7 before.
 fn verdict(numbers: &[usize], plan: &[u8]) {
     let labels = script::number(numbers, 1, 5);
@@ -51,7 +66,7 @@ fn verdict(numbers: &[usize], plan: &[u8]) {
 fn every(plan: &[u8], table: &mut [u8]) {
     calls::check(plan);
     calls::egress_list(plan, 0);
-    calls::compare(plan, 0, 2, 3);
+    calls::compare(plan, 0, 2, 3, 1, 1);
     calls::relies(plan, 0, 0, 1);
     calls::activate(plan, 0, 0, table);
     calls::run(plan, 0, &[0], 1, table);
@@ -65,7 +80,7 @@ fn call(word: u8, numbers: &[usize], plan: &[u8], table: &mut [u8]) {
     let third = script::number(numbers, 2, 0);
     match word {
         b'a' => calls::activate(plan, first, second, table),
-        b'b' => calls::compare(plan, first, second, third),
+        b'b' => better(numbers, plan),
         b'c' => calls::check(plan),
         b'e' => every(plan, table),
         b'l' => calls::egress_list(plan, first),

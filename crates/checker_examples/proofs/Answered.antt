@@ -23,7 +23,7 @@ only-answer (list k r start slice part e n c a) =
     let at : start ≡ egressListStart (now slice) k = one-start slice part _ _ a (c .address) in
     let bytes : now part ≡ take (egressListSize (now slice) k) (drop (egressListStart (now slice) k) (now slice)) = c .bytes in
     cc
-only-answer (compare w e f r c) = cc
+only-answer (compare w e d f d' r c) = cc
 only-answer (relies k w v r c) = ap reliesIs (c .answer)
 only-answer (explain k w v r c) = cc
 only-answer (verdict k r labels ranks table cycle c) = cc

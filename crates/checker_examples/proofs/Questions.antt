@@ -18,7 +18,7 @@ use Rattle.plan_rules.specs.Lists.{listPlace, memberOk, listAtOk, listOk, eachL
 use Rattle.plan_rules.specs.Refusal.{refuse, bodyChecks, planChecks, planRefusal}
 use Rattle.plan_rules.specs.Refused.{unlessRefused, field, flagField}
 use Rattle.net_rules.specs.FromPlan.{named, instanceOf}
-use Rattle.route_rules.specs.Preference.{prefers, better, marginOf}
+use Rattle.route_rules.specs.Preference.{nearer, hasStep, hops, prefers, prefersBy, better, marginOf}
 use Rattle.route_rules.specs.Reliance.{listedClientOf, bestClient, offer, betterOffer, relies}
 use Rattle.route_rules.specs.Activation.{reflects, advertises, hears, senderOf, routeTo, choice, choose, entryOk, tableOk}
 use Rattle.route_rules.specs.Rounds.{acted, roundsFrom, rounds}
@@ -42,7 +42,7 @@ use Rattle.net_verdict.specs.Assessed.{labelsLeft, ranksLeft, tableLeft, cycleL
 use Rattle.call_verdict.specs.Verdict.{verdictAnswer, labelsAfter, ranksAfter, tableAfter, cycleAfter}
 use Rattle.call_run.specs.Activate.{activateTable}
 use Rattle.call_run.specs.Run.{runApplied, runRounds, runExhausted, runTable}
-use Rattle.checker_examples.specs.Questions.{Question, checkAsked, sizeAsked, listAsked, compareAsked, reliesAsked, explainAsked, verdictAsked, activateAsked, runAsked}
+use Rattle.checker_examples.specs.Questions.{Question, checkAsked, sizeAsked, listAsked, compareToldAsked, reliesAsked, explainAsked, verdictAsked, activateAsked, runAsked}
 use Rattle.checker_examples.specs.Questions.{Answer, checkIs, sizeIs, listIs, compareIs, reliesIs, explainIs, verdictIs, activateIs, runIs}
 
 -- the answer, by those definitions
@@ -51,9 +51,9 @@ answerTo plan checkAsked = checkIs (planRefusal plan)
 answerTo plan sizeAsked = sizeIs (planRefusal plan) (sizeRouters plan) (sizeLists plan)
 answerTo plan (listAsked k) =
     listIs (egressListRefusal plan k) (egressListStart plan k) (take (egressListSize plan k) (drop (egressListStart plan k) plan))
-answerTo plan (compareAsked w e f) =
+answerTo plan (compareToldAsked w e d f d') =
     let number = compareRefusal plan w e f in
-    compareIs (unlessRefused number (compares.Refused number) (compared plan w e f)) (field number (whichBetter plan w e f))
+    compareIs (unlessRefused number (compares.Refused number) (compared plan w e d f d')) (field number (whichBetter plan w e d f d'))
     (flagField number (hasMargin plan w e f))
     (unlessRefused number (pos 0) (marginNumber plan w e f))
 answerTo plan (reliesAsked k w v) =
@@ -84,7 +84,7 @@ unfolding
     activateTable runApplied runRounds runExhausted runTable
     buffersOk tableChecks sequenceOk readRoute tableOf tableBytes activateBytes runBytes chooseAll chosenAfter settledTable
     start next walk metAgainAt metFirstAt repeatedPart cycleIn cycle rankOver ranksByChains rank together label stable grouped closing acted roundsFrom rounds
-    reflects advertises hears senderOf routeTo choice choose entryOk tableOk listedClientOf bestClient offer betterOffer relies prefers better marginOf
+    reflects advertises hears senderOf routeTo choice choose entryOk tableOk listedClientOf bestClient offer betterOffer relies nearer hasStep hops prefers prefersBy better marginOf
     pairs inSession named refuse bodyChecks planChecks
     markOk headerOk routerCountOk kindsOk placesOk sizesOk contentsOk routerOk routersOk sessionOk sessionsOk
     parentCount fewParents parentsOk count distancesOk

@@ -3,8 +3,10 @@ pub mod SmallPlans
 pub mod TellingExamples
 pub mod CutOffExamples
 pub mod MarginExamples
+pub mod HopCompareExamples
 pub mod SkippingExamples
 pub mod ParentsExamples
 pub mod WideExamples
 pub mod NobodyExamples
+pub mod HopExamples
 pub mod ExplainExamples

@@ -1,7 +1,7 @@
 -- Examples of the public calls: a plan, what is asked of it, and the whole answer.
 use Prim.Native.Nat.{ℕ}
 use mathlib.Core.Path.{_≡_}
-use mathlib.Core.Bool.{Bool}
+use mathlib.Core.Bool.{Bool, true}
 use mathlib.Core.List.{List, [], _∷_}
 use denote.Ref.{RefT, ptr, now}
 use lib.IntN.{ℤ}
@@ -31,12 +31,16 @@ pub data Question : Type 0 where
   checkAsked : Question
   sizeAsked : Question
   listAsked : (list : ℕ) → Question
-  compareAsked : (router first second : ℕ) → Question
+  compareToldAsked : (router first : ℕ) (firstDirect : Bool) (second : ℕ) (secondDirect : Bool) → Question
   reliesAsked : (list router other : ℕ) → Question
   explainAsked : (list router other : ℕ) → Question
   verdictAsked : (list : ℕ) (labels ranks table cycle : List ℕ) → Question
   activateAsked : (list router : ℕ) (table : List ℕ) → Question
   runAsked : (list : ℕ) (sequence : List ℕ) (limit : ℕ) (table : List ℕ) → Question
+
+-- a comparison of two routes that their own egress routers told
+abbrev pub compareAsked : (router first second : ℕ) → Question
+compareAsked router first second = compareToldAsked router first true second true
 
 -- what is answered: all that the call returns, and every byte of those buffers after it
 pub data Answer : Type 0 where
@@ -56,8 +60,8 @@ pub data Admitted (plan : List ℕ) : Question → Answer → Type 0 where
   size : (r : SizeAnswer) → Sizes plan r → Admitted plan sizeAsked (sizeIs (r .refused) (r .routers) (r .lists))
   list : (k r start : ℕ) (slice part : RefT (List ℕ)) → now slice ≡ plan → r ≡ egressListRefusal plan k → ListPartOf slice k part
       → ptr part ≡ bytesOn (ptr slice) start → Admitted plan (listAsked k) (listIs r start (now part))
-  compare : (w e f : ℕ) (r : CompareAnswer) → Compares plan w e f r
-      → Admitted plan (compareAsked w e f) (compareIs r (compareBetter r) (compareHasMargin r) (compareMargin r))
+  compare : (w e : ℕ) (d : Bool) (f : ℕ) (d' : Bool) (r : CompareAnswer) → Compares plan w e d f d' r
+      → Admitted plan (compareToldAsked w e d f d') (compareIs r (compareBetter r) (compareHasMargin r) (compareMargin r))
   relies : (k w v : ℕ) (r : ReliesAnswer) → Relied plan k w v r → Admitted plan (reliesAsked k w v) (reliesIs r)
   explain : (k w v : ℕ) (r : Explanation) → Explains plan k w v r
       → Admitted plan (explainAsked k w v) (explainIs r (explainNumber r) (valuesOf r))

@@ -52,12 +52,12 @@ verdictOnSix k = verdictAsked k lent6 lent6 lent12 lent6
 abbrev pub stableSix : (highest : ℕ) (ranks settled : List ℕ) → Answer
 stableSix highest ranks settled = verdictIs (Stable highest) (0 ∷ 1 ∷ 2 ∷ 3 ∷ 4 ∷ 5 ∷ []) ranks settled lent6
 
--- "Refusal 4 now admits 1 to 3." Misread as admitting 1 and 2 alone: 4; as admitting 4: 0.
+-- "Refusal 4 now admits 1 to 3.", and "1 to 5" since the hop step. Misread as admitting 1 and 2 alone: 4; as admitting 6: 0.
 abbrev pub role3IsRead : Example
 role3IsRead = example skipping checkAsked (checkIs 0)
 
-abbrev pub role4IsRefused : Example
-role4IsRefused = example (twoSites 4 1) checkAsked (checkIs 4)
+abbrev pub role6IsRefused : Example
+role6IsRefused = example (twoSites 6 1) checkAsked (checkIs 4)
 
 -- "what it hears from a client it announces to reflectors only": 3 is listed, 1 holds 3 from 0, and 5 from 1. "A client with no mesh
 -- around it may end with nothing; its entry in the settled table is then 255 255": that of 2. The mesh brings 4 the route from 3. Misread
@@ -158,7 +158,7 @@ leftOverIsFlushed =
 
 unfoldable pub skippingExamples : List Example
 skippingExamples =
-    role3IsRead ∷ role4IsRefused ∷ endsWithNothing ∷ role1TellsItsClients ∷ toldByAReflector ∷ listedItself ∷ cycleThroughRole3
+    role3IsRead ∷ role6IsRefused ∷ endsWithNothing ∷ role1TellsItsClients ∷ toldByAReflector ∷ listedItself ∷ cycleThroughRole3
     ∷ rule2OnRole3 ∷ rule3OnRole3 ∷ rule3OfRole3 ∷ offerOfRole3 ∷ role3IsNoBestClient ∷ leftOverFromAClient ∷ leftOverToAReflector
     ∷ leftOverFromAReflector ∷ role3ToRole3 ∷ bothOfRole3 ∷ leftOverIsFlushed ∷ []
 

@@ -172,9 +172,9 @@ module _ (plan result : List ℕ) (ok : planRefusal plan ≡ 0) (ok′ : planRef
         listRefusal = list-refusal;
         list = λ k z. numbers k (list-asked plan k z .list);
         compare =
-            λ w e f r r′ s s′.
+            λ w e d f d' r r′ s s′.
             s′ .answer
-            ∙ by-network 0 _ _ comparisons.Refused (λ I. Compared (preferredOf I w e f) (marginCase (marginOf I w e f))) (compare-refusal w e f) (λ z. some-list)
+            ∙ by-network 0 _ _ comparisons.Refused (λ I. Compared (preferredOf I w e d f d') (marginCase (marginOf I w e f))) (compare-refusal w e f) (λ z. some-list)
             ∙ sym (s .answer);
         relies =
             λ k w v r r′ s s′.

@@ -11,7 +11,7 @@ use Rattle.base.proofs.Numbers.{eq-or-ne}
 use Rattle.plan_contents.specs.Header.{routerCount}
 use Rattle.plan_rules.proofs.Refused.{when-refused, when-given}
 use Rattle.route_rules.specs.Instance.{RouterBelow}
-use Rattle.route_rules.specs.Preference.{prefers, better, marginOf}
+use Rattle.route_rules.specs.Preference.{nearer, hasStep, hops, prefers, better, marginOf}
 use Rattle.route_rules.proofs.Reliance.{bestClient-below, offer-below}
 use Rattle.net_rules.specs.FromPlan.{instanceOf}
 use Rattle.call_rules.specs.Refusals.{compareRefusal, reliesRefusal}
@@ -71,15 +71,15 @@ module _ (plan : List ℕ) (k w v e c : ℕ) (m : ℤ) (explains : Explains plan
       compare-in-order plan w e c .none (asked .planOk) (rw (r, o, b)) refl refl
 
   -- a comparison reads no list
-  better-there : better (instanceOf plan 0) w e c ≡ true
-  unfolding better prefers
+  better-there : better (instanceOf plan 0) w e (instanceOf plan k .listed v) c true ≡ true
+  unfolding better prefers nearer hops hasStep
   better-there = by-rule .4
 
   margin-there : marginOf (instanceOf plan 0) w e c ≡ some m
   unfolding marginOf
   margin-there = by-rule .5
 
-  says : compared plan w e c ≡ Compared First (Of m)
+  says : compared plan w e (instanceOf plan k .listed v) c true ≡ Compared First (Of m)
   unfolding compared preferredOf
   says = rw (better-there, margin-there)
 

@@ -1,6 +1,8 @@
 pub mod VerdictMeaning
 pub mod Series
+pub mod StableVerdict
 pub mod Nobody
+pub mod HopStep
 pub mod Comparisons
 pub mod Conversions
 pub mod Explanations
@@ -8,4 +10,5 @@ pub mod Occurring
 pub mod CallsExamples
 pub mod LeftOfExample
 pub mod NobodyExamples
+pub mod HopStepExamples
 pub mod RefusedCalls

@@ -2,7 +2,7 @@
 use Prim.Native.Nat.{ℕ, zero, suc, _*_, _≤_, _<_}
 use native.Mathlib.Omega.{arith}
 use mathlib.Core.Path.{_≡_, refl, _∙_, sym, ap}
-use mathlib.Core.Bool.{Bool, true, false, cond, _&&_}
+use mathlib.Core.Bool.{Bool, true, false, _&&_}
 use mathlib.Core.List.{List, _∷_, _++_}
 use mathlib.Core.Logic.{_⊎_, inl, inr, ⊎-elim, _↔_}
 use borrow.Author.Tests.{lt-ltb, le-leb, leb-true, eqb-true, eq-eqb}
@@ -14,46 +14,43 @@ use Rattle.base.specs.Lent.{Lent}
 use Rattle.base.specs.Seek.{flag}
 use Rattle.base.proofs.Below.{all-at, all-intro, Witness, any-at, any-found, any-refuted}
 use Rattle.base.proofs.Numbers.{both, both-left, both-right, eq-or-ne, lt-or-le, not-both}
-use Rattle.base.proofs.Seek.{flag-yes, highest-cong}
-use Rattle.base.proofs.Tab.{tab-cong}
+use Rattle.base.proofs.Seek.{flag-yes}
 use Rattle.plan_contents.specs.Header.{routerCount}
 use Rattle.plan_contents.specs.Contents.{routersBody, sessionsBody}
 use Rattle.plan_rules.specs.Routers.{role, reflectorIn}
 use Rattle.plan_rules.specs.Sessions.{inSession}
 use Rattle.plan_rules.specs.EgressLists.{listSize, listStart, listNumbers}
-use Rattle.plan_rules.proofs.Cascade.{refuse-passed, refuse-true, plan-passes}
+use Rattle.plan_rules.proofs.Cascade.{refuse-passed, refuse-true}
 use Rattle.plan_rules.proofs.Parents.{client-is, reflector-is}
-use Rattle.plan_rules.proofs.Passed.{passed}
 use Rattle.plan_rules.proofs.Refused.{when-given}
-use Rattle.graph_groups.specs.Closure.{closure, Chain, step, more}
-use Rattle.graph_groups.specs.Groups.{label, stable}
-use Rattle.graph_ranks.specs.Rank.{rankAbove, rankOver}
-use Rattle.graph_ranks.proofs.RankRule.{rank-rule}
+use Rattle.plan_rules.proofs.Passed.{passed}
+use Rattle.graph_groups.specs.Closure.{Chain, step, more}
+use Rattle.graph_groups.specs.Groups.{stable}
 use Rattle.route_rules.specs.Instance.{Instance, nothing}
 use Rattle.route_rules.specs.Reliance.{relies}
 use Rattle.route_rules.specs.Activation.{entryOk, tableOk}
-use Rattle.route_theorems.specs.Nobody.{RankRule, hasParent, EndsWithNothing, NobodyListed}
+use Rattle.route_theorems.specs.Nobody.{hasParent, EndsWithNothing, NobodyListed}
 use Rattle.route_theorems.proofs.Nobody.{parent-relied, nobody-listed}
 use Rattle.route_explain_rules.specs.Explained.{byOffer, onReflector, onClient, explained}
 use Rattle.route_explain_rules.specs.declared.explanation.Explanation.{Explanation}
 use Rattle.net_rules.specs.FromPlan.{named, instanceOf}
 use Rattle.net_tables.specs.TableBytes.{readRoute, tableOf, tableBytes}
 use Rattle.net_tables.proofs.TableBytes.{entry-none, entry-far, entry-near, table-held}
-use Rattle.net_verdict.specs.Assessed.{reliance, isStable, highestOf, settledBytes, labelsOf, ranksOf, found, labelsLeft, ranksLeft, tableLeft, cycleLeft}
-use Rattle.call_rules.specs.Refusals.{egressListRefusal, reliesRefusal, buffersOk, verdictRefusal, tableChecks}
+use Rattle.net_verdict.specs.Assessed.{reliance, isStable, highestOf, settledBytes}
+use Rattle.call_rules.specs.Refusals.{egressListRefusal, reliesRefusal, buffersOk, tableChecks}
 use Rattle.call_rules.proofs.Granted.{list-asked}
 use Rattle.call_rules.proofs.InOrder.{list-in-order, relies-in-order}
 use Rattle.call_query.specs.EgressList.{ListPartOf}
 use Rattle.call_query.proofs.ListPart.{placed-given, handed-back}
 use Rattle.call_explain.specs.Explain.{Explains}
 use Rattle.call_verdict.specs.declared.verdict.VerdictAnswer.{VerdictAnswer}
-use Rattle.call_verdict.specs.declared.verdict.VerdictAnswer.the-variants.{Stable}
-use Rattle.call_verdict.specs.Verdict.{verdictNumber, verdictIsStable, verdictAnswer, labelsAfter, ranksAfter, tableAfter, cycleAfter, VerdictCall}
+use Rattle.call_verdict.specs.Verdict.{verdictNumber, verdictIsStable, VerdictCall}
 use Rattle.checker_theorems.specs.VerdictMeaning.{rankIn}
 use Rattle.checker_theorems.specs.Series.{Call, ForThis, Enough, SettledAfter}
 use Rattle.checker_theorems.specs.Nobody.{ListsNobody, PartOfNobody, EveryListToldByItsPart, ParentOf, HasParent, SomeParent, explainedForNobody, VerdictOfNobody, HoldsNothing, HoldsLeftOver, LeftOver, LeftOf, Flushed, FlushedInTime, EveryPrefixGone}
-use Rattle.checker_theorems.proofs.VerdictMeaning.{acyclic, verdict-means}
+use Rattle.checker_theorems.proofs.VerdictMeaning.{verdict-means}
 use Rattle.checker_theorems.proofs.Series.{every-series-settles}
+use Rattle.checker_theorems.proofs.StableVerdict.{stable-ranks, no-refusal, StableVerdict, stable-verdict}
 
 -- a number that is 1 where a test passes and else 0, of a test that passes exactly if P
 module _ {P : Type 0} (x : ℕ) (b : Bool) (is : (b ≡ true) ↔ P) (e : x ≡ flag b) where
@@ -78,11 +75,6 @@ empty-bytes zero = refl
 empty-bytes (suc n) =
     let two : 2 * suc n ≡ suc (suc (2 * n)) = omega arith in
     ap (λ b. 255 ∷ 255 ∷ b) (empty-bytes n) ∙ sym (ap (λ m. replicate m 255) two)
-
--- one more than a rank, as the rule of ranks has it
-above-is : (b : Bool) (r : ℕ) → rankAbove (flag b) r ≡ cond b (suc r) 0
-above-is true r = refl
-above-is false r = refl
 
 -- the rule of an unlisted router's entry, by its two bytes
 module _ (I : Instance) (v e s : ℕ) (small : I .n ≤ 64) (unlisted : I .listed v ≡ false) where
@@ -194,14 +186,8 @@ module _ (plan : List ℕ) (k : ℕ) (h : ListsNobody plan k) where
   is-stable = verdict-means plan k .stableChains .1 (λ w l c. no-loop w w l refl c)
 
   -- ranks
-  rule : RankRule (instanceOf plan k) (rankIn plan k)
-  unfolding rankOver
-  rule w l =
-      rank-rule (reliance (instanceOf plan k)) (routerCount plan) (acyclic plan k is-stable) w l
-      ∙ highest-cong _ _ (routerCount plan) (λ v m. above-is (relies (instanceOf plan k) w v) (rankIn plan k v))
-
   ends : EndsWithNothing (instanceOf plan k) (rankIn plan k)
-  ends = network .ranked (rankIn plan k) rule
+  ends = network .ranked (rankIn plan k) (stable-ranks (instanceOf plan k) is-stable)
 
   has-parent : (w : ℕ) → w < routerCount plan → (hasParent (instanceOf plan k) w ≡ true) ↔ HasParent plan w
   has-parent w l = (there, back)
@@ -258,33 +244,23 @@ module _ (plan : List ℕ) (k : ℕ) (h : ListsNobody plan k) where
   -- the verdict call
   module _ (r : VerdictAnswer) (labels ranks table shown : Lent (List ℕ)) (call : VerdictCall plan k r labels ranks table shown)
       (room : buffersOk (routerCount plan) (labels .before) (ranks .before) (table .before) (shown .before) ≡ true) where
-    no-refusal : verdictRefusal plan k (labels .before) (ranks .before) (table .before) (shown .before) ≡ 0
-    unfolding verdictRefusal
-    no-refusal = plan-passes plan _ (h .planOk) ∙ refuse-true _ 8 _ (lt-ltb k _ (h .listOk)) ∙ refuse-true _ 9 0 room
-
-    own-label : (w : ℕ) → w < routerCount plan → label (closure (reliance (instanceOf plan k)) (routerCount plan)) w ≡ w
-    unfolding isStable stable
-    own-label w l = eqb-true _ w (all-at _ (routerCount plan) is-stable w l)
-
-    answered : r ≡ Stable (highestOf (instanceOf plan k))
-    unfolding verdictAnswer found
-    answered = call .answer ∙ when-given _ _ _ no-refusal ∙ rw is-stable
+    written : StableVerdict plan k r labels ranks table shown
+    written =
+        stable-verdict plan k r labels ranks table shown call
+        (no-refusal plan k (h .planOk) (h .listOk) (labels .before) (ranks .before) (table .before) (shown .before) room) is-stable
 
     verdict-given : VerdictOfNobody plan k r labels ranks table shown
-    unfolding labelsAfter ranksAfter tableAfter cycleAfter labelsLeft ranksLeft tableLeft cycleLeft labelsOf ranksOf
     verdict-given =
         record {
-          answer = answered;
-          number = ap verdictNumber answered;
-          stable = ap verdictIsStable answered;
-          one = rw answered highest-one;
-          zero = rw answered highest-zero;
-          labelled =
-              call .labelled ∙ when-given _ _ _ no-refusal
-              ∙ ap (λ t. t ++ drop (routerCount plan) (labels .before)) (tab-cong _ _ (routerCount plan) own-label);
-          ranked = call .ranked ∙ when-given _ _ _ no-refusal ∙ rw is-stable;
-          settled = call .settled ∙ when-given _ _ _ no-refusal ∙ rw (is-stable, settled-empty);
-          cycled = call .cycled ∙ when-given _ _ _ no-refusal ∙ rw is-stable;
+          answer = written .answer;
+          number = ap verdictNumber (written .answer);
+          stable = ap verdictIsStable (written .answer);
+          one = rw (written .answer) highest-one;
+          zero = rw (written .answer) highest-zero;
+          labelled = written .labelled;
+          ranked = written .ranked;
+          settled = written .settled ∙ ap (λ t. t ++ drop (2 * routerCount plan) (table .before)) settled-empty;
+          cycled = written .cycled;
         }
 
   -- left-over tables

@@ -23,7 +23,7 @@ refused-calls =
         s .address ∙ ap (bytesOn (ptr plan)) (when-refused _ _ _ ne),
       );
       size = λ plan r s ne. (s .number, s .routers ∙ when-refused _ _ _ ne, s .lists ∙ when-refused _ _ _ ne);
-      compare = λ plan w e f r s ne. (
+      compare = λ plan w e d f d' r s ne. (
         s .answer ∙ when-refused _ _ _ ne,
         s .value ∙ when-refused _ _ _ ne,
         s .present ∙ when-refused _ _ _ ne,

@@ -18,6 +18,7 @@ use Rattle.graph_ranks.specs.Rank.{OneMore}
 use Rattle.graph_ranks.proofs.RankRule.{rank-falls, rank-means}
 use Rattle.graph_cycle.specs.Cycle.{IsCycle}
 use Rattle.graph_cycle.proofs.Walking.{cycle-is}
+use Rattle.route_rules.specs.Instance.{Instance}
 use Rattle.route_rules.specs.Reliance.{relies}
 use Rattle.route_rules.proofs.Reliance.{relies-other}
 use Rattle.route_theorems.specs.Claims.{Ranked, OneSteadyTable}
@@ -27,14 +28,19 @@ use Rattle.net_rules.specs.FromPlan.{instanceOf}
 use Rattle.net_verdict.specs.Assessed.{reliance, isStable, highestOf, cycleOf}
 use Rattle.checker_theorems.specs.VerdictMeaning.{Shares, labelIn, rankIn, HighestBelow, VerdictMeans}
 
-module _ (plan : List ℕ) (k : ℕ) where
-  relies-irreflexive : Irreflexive (reliance (instanceOf plan k)) (routerCount plan)
-  relies-irreflexive i l = ap flag (relies-other (instanceOf plan k) i)
+module _ (I : Instance) where
+  pub relies-irreflexive : Irreflexive (reliance I) (I .n)
+  relies-irreflexive i l = ap flag (relies-other I i)
+
+  pub acyclic : isStable I ≡ true → Acyclic (reliance I) (I .n)
+  unfolding isStable
+  acyclic stableList = stable-acyclic (reliance I) (I .n) relies-irreflexive stableList
 
   -- a reliance, as the number that chains and ranks are made of
-  relied-on : (w v : ℕ) → relies (instanceOf plan k) w v ≡ true → 1 ≤ reliance (instanceOf plan k) w v
+  relied-on : (w v : ℕ) → relies I w v ≡ true → 1 ≤ reliance I w v
   relied-on w v h = rw h (omega arith)
 
+module _ (plan : List ℕ) (k : ℕ) where
   module _ (w v : ℕ) (l : w < routerCount plan) (m : v < routerCount plan) where
     shares-together : Shares plan k w v → 1 ≤ together (closure (reliance (instanceOf plan k)) (routerCount plan)) w v
     shares-together (inl e) = together-self _ w v e
@@ -42,7 +48,7 @@ module _ (plan : List ℕ) (k : ℕ) where
         together-both _ w v (closure-is (reliance (instanceOf plan k)) (routerCount plan) w v l m .1 (c .0))
         (closure-is (reliance (instanceOf plan k)) (routerCount plan) v w m l .1 (c .1))
 
-    together-shares : 1 ≤ together (closure (reliance (instanceOf plan k)) (routerCount plan)) w v → Shares plan k w v
+    pub together-shares : 1 ≤ together (closure (reliance (instanceOf plan k)) (routerCount plan)) w v → Shares plan k w v
     together-shares h =
         ⊎-elim (λ (e : w ≡ v). inl e)
         (λ (c : (1 ≤ closure (reliance (instanceOf plan k)) (routerCount plan) w v) × (1 ≤ closure (reliance (instanceOf plan k)) (routerCount plan) v w)).
@@ -53,12 +59,10 @@ module _ (plan : List ℕ) (k : ℕ) where
         (together-cases (closure (reliance (instanceOf plan k)) (routerCount plan)) w v h)
 
   module _ (stableList : isStable (instanceOf plan k) ≡ true) where
-    pub acyclic : Acyclic (reliance (instanceOf plan k)) (routerCount plan)
-    unfolding isStable
-    acyclic = stable-acyclic (reliance (instanceOf plan k)) (routerCount plan) relies-irreflexive stableList
-
     falls : (w v : ℕ) → w < routerCount plan → v < routerCount plan → relies (instanceOf plan k) w v ≡ true → rankIn plan k v < rankIn plan k w
-    falls w v l m h = rank-falls (reliance (instanceOf plan k)) (routerCount plan) acyclic w v l m (relied-on w v h)
+    falls w v l m h =
+        rank-falls (reliance (instanceOf plan k)) (routerCount plan) (acyclic (instanceOf plan k) stableList) w v l m
+        (relied-on (instanceOf plan k) w v h)
 
     pub ranked : Ranked (instanceOf plan k) (rankIn plan k) (highestOf (instanceOf plan k))
     unfolding highestOf
@@ -70,13 +74,14 @@ module _ (plan : List ℕ) (k : ℕ) where
     highest-below : (w v : ℕ) → w < routerCount plan → v < routerCount plan → relies (instanceOf plan k) w v ≡ true → HighestBelow plan k w
     highest-below w v l m h =
         let b : OneMore (reliance (instanceOf plan k)) (routerCount plan) (rankIn plan k) w
-        = rank-means (reliance (instanceOf plan k)) (routerCount plan) acyclic .onSome w v l m (relied-on w v h) in
+        = rank-means (reliance (instanceOf plan k)) (routerCount plan) (acyclic (instanceOf plan k) stableList) .onSome w v l m
+        (relied-on (instanceOf plan k) w v h) in
         record {
           at = b .at;
           below = b .below;
           relied = flag-yes (relies (instanceOf plan k) w (b .at)) (b .related);
           is = b .is;
-          top = λ u o q. b .highest u o (relied-on w u q);
+          top = λ u o q. b .highest u o (relied-on (instanceOf plan k) w u q);
         }
 
   -- no router relies on itself, so no cycle is of one
@@ -93,7 +98,7 @@ module _ (plan : List ℕ) (k : ℕ) where
       alone : length shown ≡ 1 → ⊥
       alone e =
           let itself : 1 ≤ reliance (instanceOf plan k) (getD shown 0 0) (getD shown 0 0) = rw e at (is .closes) in
-          omega (arith, relies-irreflexive (getD shown 0 0) (is .below 0 (is .some)))
+          omega (arith, relies-irreflexive (instanceOf plan k) (getD shown 0 0) (is .below 0 (is .some)))
 
   pub verdict-means : VerdictMeans plan k
   unfolding isStable cycleOf
@@ -109,10 +114,11 @@ module _ (plan : List ℕ) (k : ℕ) where
               λ h w v l m s. groups .0 h w v l m (shares-together w v l m s),
               λ h. groups .1 (λ w v l m s. h w v l m (together-shares w v l m s)),
             );
-        stableChains = stable-chains (reliance (instanceOf plan k)) (routerCount plan) relies-irreflexive;
+        stableChains = stable-chains (reliance (instanceOf plan k)) (routerCount plan) (relies-irreflexive (instanceOf plan k));
         showsCycle = cycle-is (reliance (instanceOf plan k)) (routerCount plan);
         cycleOfTwo = two-or-more;
-        rankNone = λ s w l h. rank-means (reliance (instanceOf plan k)) (routerCount plan) (acyclic s) .onNone w l (λ v m. ap flag (h v m));
+        rankNone = λ s w l h.
+            rank-means (reliance (instanceOf plan k)) (routerCount plan) (acyclic (instanceOf plan k) s) .onNone w l (λ v m. ap flag (h v m));
         rankSome = highest-below;
         settled = settled-alone;
         anySender = λ s. settles-by-any-sender (instanceOf plan k) (rankIn plan k) (highestOf (instanceOf plan k)) (ranked s);

@@ -2,6 +2,7 @@
 -- What the calls answer and write on a plan and on what it is converted to, by their contracts.
 use Prim.Native.Nat.{ℕ, _≤_}
 use mathlib.Core.Path.{_≡_}
+use mathlib.Core.Bool.{Bool}
 use mathlib.Core.List.{List}
 use lib.ListN.{length, take}
 use Rattle.base.specs.Bytes.{Bytes}
@@ -38,7 +39,8 @@ pub record SameCalls (plan result : List ℕ) : Type 0 where
   -- a list's numbers; they stand elsewhere in the plan
   pub listRefusal : (k : ℕ) → egressListRefusal result k ≡ egressListRefusal plan k
   pub list : (k : ℕ) → egressListRefusal plan k ≡ 0 → listNumbers result k ≡ listNumbers plan k
-  pub compare : (w e f : ℕ) (r r′ : CompareAnswer) → Compares plan w e f r → Compares result w e f r′ → r′ ≡ r
+  pub compare : (w e : ℕ) (d : Bool) (f : ℕ) (d' : Bool) (r r′ : CompareAnswer) → Compares plan w e d f d' r
+      → Compares result w e d f d' r′ → r′ ≡ r
   pub relies : (k w v : ℕ) (r r′ : ReliesAnswer) → Relied plan k w v r → Relied result k w v r′ → r′ ≡ r
   pub explain : (k w v : ℕ) (r r′ : Explanation) → Explains plan k w v r → Explains result k w v r′ → r′ ≡ r
   -- "verdicts": stable with the highest rank, or suspect with the cycle's length; labels, ranks, settled table and cycle

@@ -5,6 +5,7 @@ use mathlib.Core.Bool.{Bool, true, false}
 use mathlib.Core.List.{List}
 use lib.IntN.{ℤ}
 use Rattle.plan_rules.specs.Refusal.{planRefusal}
+use Rattle.net_rules.specs.FromPlan.{instanceOf}
 use Rattle.call_query.specs.declared.relies.ReliesAnswer.{ReliesAnswer}
 use Rattle.call_compare.specs.declared.compare.CompareAnswer.{CompareAnswer}
 use Rattle.call_compare.specs.declared.compare.CompareAnswer.the-variants.{Compared}
@@ -28,11 +29,12 @@ EveryExplanationAgrees =
     → (isYes why ≡ reliesFlag plain) × (valuesOf why .relies ≡ reliesFlag plain) × (explainNumber why ≡ reliesNumber plain)
 
 -- "better offer with its route and .. that one's route and the margin, offer minus own": the comparison of the two routes is not refused,
--- and says that the offer is better, by that margin
+-- and says that the offer is better, by that margin. A listed reflector offers its own route, any other passes one on; a best client tells
+-- its own.
 abbrev pub EveryOfferCompares : Type 0
 EveryOfferCompares =
-    (plan : List ℕ) (k w v e c : ℕ) (m : ℤ) (r : CompareAnswer) → Explains plan k w v (Yes (BetterOffer e c m)) → Compares plan w e c r
-    → r ≡ Compared First (Of m)
+    (plan : List ℕ) (k w v e c : ℕ) (m : ℤ) (r : CompareAnswer) → Explains plan k w v (Yes (BetterOffer e c m))
+    → Compares plan w e (instanceOf plan k .listed v) c true r → r ≡ Compared First (Of m)
 
 -- a plan that is not refused, and a list and two routers of it of which the call answers yes or no with this number, and says whether it
 -- compared an offer with an own best client

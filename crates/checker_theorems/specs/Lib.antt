@@ -2,8 +2,10 @@ pub mod VerdictMeaning
 pub mod Series
 pub mod Nobody
 pub mod Comparisons
+pub mod HopStep
 pub mod Conversions
 pub mod Explanations
 pub mod CallsExamples
 pub mod NobodyExamples
+pub mod HopStepExamples
 pub mod RefusedCalls

@@ -3,7 +3,7 @@
 -- `CallMeans` of crate links_rules.
 use Prim.Native.Nat.{ℕ}
 use mathlib.Core.Path.{_≡_}
-use mathlib.Core.Bool.{false}
+use mathlib.Core.Bool.{Bool, false}
 use mathlib.Core.List.{List, []}
 use lib.IntN.{pos}
 use lib.ListN.{length}
@@ -41,7 +41,8 @@ pub record RefusedCalls : Type 0 where
       → (now part ≡ []) × (ptr part ≡ bytesOn (ptr plan) 0)
   pub size : (plan : List ℕ) (r : SizeAnswer) → Sizes plan r → (planRefusal plan ≡ 0 → ⊥)
       → (r .refused ≡ planRefusal plan) × (r .routers ≡ 0) × (r .lists ≡ 0)
-  pub compare : (plan : List ℕ) (w e f : ℕ) (r : CompareAnswer) → Compares plan w e f r → (compareRefusal plan w e f ≡ 0 → ⊥)
+  pub compare : (plan : List ℕ) (w e : ℕ) (d : Bool) (f : ℕ) (d' : Bool) (r : CompareAnswer) → Compares plan w e d f d' r
+      → (compareRefusal plan w e f ≡ 0 → ⊥)
       → (r ≡ Refused (compareRefusal plan w e f)) × (compareBetter r ≡ 0) × (compareHasMargin r ≡ false) × (compareMargin r ≡ pos 0)
   pub relies : (plan : List ℕ) (k w v : ℕ) (r : ReliesAnswer) → Relied plan k w v r → (reliesRefusal plan k w v ≡ 0 → ⊥)
       → (r ≡ reliances.Refused (reliesRefusal plan k w v)) × (reliesFlag r ≡ false)

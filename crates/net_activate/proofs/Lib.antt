@@ -1,3 +1,4 @@
 pub mod OnePass
+pub mod TwoPasses
 pub mod Numbers
 pub mod MayAdvertise

@@ -1,4 +1,4 @@
--- The least key that the routers advertise is that of the route that an activation chooses.
+-- The least key that the routers advertise is that of the nearest route heard.
 use Prim.Native.Nat.{ℕ, zero, suc, _+_, _-_, _*_, _%_, _≤_, _<_, min}
 use native.Mathlib.Omega.{arith}
 use mathlib.Core.Path.{_≡_, refl, _∙_, sym, ap, ap₂}
@@ -9,13 +9,13 @@ use lib.Dec.{eqb}
 use borrow.Author.Tests.{eqb-false, eq-eqb, ne-eqb, le-leb, lt-leb, le-ltb, not-true}
 use Rattle.base.proofs.Numbers.{not-both, eq-or-ne, lt-or-le}
 use Rattle.route_rules.specs.Instance.{Instance, Route, nothing, via, RouterBelow}
-use Rattle.route_rules.specs.Preference.{prefers}
-use Rattle.route_rules.specs.Activation.{reflects, advertises, hears, choose}
+use Rattle.route_rules.specs.Preference.{nearer}
+use Rattle.route_rules.specs.Activation.{reflects, advertises, hears, choice}
 use Rattle.net_tables.specs.TableBytes.{RouteBelow, readRoute}
 use Rattle.net_activate.specs.OnePass.{senderMark, routeKey, Numbers, noKey, toldKey, advertisedKey, leastKey, egressIn, senderIn, keyRoute}
 use Rattle.net_tables.proofs.TableBytes.{read-via}
-use Rattle.route_rules.proofs.Preference.{prefers-order, prefers-farther, prefers-tie}
-use Rattle.route_rules.proofs.Routes.{hears-neighbour, hears-told, hears-way, hears-intro, ChoiceIs, choice-unique, choose-is, advertises-listed, advertises-client, advertises-reflector}
+use Rattle.route_rules.proofs.Preference.{nearer-order, nearer-larger, nearer-tie}
+use Rattle.route_rules.proofs.Routes.{hears-neighbour, hears-told, hears-way, hears-intro, ChoiceIs, choice-is, choice-unique, advertises-listed, advertises-client, advertises-reflector}
 
 -- a sender's mark
 pub mark-itself : (e s : ℕ) → e ≡ s → senderMark e s ≡ 0
@@ -163,12 +163,12 @@ module _ (N : Numbers) (I : Instance) (w : ℕ) (view : ℕ → Route) where
       (λ (d : v ≡ k → ⊥). omega (arith, least-more k, least-le k v (omega arith)))
       (eq-or-ne v k)
 
-  record Least (k : ℕ) : Type 0 where
-    at : ℕ
-    below : at < k
-    same : leastKey N I w view k ≡ key at
+  pub record Least (k : ℕ) : Type 0 where
+    pub at : ℕ
+    pub below : at < k
+    pub same : leastKey N I w view k ≡ key at
 
-  least-at : (k : ℕ) → leastKey N I w view k < noKey N → Least k
+  pub least-at : (k : ℕ) → leastKey N I w view k < noKey N → Least k
   least-at zero l = absurd (omega (arith, least-none))
   least-at (suc k) l =
       ⊎-elim (λ (h : key k < leastKey N I w view k). record { at = k; below = omega arith; same = omega (arith, least-more k) })
@@ -203,12 +203,12 @@ module _ (N : Numbers) (I : Instance) (w : ℕ) (view : ℕ → Route) where
     heard-low v e l m h =
         omega (arith, heard-key v e h, key-way (N .to e) e v (omega arith) (omega arith) N (way-near e (hears-way I view w v e h)))
 
-    record Heard (v : ℕ) : Type 0 where
-      egress : ℕ
-      router : egress < I .n
-      hears-it : hears I view w v egress ≡ true
+    pub record Heard (v : ℕ) : Type 0 where
+      pub egress : ℕ
+      pub router : egress < I .n
+      pub hears-it : hears I view w v egress ≡ true
 
-    low-heard : (v : ℕ) → v < I .n → key v < noKey N → Heard v
+    pub low-heard : (v : ℕ) → v < I .n → key v < noKey N → Heard v
     low-heard v l h = go (I .neighbour w v) refl (advertises I v (view v) w) refl (advertises-below I v (view v) w l (below v l))
       where
         go : (a : Bool) → I .neighbour w v ≡ a → (o : Option ℕ) → advertises I v (view v) w ≡ o → RouterBelow (I .n) o → Heard v
@@ -223,11 +223,11 @@ module _ (N : Numbers) (I : Instance) (w : ℕ) (view : ℕ → Route) where
               hears-it = hears-intro I view w v e p q (near-way e (omega (arith, key-is (N .to e) e v)));
             }
 
-    -- the route of the least key is the choice
+    -- the route of the least key is the nearest
     abbrev least : ℕ
     least = leastKey N I w view (I .n)
 
-    none-chosen : noKey N ≤ least → ChoiceIs (prefers I w) (hears I view w) (I .n) nothing
+    pub none-chosen : noKey N ≤ least → ChoiceIs (nearer I w) (hears I view w) (I .n) nothing
     none-chosen l v f m b = go (hears I view w v f) refl
       where
         go : (a : Bool) → hears I view w v f ≡ a → hears I view w v f ≡ false
@@ -245,7 +245,7 @@ module _ (N : Numbers) (I : Instance) (w : ℕ) (view : ℕ → Route) where
       way-e : I .way w e ≡ true
       way-e = hears-way I view w s e (x .hears-it)
 
-      preferred : (v f : ℕ) → v < I .n → f < I .n → hears I view w v f ≡ true → prefers I w f e ≡ false
+      preferred : (v f : ℕ) → v < I .n → f < I .n → hears I view w v f ≡ true → nearer I w f e ≡ false
       preferred v f m b h =
           let near : N .to e * 65536 + e * 256 ≤ N .to f * 65536 + f * 256 + 64 =
           omega (arith, unbeaten v f m h, key-is (N .to e) e s, key-is (N .to f) f v, mark-below f v (omega arith)) in
@@ -257,11 +257,11 @@ module _ (N : Numbers) (I : Instance) (w : ℕ) (view : ℕ → Route) where
           to-f : I .dist w f ≡ N .to f
           to-f = far f (hears-way I view w v f h)
 
-          go : N .to e * 65536 + e * 256 ≤ N .to f * 65536 + f * 256 + 64 → (N .to e < N .to f) ⊎ (N .to f ≤ N .to e) → prefers I w f e ≡ false
-          go near (inl d) = prefers-farther I w f e (omega (arith, to-e, to-f))
+          go : N .to e * 65536 + e * 256 ≤ N .to f * 65536 + f * 256 + 64 → (N .to e < N .to f) ⊎ (N .to f ≤ N .to e) → nearer I w f e ≡ false
+          go near (inl d) = nearer-larger I w f e (omega (arith, to-e, to-f))
           go near (inr d) =
               let same-far : I .dist w f ≡ I .dist w e = omega (arith, to-e, to-f) in
-              prefers-tie I w f e same-far ∙ le-ltb f e (omega arith)
+              nearer-tie I w f e same-far ∙ le-ltb f e (omega arith)
 
       -- of the same egress, the sender's mark is the least
       marked : (v : ℕ) → v < I .n → hears I view w v e ≡ true → senderMark e s ≤ senderMark e v
@@ -278,7 +278,7 @@ module _ (N : Numbers) (I : Instance) (w : ℕ) (view : ℕ → Route) where
       lowest : hears I view w e e ≡ false → (v : ℕ) → v < I .n → hears I view w v e ≡ true → s ≤ v
       lowest q v m h = omega (arith, marked v m h, mark-other e s (other q s (x .hears-it)), mark-other e v (other q v h))
 
-      chosen : ChoiceIs (prefers I w) (hears I view w) (I .n) (via e s)
+      chosen : ChoiceIs (nearer I w) (hears I view w) (I .n) (via e s)
       chosen =
           record {
             egress = x .router;
@@ -294,18 +294,23 @@ module _ (N : Numbers) (I : Instance) (w : ℕ) (view : ℕ → Route) where
           ap (keyRoute N) (same ∙ heard-key s e (x .hears-it))
           ∙ key-back (N .to e) e s (omega (arith, x .router)) (omega arith) N (way-near e way-e)
 
-    pub least-choice : I .listed w ≡ false → keyRoute N least ≡ choose I w view
-    least-choice p = go (lt-or-le least (noKey N))
+    pub least-nearest : keyRoute N least ≡ choice (nearer I w) (hears I view w) (I .n)
+    least-nearest = go (lt-or-le least (noKey N))
       where
-        is-choice : (x : Route) → ChoiceIs (prefers I w) (hears I view w) (I .n) x → x ≡ choose I w view
-        is-choice x h = choice-unique (prefers I w) (hears I view w) (I .n) (prefers-order I w) x (choose I w view) h (choose-is I w view p)
+        nearest : Route
+        nearest = choice (nearer I w) (hears I view w) (I .n)
 
-        go : (least < noKey N) ⊎ (noKey N ≤ least) → keyRoute N least ≡ choose I w view
+        is-nearest : (x : Route) → ChoiceIs (nearer I w) (hears I view w) (I .n) x → x ≡ nearest
+        is-nearest x h =
+            choice-unique (nearer I w) (hears I view w) (I .n) (nearer-order I w) x nearest h
+            (choice-is (nearer I w) (hears I view w) (I .n) (nearer-order I w))
+
+        go : (least < noKey N) ⊎ (noKey N ≤ least) → keyRoute N least ≡ nearest
         go (inl l) =
             let f : Least (I .n) = least-at (I .n) l in
             let x : Heard (f .at) = low-heard (f .at) (f .below) (omega (arith, f .same)) in
-            key-chosen (f .at) (f .below) (f .same) x ∙ is-choice (via (x .egress) (f .at)) (chosen (f .at) (f .below) (f .same) x)
-        go (inr l) = key-none N least l ∙ is-choice nothing (none-chosen l)
+            key-chosen (f .at) (f .below) (f .same) x ∙ is-nearest (via (x .egress) (f .at)) (chosen (f .at) (f .below) (f .same) x)
+        go (inr l) = key-none N least l ∙ is-nearest nothing (none-chosen l)
 
 -- a route in two bytes that names routers below n
 module _ (n e s : ℕ) (small : n ≤ 64) (b : RouteBelow n (readRoute e s)) where

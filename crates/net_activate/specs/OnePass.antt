@@ -1,12 +1,14 @@
--- The choice of an activation as one pass over the routers: each route that w hears has a key, and the best has the least.
+-- The choice of an activation as a pass over the routers: each route that w hears has a key, and the best has the least. At a router with
+-- the hop step a pass over the routes told by their own egress comes first.
 use Prim.Native.Nat.{ℕ, zero, suc, _+_, _-_, _*_, _/_, _%_, min}
-use mathlib.Core.Bool.{cond}
+use mathlib.Core.Bool.{cond, _&&_}
 use mathlib.Core.List.{List}
 use mathlib.Core.Option.{Option, none, some}
-use lib.Dec.{leb, eqb}
+use lib.Dec.{leb, ltb, eqb}
 use Rattle.plan_rules.specs.Distances.{highest, numberAt}
 use Rattle.net_rules.specs.declared.Network.{Network}
-use Rattle.route_rules.specs.Instance.{Instance, Route, nothing}
+use Rattle.route_rules.specs.Instance.{Instance, Route, nothing, via}
+use Rattle.route_rules.specs.Preference.{hasStep}
 use Rattle.route_rules.specs.Activation.{advertises}
 use Rattle.net_tables.specs.TableBytes.{readRoute}
 
@@ -44,6 +46,23 @@ advertisedKey N I w v x = cond (I .neighbour w v) (toldKey N v (advertises I v x
 unfoldable pub leastKey : Numbers → Instance → ℕ → (ℕ → Route) → ℕ → ℕ
 leastKey N I w view zero = noKey N
 leastKey N I w view (suc v) = min (leastKey N I w view v) (advertisedKey N I w v (view v))
+
+-- a route that v holds, if it is one to v itself, else nothing
+unfoldable pub ownRoute : ℕ → Route → Route
+ownRoute v nothing = nothing
+ownRoute v (via e s) = cond (eqb e v) (via e s) nothing
+
+-- "a route told by its own egress router": w hears no other where it sees every router hold its own route or nothing. A listed router tells
+-- its own whatever it is seen to hold.
+abbrev pub ownRoutes : (ℕ → Route) → ℕ → Route
+ownRoutes view v = ownRoute v (view v)
+
+-- the key of what w chooses: with the hop step the least of these, if there is one, as it "beats one passed on"; else the least of all
+unfoldable pub chosenKey : Numbers → Instance → ℕ → (ℕ → Route) → ℕ
+chosenKey N I w view =
+    cond (hasStep I w && ltb (leastKey N I w (ownRoutes view) (I .n)) (noKey N))
+    (leastKey N I w (ownRoutes view) (I .n))
+    (leastKey N I w view (I .n))
 
 -- the route of a key
 abbrev pub egressIn : ℕ → ℕ

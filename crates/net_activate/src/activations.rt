@@ -1,5 +1,6 @@
 // An activation on the caller's table: one pass over the neighbours of the router that may advertise a route. Each route has a key, a
-// number that orders routes by distance, then by egress, then by sender; the best has the least.
+// number that orders routes by distance, then by egress, then by sender; the best has the least. A router with the hop step
+// first makes a pass over those that tell their own route.
 
 use net_rules::NO_ROUTER;
 use net_rules::Network;
@@ -15,7 +16,7 @@ ghost use Rattle.route_rules.specs.Instance.{via};
 ghost use Rattle.route_rules.specs.Activation.{reflects, advertises};
 ghost use Rattle.net_rules.specs.Decoded.{decoded, instance};
 ghost use Rattle.net_tables.specs.TableBytes.{RouteBelow, RoutesIn, TableIn, routeAt, routeOf, activateBytes};
-ghost use Rattle.net_activate.specs.OnePass.{senderMark, routeKey, Numbers, numbersOf, noKey, toldKey, leastKey, keyRoute};
+ghost use Rattle.net_activate.specs.OnePass.{senderMark, routeKey, Numbers, numbersOf, noKey, toldKey, leastKey, ownRoute, ownRoutes, chosenKey, keyRoute};
 ghost use Rattle.net_rules.specs.WellFormed.{WellFormed};
 
 // A key holds the sender's mark in its lowest byte, then the egress in a byte, then the distance.
@@ -180,6 +181,68 @@ fn best_heard(
     least
 }
 
+// What v holds, if it is a route to v itself, else nothing.
+fn own_route(v: usize, route: RouteBytes) -> RouteBytes
+    ensures { λ r. ⌜ routeOf r ≡ ownRoute v (routeOf route) ⌝ }
+{
+    if base::wide(route.egress) == v {
+        return route;
+    }
+    RouteBytes {
+        egress: NO_ROUTER,
+        sender: NO_ROUTER,
+    }
+}
+
+// The least key of the routes that their own egress advertises to w, `none` if there is none: by a listed neighbour, or by a reflector
+// that holds a route to itself.
+fn best_direct(
+    net: Network,
+    rows: &[u64; 64],
+    distances: &[u8],
+    w: usize,
+    table: &[u8],
+    none: usize,
+) -> usize
+    requires { ⌜ WellFormed net (now rows) (now distances) × (w < net .n) × RoutesIn (net .n) (now table)
+        × (none ≡ noKey (numbersOf net (now distances) w)) ⌝ }
+    ensures { λ r. ⌜ r ≡ leastKey (numbersOf net (now (distances .entry)) w) (instance net (rows .entry) (distances .entry)) w
+        (ownRoutes (routeAt (now (table .entry)))) (net .n) ⌝ }
+{
+    let mut least = none;
+    let mut left = rows[w] & (net.listed | net.reflectors);
+    while left != 0 {
+        let v = base::bits::lowest_bit(left);
+        let route = own_route(v, net_tables::route_at(table, v));
+        least = lesser(least, advertised(net, distances, w, v, route, none));
+        left = base::bits::without_lowest(left);
+    }
+    least
+}
+
+// The key of what unlisted w chooses, `none` for nothing. With the hop step a route that its own egress advertises comes first.
+fn chosen(
+    net: Network,
+    rows: &[u64; 64],
+    distances: &[u8],
+    w: usize,
+    table: &[u8],
+    none: usize,
+) -> usize
+    requires { ⌜ WellFormed net (now rows) (now distances) × (w < net .n) × RoutesIn (net .n) (now table)
+        × (none ≡ noKey (numbersOf net (now distances) w)) ⌝ }
+    ensures { λ r. ⌜ r ≡ chosenKey (numbersOf net (now (distances .entry)) w) (instance net (rows .entry) (distances .entry)) w
+        (routeAt (now (table .entry))) ⌝ }
+{
+    if base::bits::has_bit(net.reflectors & net.hop, w) {
+        let direct = best_direct(net, rows, distances, w, table, none);
+        if direct < none {
+            return direct;
+        }
+    }
+    best_heard(net, rows, distances, w, table, none)
+}
+
 // The act of router w on a table that obeys its rule.
 pub fn activate(net: Network, rows: &[u64; 64], distances: &[u8], w: usize, table: &mut [u8])
     requires { ⌜ WellFormed net (now rows) (now distances) × (w < net .n) × TableIn (instance net rows distances) (now table) ⌝ }
@@ -197,6 +260,6 @@ pub fn activate(net: Network, rows: &[u64; 64], distances: &[u8], w: usize, tabl
         return;
     }
     let none = no_key(net.width);
-    let best = key_route(best_heard(net, rows, distances, w, table, none), none);
+    let best = key_route(chosen(net, rows, distances, w, table, none), none);
     net_tables::put_route(table, w, best);
 }

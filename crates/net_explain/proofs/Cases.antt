@@ -15,7 +15,7 @@ module _ (I : Instance) (w v : ℕ) where
   unfolding onReflector
   on-reflector-parent h = cc
 
-  pub on-reflector-offer : I .reflector w ≡ true → onReflector I w v ≡ byOffer I w (offer I v) (bestClient I w)
+  pub on-reflector-offer : I .reflector w ≡ true → onReflector I w v ≡ byOffer I w (I .listed v) (offer I v) (bestClient I w)
   unfolding onReflector
   on-reflector-offer h = cc
 

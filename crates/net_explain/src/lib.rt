@@ -21,7 +21,8 @@ fn on_reflector(net: Network, rows: &[u64; 64], distances: &[u8], w: usize, v: u
     let own = net_offers::best_client(net, rows, distances, w);
     let other = net_offers::best_client(net, rows, distances, v);
     let offer = net_offers::offered(net, v, other);
-    net_offers::by_offer(distances, net.width, net.n, w, offer, own)
+    let behind = net_offers::behind(net, w, v);
+    net_offers::by_offer(distances, net.width, net.n, w, offer, own, behind)
 }
 
 // .. a client.

@@ -6,13 +6,13 @@ use route_explain_rules::explanation::Explanation;
 use route_explain_rules::explanation::Reason;
 use route_explain_rules::explanation::Rule;
 ghost use mathlib.Core.Path.{_≡_};
-ghost use mathlib.Core.Bool.{true};
+ghost use mathlib.Core.Bool.{Bool, true, not, _&&_};
 ghost use mathlib.Core.List.{List};
 ghost use Prim.Native.Nat.{ℕ, _≤_, _<_};
 ghost use Rattle.base.specs.Best.{keepBest};
 ghost use Rattle.plan_rules.specs.Distances.{DistanceTable};
 ghost use Rattle.route_rules.specs.Instance.{Instance, RouterBelow};
-ghost use Rattle.route_rules.specs.Preference.{prefers};
+ghost use Rattle.route_rules.specs.Preference.{nearer, hasStep};
 ghost use Rattle.route_rules.specs.Reliance.{bestClient, offer};
 ghost use Rattle.route_explain_rules.specs.Explained.{WayTo, againstOwn, byOffer};
 ghost use Rattle.route_explain_rules.specs.Reasons.{isYes};
@@ -34,7 +34,7 @@ fn listed_clients(net: Network, rows: &[u64; 64], v: usize) -> u64
 fn keep_client(distances: &[u8], width: usize, n: usize, v: usize, e: usize, best: u8) -> u8
     requires { ⌜ (v < n) × (e < n) × (n ≤ 64) × DistanceTable width (now distances) n × RouterBelow n (asRouter best) ⌝ }
     ensures { λ r. ⌜ ((I : Instance) → Measured I width (now (distances .entry)) n
-        → asRouter r ≡ keepBest (prefers I v) (I .way v e) e (asRouter best)) ⌝ }
+        → asRouter r ≡ keepBest (nearer I v) (I .way v e) e (asRouter best)) ⌝ }
 {
     if !plan_distances::has_way(distances, width, n, v, e) {
         return best;
@@ -42,7 +42,7 @@ fn keep_client(distances: &[u8], width: usize, n: usize, v: usize, e: usize, bes
     if best == NO_ROUTER {
         return e as u8;
     }
-    if net_prefer::prefers(distances, width, n, v, e, base::wide(best)) {
+    if net_prefer::nearer_at(distances, width, n, v, e, base::wide(best)) {
         return e as u8;
     }
     best
@@ -101,7 +101,18 @@ pub fn offered(net: Network, v: usize, own: u8) -> u8
     own
 }
 
-// Rule 3 where w has a way to its neighbour's offer, and `own` is its own best client: the numbers of ways are their distances.
+// Whether the hop step puts the offer of v behind an own best client of w: w has the step, and v, which is not listed, passes the offer
+// on, while a best client is told by its own egress router.
+pub fn behind(net: Network, w: usize, v: usize) -> bool
+    requires { ⌜ (w < 64) × (v < 64) ⌝ }
+    ensures { λ r. ⌜ ((rows distances : List ℕ)
+        → r ≡ (hasStep (decoded net rows distances) w && not (decoded net rows distances .listed v))) ⌝ }
+{
+    base::bits::has_bit(net.reflectors & net.hop, w) && !base::bits::has_bit(net.listed, v)
+}
+
+// Rule 3 where w has a way to its neighbour's offer, and `own` is its own best client: the numbers of ways are their distances. The offer
+// is told by its own egress router or not, and `behind` says what the hop step makes of that.
 fn against_own(
     distances: &[u8],
     width: usize,
@@ -109,10 +120,11 @@ fn against_own(
     w: usize,
     offer: usize,
     own: u8,
+    behind: bool,
 ) -> Explanation
     requires { ⌜ (w < n) × DistanceTable width (now distances) n × (offer < n) × RouterBelow n (asRouter own) ⌝ }
-    ensures { λ r. ⌜ ((I : Instance) → Measured I width (now (distances .entry)) n → I .way w offer ≡ true → WayTo I w (asRouter own)
-        → r ≡ againstOwn I w offer (asRouter own)) ⌝ }
+    ensures { λ r. ⌜ ((I : Instance) (d : Bool) → Measured I width (now (distances .entry)) n → I .way w offer ≡ true
+        → WayTo I w (asRouter own) → behind ≡ (hasStep I w && not d) → r ≡ againstOwn I w d offer (asRouter own)) ⌝ }
 {
     if own == NO_ROUTER {
         return Explanation::Yes(Rule::AnyOffer(offer));
@@ -121,6 +133,9 @@ fn against_own(
     let to_offer = plan_distances::number(distances, width, n, w, offer);
     let to_client = plan_distances::number(distances, width, n, w, client);
     if net_prefer::nearer(to_offer, to_client, offer, client) {
+        if behind {
+            return Explanation::No(Reason::OfferNotBetter);
+        }
         return Explanation::Yes(Rule::BetterOffer(
             offer,
             client,
@@ -130,7 +145,7 @@ fn against_own(
     Explanation::No(Reason::OfferNotBetter)
 }
 
-// Rule 3 on the offer of a neighbouring reflector, where `own` is the own best client of w.
+// Rule 3 on the offer of a neighbouring reflector, where `own` is the own best client of w, and `behind` as above.
 pub fn by_offer(
     distances: &[u8],
     width: usize,
@@ -138,10 +153,11 @@ pub fn by_offer(
     w: usize,
     offer: u8,
     own: u8,
+    behind: bool,
 ) -> Explanation
     requires { ⌜ (w < n) × DistanceTable width (now distances) n × RouterBelow n (asRouter offer) × RouterBelow n (asRouter own) ⌝ }
-    ensures { λ r. ⌜ ((I : Instance) → Measured I width (now (distances .entry)) n → WayTo I w (asRouter own)
-        → r ≡ byOffer I w (asRouter offer) (asRouter own)) ⌝ }
+    ensures { λ r. ⌜ ((I : Instance) (d : Bool) → Measured I width (now (distances .entry)) n → WayTo I w (asRouter own)
+        → behind ≡ (hasStep I w && not d) → r ≡ byOffer I w d (asRouter offer) (asRouter own)) ⌝ }
 {
     if offer == NO_ROUTER {
         return Explanation::No(Reason::NoOffer);
@@ -150,7 +166,7 @@ pub fn by_offer(
     if !plan_distances::has_way(distances, width, n, w, egress) {
         return Explanation::No(Reason::NoWayToTheOffer);
     }
-    against_own(distances, width, n, w, egress, own)
+    against_own(distances, width, n, w, egress, own, behind)
 }
 
 // Whether an answer is yes.

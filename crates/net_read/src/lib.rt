@@ -17,34 +17,60 @@ ghost use Rattle.plan_rules.specs.Routers.{reflectorIn};
 ghost use Rattle.plan_rules.specs.Sessions.{sessionCount, sessionFirst, sessionSecond, inSession};
 ghost use Rattle.plan_rules.specs.EgressLists.{listCount};
 ghost use Rattle.plan_read.specs.Checked.{Accepted};
-ghost use Rattle.net_rules.specs.FromPlan.{skipsIn, named};
+ghost use Rattle.net_rules.specs.FromPlan.{named};
 ghost use Rattle.net_rules.specs.Opened.{Opened};
-
-// The role of a reflector that skips its clients.
-const SKIPPING: u8 = 3;
+ghost use Rattle.net_read.specs.Roles.{specialIn, skipping, stepping};
 
 // The routers by what their role says of them: bit v of a word stands for router v.
 struct RoleWords {
     reflectors: u64,
-    skips: u64,
+    special: u64,
 }
 
-// The reflectors, and those of them that skip their clients; s is the body of kind 1.
+// The reflectors, and those of them whose role is not 1: few, so that only their roles are asked for more. s is the body of kind 1.
 fn role_words(s: &[u8], n: usize) -> RoleWords
     requires { ⌜ (n ≤ 64) × (length (now s) ≡ 5 * n) ⌝ }
     ensures { λ r. ⌜ ((v : ℕ) → eqb (bitN (r .reflectors) v) 1 ≡ reflectorIn (now (s .entry)) n v)
-        × ((v : ℕ) → eqb (bitN (r .skips) v) 1 ≡ skipsIn (now (s .entry)) n v) ⌝ }
+        × ((v : ℕ) → eqb (bitN (r .special) v) 1 ≡ specialIn (now (s .entry)) n v) ⌝ }
 {
     let mut reflectors = 0;
-    let mut skips = 0;
+    let mut special = 0;
     let mut v = 0;
     while v < n {
         let role = s[5 * v];
         reflectors = base::bits::with_bit_if(reflectors, v, role != CLIENT);
-        skips = base::bits::with_bit_if(skips, v, role == SKIPPING);
+        special = base::bits::with_bit_if(special, v, CLIENT < role);
         v += 1;
     }
-    RoleWords { reflectors, skips }
+    RoleWords {
+        reflectors,
+        special,
+    }
+}
+
+// What else the roles of reflectors say, as bits.
+struct SpecialWords {
+    skips: u64,
+    hop: u64,
+}
+
+// Of these routers, those that skip their clients and those with the hop step.
+fn special_words(s: &[u8], special: u64) -> SpecialWords
+    requires { ⌜ ((v : ℕ) → bitN special v ≡ 1 → (v < 64) × (5 * v < length (now s))) ⌝ }
+    ensures { λ r. ⌜ ((v : ℕ) → eqb (bitN (r .skips) v) 1 ≡ skipping (now (s .entry)) special v)
+        × ((v : ℕ) → eqb (bitN (r .hop) v) 1 ≡ stepping (now (s .entry)) special v) ⌝ }
+{
+    let mut skips = 0;
+    let mut hop = 0;
+    let mut left = special;
+    while left != 0 {
+        let v = base::bits::lowest_bit(left);
+        let role = s[5 * v];
+        skips = base::bits::with_bit_if(skips, v, plan_routers::skips_clients(role));
+        hop = base::bits::with_bit_if(hop, v, plan_routers::has_step(role));
+        left = base::bits::without_lowest(left);
+    }
+    SpecialWords { skips, hop }
 }
 
 // The routers that a list's numbers name.
@@ -84,14 +110,17 @@ pub fn open_plan(plan: &[u8], checked: CheckedPlan, list: usize, rows: &mut [u64
     ensures { λ r. ⌜ Opened (now (plan .entry)) list r (now (rows .exit)) (distancesBody (now (plan .entry))) ⌝ }
 {
     let n = checked.n as usize;
-    let roles = role_words(part(plan, checked, ROUTERS), n);
+    let routers = part(plan, checked, ROUTERS);
+    let roles = role_words(routers, n);
+    let special = special_words(routers, roles.special);
     neighbour_rows(part(plan, checked, SESSIONS), rows);
     let listed = listed_word(list_numbers(plan, checked, list));
     Network {
         n,
         width: checked.width as usize,
         reflectors: roles.reflectors,
-        skips: roles.skips,
+        skips: special.skips,
+        hop: special.hop,
         listed,
     }
 }

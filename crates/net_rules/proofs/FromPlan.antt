@@ -2,7 +2,7 @@
 use Prim.Native.Nat.{ℕ, _*_, _<_}
 use native.Mathlib.Omega.{arith}
 use mathlib.Core.Path.{_≡_, refl, _∙_, ap, ap₂}
-use mathlib.Core.Bool.{Bool, true, false, not, _&&_}
+use mathlib.Core.Bool.{Bool, true, false, not, _&&_, _||_}
 use mathlib.Core.List.{List}
 use mathlib.Core.Logic.{_⊎_, inl, inr, ⊎-elim}
 use borrow.Author.Tests.{lt-ltb, eqb-true}
@@ -62,21 +62,36 @@ module _ (plan : List ℕ) (p : Passed plan) where
       omega (arith, number-below plan p k l (found .at) (found .below), eqb-true (getD (listNumbers plan k) (found .at) 0) v (found .holds))
 
   module _ (k v : ℕ) (l : v < routerCount plan) where
-    role-of : (number : ℕ) → role (routersBody plan) v ≡ number → RoleOf plan (instanceOf plan k) v number (not (eqb number 2)) (eqb number 3)
-    role-of number e =
-        (e, ap₂ (λ b r. b && not (eqb r 2)) (lt-ltb v _ l) e, ap₂ (λ b r. b && eqb r 3) (lt-ltb v _ l) e)
+    role-of : (number : ℕ) → role (routersBody plan) v ≡ number
+        → RoleOf plan (instanceOf plan k) v number (not (eqb number 2)) (eqb number 3 || eqb number 5) (eqb number 4 || eqb number 5)
+    role-of number e = (
+      e,
+      ap₂ (λ b r. b && not (eqb r 2)) (lt-ltb v _ l) e,
+      ap₂ (λ b r. b && (eqb r 3 || eqb r 5)) (lt-ltb v _ l) e,
+      ap₂ (λ b r. b && (eqb r 4 || eqb r 5)) (lt-ltb v _ l) e,
+    )
 
     roles :
-        RoleOf plan (instanceOf plan k) v 1 true false
-        ⊎ RoleOf plan (instanceOf plan k) v 2 false false
-        ⊎ RoleOf plan (instanceOf plan k) v 3 true true
+        RoleOf plan (instanceOf plan k) v 1 true false false
+        ⊎ RoleOf plan (instanceOf plan k) v 2 false false false
+        ⊎ RoleOf plan (instanceOf plan k) v 3 true true false
+        ⊎ RoleOf plan (instanceOf plan k) v 4 true false true
+        ⊎ RoleOf plan (instanceOf plan k) v 5 true true true
     roles =
         let r = role (routersBody plan) v in
         ⊎-elim (λ (e : r ≡ 1). inl (role-of 1 e))
-        (λ (d : r ≡ 1 → ⊥).
+        (λ (a : r ≡ 1 → ⊥).
         inr
         (⊎-elim (λ (e : r ≡ 2). inl (role-of 2 e))
-        (λ (f : r ≡ 2 → ⊥). inr (role-of 3 (omega (arith, p .routers .roleLeast v l, p .routers .roleMost v l))))
+        (λ (b : r ≡ 2 → ⊥).
+        inr
+        (⊎-elim (λ (e : r ≡ 3). inl (role-of 3 e))
+        (λ (c : r ≡ 3 → ⊥).
+        inr
+        (⊎-elim (λ (e : r ≡ 4). inl (role-of 4 e))
+        (λ (d : r ≡ 4 → ⊥). inr (role-of 5 (omega (arith, p .routers .roleLeast v l, p .routers .roleMost v l))))
+        (eq-or-ne r 4)))
+        (eq-or-ne r 3)))
         (eq-or-ne r 2)))
         (eq-or-ne r 1)
 

@@ -16,7 +16,7 @@ use Rattle.plan_rules.specs.Refusal.{planRefusal}
 use Rattle.plan_rules.proofs.Passed.{passed, distance-table}
 use Rattle.net_rules.specs.declared.Network.{Network}
 use Rattle.net_rules.specs.Decoded.{decoded}
-use Rattle.net_rules.specs.FromPlan.{skipsIn, named, instanceOf}
+use Rattle.net_rules.specs.FromPlan.{skipsIn, hopIn, named, instanceOf}
 use Rattle.net_rules.specs.Opened.{Opened}
 use Rattle.net_rules.proofs.FromPlan.{trusted}
 
@@ -26,6 +26,7 @@ module _ (plan : List ℕ) (k : ℕ) (accepted : planRefusal plan ≡ 0) (asked 
     (bytes : net .width ≡ width plan)
     (reflectors : (v : ℕ) → eqb (bitN (net .reflectors) v) 1 ≡ reflectorIn (routersBody plan) (routerCount plan) v)
     (skips : (v : ℕ) → eqb (bitN (net .skips) v) 1 ≡ skipsIn (routersBody plan) (routerCount plan) v)
+    (hop : (v : ℕ) → eqb (bitN (net .hop) v) 1 ≡ hopIn (routersBody plan) (routerCount plan) v)
     (neighbours : (w v : ℕ) → eqb (bits rows w v) 1 ≡ inSession (sessionsBody plan) w v)
     (listed : (v : ℕ) → eqb (bitN (net .listed) v) 1 ≡ named (listNumbers plan k) v) where
   -- two networks whose parts agree at every number are one
@@ -35,6 +36,7 @@ module _ (plan : List ℕ) (k : ℕ) (accepted : planRefusal plan ≡ 0) (asked 
         n = count i;
         reflector = λ v. reflectors v i;
         skips = λ v. skips v i;
+        hop = λ v. hop v i;
         neighbour = λ w v. neighbours w v i;
         dist = distanceIn (bytes i) (distancesBody plan) (count i);
         way = wayIn (bytes i) (distancesBody plan) (count i);

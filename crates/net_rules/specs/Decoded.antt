@@ -1,5 +1,5 @@
--- An instance as the code holds it: a word of bits for the reflectors, one for those that skip their clients, one for the listed
--- routers, a row of bits for each router's neighbours, and the plan's distances as they stand.
+-- An instance as the code holds it: a word of bits for the reflectors, one for those that skip their clients, one for those with the hop
+-- step, one for the listed routers, a row of bits for each router's neighbours, and the plan's distances as they stand.
 use Prim.Native.Nat.{ℕ}
 use mathlib.Core.List.{List}
 use lib.Dec.{eqb}
@@ -15,6 +15,7 @@ decoded net rows distances =
       n = net .n;
       reflector = λ v. eqb (bitN (net .reflectors) v) 1;
       skips = λ v. eqb (bitN (net .skips) v) 1;
+      hop = λ v. eqb (bitN (net .hop) v) 1;
       neighbour = λ w v. eqb (bits rows w v) 1;
       dist = distanceIn (net .width) distances (net .n);
       way = wayIn (net .width) distances (net .n);

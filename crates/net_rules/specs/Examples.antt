@@ -22,6 +22,13 @@ withList1 = instanceOf threeRouters 1
 abbrev pub withRole3 : Instance
 withRole3 = instanceOf (set threeRouters 26 3) 0
 
+-- .. with role 4, and with role 5
+abbrev pub withRole4 : Instance
+withRole4 = instanceOf (set threeRouters 26 4) 0
+
+abbrev pub withRole5 : Instance
+withRole5 = instanceOf (set threeRouters 26 5) 0
+
 -- .. and with 65,535 from 0 to 2, in bytes 49 and 50; with 65,534
 abbrev pub withNoWay : Instance
 withNoWay = instanceOf (set (set threeRouters 49 255) 50 255) 0
@@ -50,6 +57,16 @@ pub record NetworkExamples : Type 0 where
   pub role3 : withRole3 .reflector 0 ≡ true  -- role 3 for client: false
   pub role3Skips : withRole3 .skips 0 ≡ true  -- role 3 as role 1: false
   pub role1DoesNot : withList0 .skips 0 ≡ false  -- each reflector: true
+  -- "Roles 4 and 5 are roles 1 and 3 with that step"
+  pub role4 : withRole4 .reflector 0 ≡ true  -- role 4 for client: false
+  pub role4Steps : withRole4 .hop 0 ≡ true  -- role 4 as role 1: false
+  pub role4DoesNotSkip : withRole4 .skips 0 ≡ false  -- role 4 as role 3 with the step: true
+  pub role5 : withRole5 .reflector 0 ≡ true  -- role 5 for client: false
+  pub role5Steps : withRole5 .hop 0 ≡ true  -- role 4 alone: false
+  pub role5Skips : withRole5 .skips 0 ≡ true  -- role 3 alone: false
+  pub role1HasNoStep : withList0 .hop 0 ≡ false  -- each reflector: true
+  pub role3HasNoStep : withRole3 .hop 0 ≡ false  -- role 3 for the step: true
+  pub clientHasNoStep : withRole5 .hop 1 ≡ false  -- every router: true
   -- "Two routers of a pair are neighbours."
   pub neighbours : withList0 .neighbour 1 2 ≡ true
   pub inEitherOrder : withList0 .neighbour 2 1 ≡ true  -- in one order alone: false

@@ -1,8 +1,8 @@
 -- The network of a plan with one of its lists (document 01, "The plan's bytes"; document 02, "Cut-off routers", "Reflectors that skip
--- their own clients" and "Wider distances").
+-- their own clients", "Wider distances" and "Reflectors with the hop step").
 use Prim.Native.Nat.{ℕ, _<_}
 use mathlib.Core.Path.{_≡_}
-use mathlib.Core.Bool.{Bool, true, false, _&&_}
+use mathlib.Core.Bool.{Bool, true, false, _&&_, _||_}
 use mathlib.Core.List.{List}
 use mathlib.Core.Logic.{_⊎_}
 use lib.Dec.{ltb, eqb}
@@ -16,9 +16,13 @@ use Rattle.plan_rules.specs.Distances.{distanceIn, wayIn}
 use Rattle.plan_rules.specs.EgressLists.{listNumbers}
 use Rattle.route_rules.specs.Instance.{Instance}
 
--- "Role 3 is such a reflector", one that skips its own clients; s is the body of kind 1
+-- "Role 3 is such a reflector", one that skips its own clients, and so is role 5, "role .. 3 with that step"; s is the body of kind 1
 abbrev pub skipsIn : List ℕ → ℕ → ℕ → Bool
-skipsIn s n v = ltb v n && eqb (role s v) 3
+skipsIn s n v = ltb v n && (eqb (role s v) 3 || eqb (role s v) 5)
+
+-- "Roles 4 and 5 are roles 1 and 3 with that step"
+abbrev pub hopIn : List ℕ → ℕ → ℕ → Bool
+hopIn s n v = ltb v n && (eqb (role s v) 4 || eqb (role s v) 5)
 
 -- v is one of a list's "router numbers"
 unfoldable pub named : List ℕ → ℕ → Bool
@@ -30,9 +34,10 @@ instanceOf plan k =
     record {
       -- "n, the number of routers"
       n = routerCount plan;
-      -- "role (1 reflector, 2 client)"; "Role 3 is such a reflector"
+      -- "role (1 reflector, 2 client)"; "Role 3 is such a reflector"; "Roles 4 and 5 are roles 1 and 3 with that step"
       reflector = reflectorIn (routersBody plan) (routerCount plan);
       skips = skipsIn (routersBody plan) (routerCount plan);
+      hop = hopIn (routersBody plan) (routerCount plan);
       -- "Two routers of a pair are neighbours."
       neighbour = inSession (sessionsBody plan);
       -- "row u, column e is the distance from u to e"
@@ -43,10 +48,10 @@ instanceOf plan k =
       listed = named (listNumbers plan k);
     }
 
--- v's role is the given number, and whether v is a reflector and skips its clients
-abbrev pub RoleOf : List ℕ → Instance → ℕ → (number : ℕ) (reflector skips : Bool) → Type 0
-RoleOf plan I v number reflector skips =
-    (role (routersBody plan) v ≡ number) × (I .reflector v ≡ reflector) × (I .skips v ≡ skips)
+-- v's role is the given number, and whether v is a reflector, skips its clients, and has the hop step
+abbrev pub RoleOf : List ℕ → Instance → ℕ → (number : ℕ) (reflector skips hop : Bool) → Type 0
+RoleOf plan I v number reflector skips hop =
+    (role (routersBody plan) v ≡ number) × (I .reflector v ≡ reflector) × (I .skips v ≡ skips) × (I .hop v ≡ hop)
 
 -- What holds of the network of a plan that is not refused, for any of its lists.
 pub record Trusted (plan : List ℕ) (I : Instance) : Type 0 where
@@ -59,5 +64,12 @@ pub record Trusted (plan : List ℕ) (I : Instance) : Type 0 where
   -- "The diagonal is 0.": every router has a way to itself
   pub distanceOwn : (u : ℕ) → u < I .n → I .dist u u ≡ 0
   pub wayOwn : (u : ℕ) → u < I .n → I .way u u ≡ true
-  -- "role (1 reflector, 2 client)"; "Role 3 is such a reflector": a router is one of the three
-  pub roles : (v : ℕ) → v < I .n → RoleOf plan I v 1 true false ⊎ RoleOf plan I v 2 false false ⊎ RoleOf plan I v 3 true true
+  -- "role (1 reflector, 2 client)"; "Role 3 is such a reflector"; "Roles 4 and 5 are roles 1 and 3 with that step": a router is one of
+  -- the five
+  pub roles :
+      (v : ℕ) → v < I .n →
+      RoleOf plan I v 1 true false false
+      ⊎ RoleOf plan I v 2 false false false
+      ⊎ RoleOf plan I v 3 true true false
+      ⊎ RoleOf plan I v 4 true false true
+      ⊎ RoleOf plan I v 5 true true true

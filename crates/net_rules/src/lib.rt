@@ -9,5 +9,6 @@ pub struct Network {
     pub width: usize,
     pub reflectors: u64,
     pub skips: u64,
+    pub hop: u64,
     pub listed: u64,
 }

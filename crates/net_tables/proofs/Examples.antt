@@ -3,15 +3,16 @@ use mathlib.Core.Path.{refl}
 use Rattle.base.specs.Below.{allBelow, anyBelow}
 use Rattle.base.specs.Best.{keepBest, best}
 use Rattle.base.specs.Tab.{tab}
-use Rattle.route_rules.specs.Preference.{prefers}
+use Rattle.route_rules.specs.Preference.{nearer, hasStep, hops, prefers, prefersBy}
 use Rattle.route_rules.specs.Activation.{reflects, advertises, hears, senderOf, routeTo, choice, choose}
 use Rattle.net_tables.specs.TableBytes.{readRoute, tableOf, tableBytes, activateBytes}
-use Rattle.net_tables.specs.Examples.{threeRouters, lent, TableExamples}
+use Rattle.route_rules.specs.Examples.{among, network, neighbours, distances, sixWith}
+use Rattle.net_tables.specs.Examples.{threeRouters, lent, lentSix, TableExamples}
 
 pub table-examples : TableExamples
 unfolding
-    threeRouters lent readRoute tableOf tableBytes activateBytes
-    prefers reflects advertises hears senderOf routeTo choice choose allBelow anyBelow keepBest best tab
+    threeRouters lent among network neighbours distances sixWith lentSix readRoute tableOf tableBytes activateBytes
+    nearer hasStep hops prefers prefersBy reflects advertises hears senderOf routeTo choice choose allBelow anyBelow keepBest best tab
 table-examples =
     record {
       egressThenSender = refl;
@@ -23,4 +24,12 @@ table-examples =
       tableRead = refl;
       tableWritten = refl;
       actInBytes = refl;
+      toldByItsEgress = refl;
+      withoutTheStep = refl;
+      role5ToldByItsEgress = refl;
+      toldWithoutAWay = refl;
+      toldByALeftOver = refl;
+      nearestToldByItsEgress = refl;
+      toldByAReflector = refl;
+      clientHasNoStep = refl;
     }

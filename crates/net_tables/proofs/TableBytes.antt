@@ -15,11 +15,11 @@ use Rattle.base.proofs.Below.{all-at}
 use Rattle.base.specs.Tab.{tab}
 use Rattle.base.proofs.Tab.{tab-none, tab-suc, length-tab, getD-tab}
 use Rattle.route_rules.specs.Instance.{Instance, Route, nothing, via}
-use Rattle.route_rules.specs.Activation.{hears, choose, held, entryOk, tableOk, activate, runActs}
-use Rattle.route_rules.specs.Preference.{prefers}
+use Rattle.route_rules.specs.Activation.{hears, heardDirect, choose, held, entryOk, tableOk, activate, runActs}
+use Rattle.route_rules.specs.Preference.{prefersBy}
 use Rattle.route_rules.specs.Rounds.{ActsBelow}
 use Rattle.net_tables.specs.TableBytes.{readRoute, egressByte, senderByte, RouteBelow, routeAt, putRoute, tableOf, tableBytes, TableIn, RoutesIn, activateBytes, runBytes}
-use Rattle.route_rules.proofs.Preference.{prefers-order}
+use Rattle.route_rules.proofs.Preference.{prefersBy-order, prefersBy-alike}
 use Rattle.route_rules.proofs.Routes.{ChoiceIs, choice-unique, choose-listed, choose-is, activate-length, activate-own, activate-other, activate-ok}
 
 -- two bytes as a route, and back
@@ -152,14 +152,18 @@ module _ (I : Instance) (w : ℕ) where
     unfolding hears
     hears-same v e l = rw (same v l)
 
-    choice-same : (x : Route) → ChoiceIs (prefers I w) (hears I view w) (I .n) x → ChoiceIs (prefers I w) (hears I other w) (I .n) x
+    direct-same : (e f : ℕ) → e < I .n → f < I .n → prefersBy I w (heardDirect I other w) e f ≡ prefersBy I w (heardDirect I view w) e f
+    direct-same e f l m = prefersBy-alike I w (heardDirect I other w) (heardDirect I view w) e f (sym (hears-same e e l)) (sym (hears-same f f m))
+
+    choice-same : (x : Route) → ChoiceIs (prefersBy I w (heardDirect I view w)) (hears I view w) (I .n) x
+        → ChoiceIs (prefersBy I w (heardDirect I other w)) (hears I other w) (I .n) x
     choice-same nothing h = λ v f l m. sym (hears-same v f l) ∙ h v f l m
     choice-same (via e s) h =
         record {
           egress = h .egress;
           sender = h .sender;
           told = sym (hears-same s e (h .sender)) ∙ h .told;
-          unbeaten = λ v f l m q. h .unbeaten v f l m (hears-same v f l ∙ q);
+          unbeaten = λ v f l m q. direct-same f e m (h .egress) ∙ h .unbeaten v f l m (hears-same v f l ∙ q);
           itself = λ q. h .itself (hears-same e e (h .egress) ∙ q);
           lowest = λ p v l q. h .lowest (hears-same e e (h .egress) ∙ p) v l (hears-same v e l ∙ q);
         }
@@ -170,7 +174,8 @@ module _ (I : Instance) (w : ℕ) where
         go : (b : Bool) → I .listed w ≡ b → choose I w view ≡ choose I w other
         go true p = choose-listed I w view p ∙ sym (choose-listed I w other p)
         go false p =
-            choice-unique (prefers I w) (hears I other w) (I .n) (prefers-order I w) (choose I w view) (choose I w other)
+            choice-unique (prefersBy I w (heardDirect I other w)) (hears I other w) (I .n) (prefersBy-order I w (heardDirect I other w))
+            (choose I w view) (choose I w other)
             (choice-same (choose I w view) (choose-is I w view p))
             (choose-is I w other p)
 
@@ -178,7 +183,7 @@ module _ (I : Instance) (w : ℕ) where
   pub choose-below : (view : ℕ → Route) → w < I .n → RouteBelow (I .n) (choose I w view)
   choose-below view l = go (I .listed w) refl
     where
-      other : (x : Route) → ChoiceIs (prefers I w) (hears I view w) (I .n) x → RouteBelow (I .n) x
+      other : (x : Route) → ChoiceIs (prefersBy I w (heardDirect I view w)) (hears I view w) (I .n) x → RouteBelow (I .n) x
       other nothing h = tt
       other (via e s) h = (h .egress, h .sender)
 

@@ -1,7 +1,7 @@
 -- Plans in literal bytes, for the examples of more than one crate. Nothing is claimed of them here.
 use Prim.Native.Nat.{ℕ}
 use mathlib.Core.List.{List, [], _∷_, _++_}
-use lib.ListN.{length}
+use lib.ListN.{length, set}
 
 -- Document 01, "Small plans": "Routers 0, 1 reflectors; 2, 3 clients; sessions 0-1, 0-2, 1-3; identifiers 10, 20, 30, 40." The distances
 -- from each router are given, two bytes each, and the body of kind 4: m, then count and numbers of each list.
@@ -44,6 +44,10 @@ smallLists = 3 ∷ 2 ∷ 2 ∷ 3 ∷ 1 ∷ 3 ∷ 1 ∷ 0 ∷ []
 -- "M3: p = q = 6"
 unfoldable pub M3Plan : List ℕ
 M3Plan = smallPlan 6 6 smallLists
+
+-- .. with the given roles for routers 0 and 1, in bytes 26 and 31
+unfoldable pub M3WithRoles : (role₀ role₁ : ℕ) → List ℕ
+M3WithRoles role₀ role₁ = set (set M3Plan 26 role₀) 31 role₁
 
 -- .. with lists 2,3, then of nobody, then 0
 unfoldable pub M3WithNobody : List ℕ

@@ -1,7 +1,7 @@
 // Kind 1, routers: refusal 4.
 
 ghost use mathlib.Core.Path.{_≡_};
-ghost use mathlib.Core.Bool.{not};
+ghost use mathlib.Core.Bool.{not, _||_};
 ghost use Prim.Native.Nat.{_+_, _*_, _≤_, _<_};
 ghost use lib.Dec.{eqb};
 ghost use lib.ListN.{length};
@@ -9,6 +9,27 @@ ghost use Rattle.plan_rules.specs.Routers.{role, routerOk, routersOk};
 
 // The role of a client; each other role is a reflector's.
 pub const CLIENT: u8 = 2;
+
+// The roles of a reflector that skips its clients, of one with the hop step, and of one with both.
+const SKIPPING: u8 = 3;
+
+const STEPPING: u8 = 4;
+
+const BOTH: u8 = 5;
+
+// Whether a router of this role skips its clients.
+pub fn skips_clients(role: u8) -> bool
+    ensures { λ r. ⌜ r ≡ (eqb role 3 || eqb role 5) ⌝ }
+{
+    role == SKIPPING || role == BOTH
+}
+
+// Whether a router of this role has the hop step.
+pub fn has_step(role: u8) -> bool
+    ensures { λ r. ⌜ r ≡ (eqb role 4 || eqb role 5) ⌝ }
+{
+    role == STEPPING || role == BOTH
+}
 
 pub fn is_reflector(s: &[u8], v: usize) -> bool
     requires { ⌜ 5 * v < length (now s) ⌝ }
@@ -25,7 +46,7 @@ fn router_ok(s: &[u8], v: usize) -> bool
     if role < 1 {
         return false;
     }
-    if 3 < role {
+    if 5 < role {
         return false;
     }
     if v == 0 {

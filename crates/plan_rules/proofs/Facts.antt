@@ -21,7 +21,7 @@ use Rattle.plan_rules.proofs.Rising.{numbers-rise, numbers-step, pairs-
 -- row 4
 module _ (s : List ℕ) where
   abbrev RouterAt : ℕ → Type 0
-  RouterAt v = ((1 ≤ role s v) × (role s v ≤ 3)) × (risesAt (identifierBefore s) v ≡ true)
+  RouterAt v = ((1 ≤ role s v) × (role s v ≤ 5)) × (risesAt (identifierBefore s) v ≡ true)
 
   router-iff : (v : ℕ) → (routerOk s v ≡ true) ↔ RouterAt v
   unfolding routerOk

@@ -13,10 +13,10 @@ use Rattle.plan_rules.specs.Parents.{parentCount}
 use Rattle.plan_rules.specs.Distances.{distanceIn}
 use Rattle.plan_rules.specs.Lists.{listCountIn, listPlace, memberCount, member}
 
--- row 4: every role 1 to 3, identifiers strictly rising
+-- row 4: every role 1 to 5, identifiers strictly rising
 pub record Routers (s : List ℕ) (n : ℕ) : Type 0 where
   pub roleLeast : (v : ℕ) → v < n → 1 ≤ role s v
-  pub roleMost : (v : ℕ) → v < n → role s v ≤ 3
+  pub roleMost : (v : ℕ) → v < n → role s v ≤ 5
   pub rising : (u v : ℕ) → u < v → v < n → identifier s u < identifier s v
 
 -- row 5: each session's numbers are `first < second < n`, sessions strictly rising

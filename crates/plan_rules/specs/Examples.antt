@@ -42,13 +42,17 @@ pub record BodiesExamples : Type 0 where
   pub lowBytesRise : routersOk (1 ∷ 4 ∷ 0 ∷ 1 ∷ 0 ∷ 2 ∷ 5 ∷ 0 ∷ 0 ∷ 0 ∷ []) 2 ≡ false  -- by two bytes: true
   pub lowThreeFall : routersOk (1 ∷ 9 ∷ 0 ∷ 9 ∷ 0 ∷ 2 ∷ 8 ∷ 0 ∷ 8 ∷ 1 ∷ []) 2 ≡ true  -- by three bytes: false
   pub equalIdentifiers : routersOk (1 ∷ 9 ∷ 0 ∷ 0 ∷ 0 ∷ 2 ∷ 9 ∷ 0 ∷ 0 ∷ 0 ∷ []) 2 ≡ false  -- not strictly: true
-  -- "Refusal 4 now admits 1 to 3."
-  pub roleZero : routersOk (0 ∷ 9 ∷ 0 ∷ 0 ∷ 0 ∷ []) 1 ≡ false  -- any role to 3: true
+  -- "Refusal 4 now admits 1 to 5."
+  pub roleZero : routersOk (0 ∷ 9 ∷ 0 ∷ 0 ∷ 0 ∷ []) 1 ≡ false  -- any role to 5: true
   pub roleThree : routersOk (3 ∷ 9 ∷ 0 ∷ 0 ∷ 0 ∷ []) 1 ≡ true  -- 1 and 2 alone: false
-  pub roleFour : routersOk (4 ∷ 9 ∷ 0 ∷ 0 ∷ 0 ∷ []) 1 ≡ false  -- any role from 1: true
-  -- "role (1 reflector, 2 client)"; "Role 3 is such a reflector"
+  pub roleFour : routersOk (4 ∷ 9 ∷ 0 ∷ 0 ∷ 0 ∷ []) 1 ≡ true  -- 1 to 3: false
+  pub roleFive : routersOk (5 ∷ 9 ∷ 0 ∷ 0 ∷ 0 ∷ []) 1 ≡ true  -- 1 to 4: false
+  pub roleSix : routersOk (6 ∷ 9 ∷ 0 ∷ 0 ∷ 0 ∷ []) 1 ≡ false  -- any role from 1: true
+  -- "role (1 reflector, 2 client)"; "Role 3 is such a reflector"; "Roles 4 and 5 are roles 1 and 3 with that step"
   pub client : reflectorIn (2 ∷ 9 ∷ 0 ∷ 0 ∷ 0 ∷ []) 1 0 ≡ false  -- role 2 for reflector: true
   pub thirdRole : reflectorIn (3 ∷ 9 ∷ 0 ∷ 0 ∷ 0 ∷ []) 1 0 ≡ true  -- role 3 for client: false
+  pub fourthRole : reflectorIn (4 ∷ 9 ∷ 0 ∷ 0 ∷ 0 ∷ []) 1 0 ≡ true  -- roles 1 and 3 alone: false
+  pub fifthRole : reflectorIn (5 ∷ 9 ∷ 0 ∷ 0 ∷ 0 ∷ []) 1 0 ≡ true  -- roles 1 and 3 alone: false
   -- "pairs of router numbers, one byte each and below n, the first below the second, pairs rising strictly"
   pub byFirstThenSecond : sessionsOk (0 ∷ 2 ∷ 1 ∷ 2 ∷ 1 ∷ 3 ∷ []) 4 ≡ true  -- by the second number: false
   pub secondFalls : sessionsOk (0 ∷ 2 ∷ 0 ∷ 1 ∷ []) 4 ≡ false  -- by the first number: true

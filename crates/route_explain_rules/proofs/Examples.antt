@@ -1,17 +1,18 @@
 -- The examples, worked out from the rules.
 use mathlib.Core.Path.{refl}
 use Rattle.base.specs.Best.{keepBest, best}
-use Rattle.route_rules.specs.Preference.{prefers, marginOf}
+use Rattle.route_rules.specs.Preference.{nearer, hasStep, hops, prefers, marginOf}
 use Rattle.route_rules.specs.Reliance.{listedClientOf, bestClient, offer, betterOffer, relies}
 use Rattle.route_rules.specs.Examples.{among, network}
+use Rattle.route_rules.specs.HopExamples.{two}
 use Rattle.route_explain_rules.specs.Explained.{againstOwn, byOffer, onReflector, onClient, explained}
 use Rattle.route_explain_rules.specs.Reasons.{reasons}
 use Rattle.route_explain_rules.specs.Examples.{site, sharedSite, ExplainingExamples}
 
 pub explaining-examples : ExplainingExamples
 unfolding
-    among network site sharedSite reasons betterOffer relies againstOwn byOffer onReflector onClient explained
-    listedClientOf bestClient offer prefers marginOf keepBest best
+    among network two site sharedSite reasons betterOffer relies againstOwn byOffer onReflector onClient explained
+    listedClientOf bestClient offer nearer hasStep hops prefers marginOf keepBest best
 explaining-examples =
     record {
       parent = refl;
@@ -38,6 +39,13 @@ explaining-examples =
       sharedBestClient = refl;
       tie = refl;
       listedReflector = refl;
+      stepDecides = refl;
+      stepOfTheRelyingOne = refl;
+      stepAndNoOffer = refl;
+      stepWithoutOwn = refl;
+      stepAndListed = refl;
+      stepAndFarther = refl;
+      stepReasons = refl;
       relied = refl;
       reliedPlainly = refl;
       rules = refl;

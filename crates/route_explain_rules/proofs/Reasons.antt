@@ -1,21 +1,26 @@
 -- An explanation, case by case.
-use Prim.Native.Nat.{ℕ}
+use Prim.Native.Nat.{ℕ, _<_}
 use native.Mathlib.Omega.{arith}
 use mathlib.Core.Path.{_≡_, refl, _∙_, sym, ap, subst}
 use mathlib.Core.Bool.{Bool, true, false, and-false}
 use mathlib.Core.Option.{Option, none, some, Option·getD}
+use mathlib.Core.Logic.{_⊎_}
 use lib.Dec.{eqb}
-use lib.IntN.{pos}
-use borrow.Author.Tests.{eqb-true}
+use lib.IntN.{ℤ, pos}
+use lib.Signed.{_<ℤ_}
+use borrow.Author.Tests.{eqb-true, ne-eqb}
 use Rattle.route_rules.specs.Instance.{Instance, isRouter}
-use Rattle.route_rules.specs.Preference.{prefers, better, marginOf}
+use Rattle.route_rules.specs.Preference.{nearer, hasStep, prefers, better, marginOf}
 use Rattle.route_rules.specs.Reliance.{listedClientOf, bestClient, offer, betterOffer, relies}
+use Rattle.route_rules.proofs.Preference.{prefers-alike, prefers-passed, prefers-nearer, better-both-ways}
+use Rattle.route_rules.proofs.Margins.{known, margins}
 use Rattle.route_rules.proofs.Routes.{isRouter-same, isRouter-some}
 use Rattle.route_rules.proofs.Reliance.{bestClient-is, client-way, not-best-client, relies-listed, relies-client, relies-own, relies-other, client-on-stranger, offer-stranger, offer-neighbour, better-no-way}
 use Rattle.base.proofs.Best.{BestIs}
+use Rattle.base.proofs.Numbers.{both-left}
 use Rattle.route_explain_rules.specs.Explained.{WayTo, againstOwn, byOffer, onReflector, onClient, explained}
 use Rattle.route_explain_rules.specs.Values.{valuesOf}
-use Rattle.route_explain_rules.specs.Reasons.{isYes, reasonPlace, reasons, firstFrom, RuleOf, Explaining}
+use Rattle.route_explain_rules.specs.Reasons.{isYes, reasonPlace, reasons, firstFrom, RuleOf, Explaining, StepExplained}
 use Rattle.route_explain_rules.specs.declared.explanation.Explanation.{Explanation}
 use Rattle.route_explain_rules.specs.declared.explanation.Explanation.the-variants.{Refused, Yes, No}
 use Rattle.route_explain_rules.specs.declared.explanation.Rule.the-variants.{Parent, PeerClient, OwnBestClient, AnyOffer, BetterOffer}
@@ -45,17 +50,18 @@ values-say (Yes (BetterOffer e c m)) = refl
 values-say (No reason) = refl
 
 -- rule 3 on an offer says yes exactly if the offer is better
-pub by-offer-says : (I : Instance) (w : ℕ) (o own : Option ℕ) → isYes (byOffer I w o own) ≡ betterOffer I w o own
+pub by-offer-says : (I : Instance) (w : ℕ) (d : Bool) (o own : Option ℕ) → isYes (byOffer I w d o own) ≡ betterOffer I w d o own
 unfolding byOffer againstOwn betterOffer
-by-offer-says I w none own = refl
-by-offer-says I w (some e) none = go (I .way w e) refl
+by-offer-says I w d none own = refl
+by-offer-says I w d (some e) none = go (I .way w e) refl
   where
-    go : (a : Bool) → I .way w e ≡ a → isYes (byOffer I w (some e) none) ≡ betterOffer I w (some e) none
+    go : (a : Bool) → I .way w e ≡ a → isYes (byOffer I w d (some e) none) ≡ betterOffer I w d (some e) none
     go true p = cc
     go false p = cc
-by-offer-says I w (some e) (some c) = go (I .way w e) refl (prefers I w e c) refl
+by-offer-says I w d (some e) (some c) = go (I .way w e) refl (prefers I w e d c true) refl
   where
-    go : (a : Bool) → I .way w e ≡ a → (b : Bool) → prefers I w e c ≡ b → isYes (byOffer I w (some e) (some c)) ≡ betterOffer I w (some e) (some c)
+    go : (a : Bool) → I .way w e ≡ a → (b : Bool) → prefers I w e d c true ≡ b
+        → isYes (byOffer I w d (some e) (some c)) ≡ betterOffer I w d (some e) (some c)
     go true p true q = cc
     go true p false q = cc
     go false p b q = cc
@@ -64,7 +70,7 @@ by-offer-says I w (some e) (some c) = go (I .way w e) refl (prefers I w e c) ref
 pub own-way-to : (I : Instance) (w : ℕ) → WayTo I w (bestClient I w)
 own-way-to I w = go (bestClient I w) (bestClient-is I w)
   where
-    go : (b : Option ℕ) → BestIs (prefers I w) (listedClientOf I w) (I .n) b → WayTo I w b
+    go : (b : Option ℕ) → BestIs (nearer I w) (listedClientOf I w) (I .n) b → WayTo I w b
     go none h = tt
     go (some c) h = client-way I w c (h .among)
 
@@ -126,7 +132,7 @@ module _ (I : Instance) (w v : ℕ) where
             unfolding reasons firstFrom
             no-way e o h =
                 record {
-                  agrees = sym (offer-neighbour I w v unlisted role reflector near ∙ ap (λ x. betterOffer I w x (bestClient I w)) o ∙ better-no-way I w e _ h);
+                  agrees = sym (offer-neighbour I w v unlisted role reflector near ∙ ap (λ x. betterOffer I w (I .listed v) x (bestClient I w)) o ∙ better-no-way I w (I .listed v) e _ h);
                   rule = tt;
                   reason = cc;
                 }
@@ -145,7 +151,7 @@ module _ (I : Instance) (w v : ℕ) where
               own-way : I .way w c ≡ true
               own-way = subst (WayTo I w) b (own-way-to I w)
 
-              better-own : prefers I w e c ≡ true → Owed (Yes (BetterOffer e c (Option·getD (marginOf I w e c) (pos 0))))
+              better-own : prefers I w e (I .listed v) c true ≡ true → Owed (Yes (BetterOffer e c (Option·getD (marginOf I w e c) (pos 0))))
               unfolding reasons firstFrom betterOffer better marginOf
               better-own p =
                   record {
@@ -154,7 +160,7 @@ module _ (I : Instance) (w v : ℕ) where
                     reason = cc;
                   }
 
-              not-better : prefers I w e c ≡ false → Owed (No OfferNotBetter)
+              not-better : prefers I w e (I .listed v) c true ≡ false → Owed (No OfferNotBetter)
               unfolding reasons firstFrom betterOffer
               not-better p = record { agrees = sym (offer-neighbour I w v unlisted role reflector near ∙ cc); rule = tt; reason = cc }
 
@@ -198,9 +204,9 @@ module _ (I : Instance) (w v : ℕ) where
           way : (t : Bool) → I .way w x ≡ t → Owed (explained I w v)
           way true t = from _ (cc) (only-offer a b c d e x o t k)
           way false t = from _ (cc) (no-way a b c d e x o t)
-      offered (some x) o (some y) k a b c d e = way (I .way w x) refl (prefers I w x y) refl
+      offered (some x) o (some y) k a b c d e = way (I .way w x) refl (prefers I w x (I .listed v) y true) refl
         where
-          way : (t : Bool) → I .way w x ≡ t → (p : Bool) → prefers I w x y ≡ p → Owed (explained I w v)
+          way : (t : Bool) → I .way w x ≡ t → (p : Bool) → prefers I w x (I .listed v) y true ≡ p → Owed (explained I w v)
           way true t true p = from _ (cc) (better-own a b c d e x y o t k p)
           way true t false p = from _ (cc) (not-better a b c d e x y o t k p)
           way false t p q = from _ (cc) (no-way a b c d e x o t)
@@ -219,3 +225,27 @@ module _ (I : Instance) (w v : ℕ) where
   pub explaining : Explaining I w v
   explaining =
       record { agrees = owed .agrees; rule = owed .rule; reason = owed .reason; neverFifth = λ h. not-fifth (explained I w v) (owed .reason ∙ h) }
+
+  -- the step decides against an offer that is passed on
+  passed-on : I .listed w ≡ false → hasStep I w ≡ true → (bestClient I w ≡ none → ⊥) → I .neighbour w v ≡ true → I .reflector v ≡ true
+      → I .listed v ≡ false → (e : ℕ) → offer I v ≡ some e → I .way w e ≡ true → (w ≡ v → ⊥) → explained I w v ≡ No OfferNotBetter
+  unfolding explained onReflector byOffer againstOwn hasStep
+  passed-on unlisted step own near reflector passes e o way apart = go (bestClient I w) refl
+    where
+      go : (b : Option ℕ) → bestClient I w ≡ b → explained I w v ≡ No OfferNotBetter
+      go none k = absurd (own k)
+      go (some c) k =
+          cc (ne-eqb w v apart, both-left (I .reflector w) (I .hop w) step, prefers-passed I w step e c)
+
+  -- a better offer is nearer, or as near and of a lower number
+  by-distance : (e c : ℕ) (m : ℤ) → explained I w v ≡ Yes (BetterOffer e c m) → (m <ℤ pos 0) ⊎ ((m ≡ pos 0) × (e < c))
+  by-distance e c m h =
+      let r : RuleOf I w v (Yes (BetterOffer e c m)) = subst (RuleOf I w v) h (owed .rule) in
+      let k = known I w e c m (r .5) in
+      let near : nearer I w e c ≡ true
+      = prefers-nearer I w e (I .listed v) c (sym (better-both-ways I w e (I .listed v) c true (k .toFirst) (k .toSecond)) ∙ r .4) in
+      margins I w e c true true .first m (r .5) refl .0
+      (better-both-ways I w e true c true (k .toFirst) (k .toSecond) ∙ prefers-alike I w e c true ∙ near)
+
+  pub step-explained : StepExplained I w v
+  step-explained = record { passedOn = passed-on; byDistance = by-distance }

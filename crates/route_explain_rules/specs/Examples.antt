@@ -8,6 +8,7 @@ use lib.IntN.{pos, negℤ}
 use Rattle.route_rules.specs.Instance.{Instance}
 use Rattle.route_rules.specs.Reliance.{relies}
 use Rattle.route_rules.specs.Examples.{network}
+use Rattle.route_rules.specs.HopExamples.{two}
 use Rattle.route_explain_rules.specs.Explained.{explained}
 use Rattle.route_explain_rules.specs.Reasons.{reasons, isYes}
 use Rattle.route_explain_rules.specs.Values.{valuesOf}
@@ -21,7 +22,7 @@ use Rattle.route_explain_rules.specs.declared.explanation.Reason.the-var
 -- Reflectors 0 to 2, clients 3 to 5; from 2 there is no way to 3
 unfoldable pub site : (listed : List ℕ) → Instance
 site listed =
-    network 6 (0 ∷ 1 ∷ 2 ∷ []) [] listed
+    network 6 (0 ∷ 1 ∷ 2 ∷ []) [] [] listed
     -- the neighbours of each router
     ((1 ∷ 2 ∷ 3 ∷ 4 ∷ []) ∷ (0 ∷ 2 ∷ 5 ∷ []) ∷ (0 ∷ 1 ∷ []) ∷ (0 ∷ 4 ∷ []) ∷ (0 ∷ 3 ∷ []) ∷ (1 ∷ []) ∷ [])
     -- the distances from each reflector; no rule asks for those from a client
@@ -32,7 +33,7 @@ site listed =
 -- Reflector 0, reflector 1 of role 3, clients 2 to 4, of which 3 neighbours both reflectors; from 0 there is no way to 2 and to 4
 unfoldable pub sharedSite : (listed : List ℕ) → Instance
 sharedSite listed =
-    network 5 (0 ∷ 1 ∷ []) (1 ∷ []) listed
+    network 5 (0 ∷ 1 ∷ []) (1 ∷ []) [] listed
     ((1 ∷ 2 ∷ 3 ∷ []) ∷ (0 ∷ 3 ∷ 4 ∷ []) ∷ (0 ∷ []) ∷ (0 ∷ 1 ∷ []) ∷ (1 ∷ []) ∷ [])
     ((0 ∷ 30 ∷ 30 ∷ 10 ∷ 30 ∷ []) ∷ (30 ∷ 0 ∷ 30 ∷ 5 ∷ 4 ∷ []) ∷ [])
     ((2 ∷ 4 ∷ []) ∷ [])
@@ -90,6 +91,16 @@ pub record ExplainingExamples : Type 0 where
   pub tie : explained clients45 1 0 ≡ Yes (BetterOffer 4 5 (pos 0))  -- an offer must be nearer: not better
   -- list 0: "A listed reflector offers itself"
   pub listedReflector : explained reflector0 1 0 ≡ Yes (AnyOffer 0)
+  -- with the hop step at 0: what the unlisted 1 offers is passed on, and from 0 it is 6 to it and 10 to the own best client
+  pub stepDecides : explained (two (0 ∷ []) (2 ∷ 3 ∷ [])) 0 1 ≡ No OfferNotBetter  -- by the distance: Yes (BetterOffer 3 2 (negℤ (pos 4)))
+  pub stepOfTheRelyingOne : explained (two (0 ∷ []) (2 ∷ 3 ∷ [])) 1 0 ≡ Yes (BetterOffer 2 3 (negℤ (pos 4)))  -- that of who offers: not better
+  pub stepAndNoOffer : explained (two (0 ∷ []) (2 ∷ [])) 0 1 ≡ No NoOffer  -- a passed on offer said to be not better: No OfferNotBetter
+  pub stepWithoutOwn : explained (two (0 ∷ []) (3 ∷ [])) 0 1 ≡ Yes (AnyOffer 3)  -- no passed on offer counts: No OfferNotBetter
+  -- .. a listed reflector tells its own route: from 0 it is 7 to 1, and from 1 it is 30 to 0
+  pub stepAndListed : explained (two (0 ∷ []) (1 ∷ 2 ∷ [])) 0 1 ≡ Yes (BetterOffer 1 2 (negℤ (pos 3)))  -- every offer as passed on: not better
+  pub stepAndFarther : explained (two (1 ∷ []) (0 ∷ 3 ∷ [])) 1 0 ≡ No OfferNotBetter  -- the own best client as passed on: Yes ..
+  pub stepReasons :
+      reasons (two (0 ∷ []) (2 ∷ 3 ∷ [])) 0 1 ≡ false ∷ false ∷ false ∷ false ∷ false ∷ false ∷ false ∷ false ∷ true ∷ []
   -- "Yes must agree with the plain reliance answer": of router 0 on each router, for list 3,5
   pub relied : map (λ v. isYes (explained clients35 0 v)) (0 ∷ 1 ∷ 2 ∷ 3 ∷ 4 ∷ 5 ∷ []) ≡ false ∷ true ∷ false ∷ true ∷ false ∷ false ∷ []
   pub reliedPlainly :

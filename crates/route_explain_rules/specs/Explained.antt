@@ -1,7 +1,8 @@
--- The rule by which a router relies on another, or the first reason why it does not (document 02, "Every reliance with its rule").
+-- The rule by which a router relies on another, or the first reason why it does not (document 02, "Every reliance with its rule" and
+-- "Reflectors with the hop step").
 use Prim.Native.Nat.{ℕ}
 use mathlib.Core.Path.{_≡_}
-use mathlib.Core.Bool.{true, not, cond}
+use mathlib.Core.Bool.{Bool, true, not, cond}
 use mathlib.Core.Option.{Option, none, some, Option·getD}
 use lib.Dec.{eqb}
 use lib.IntN.{pos}
@@ -21,19 +22,20 @@ WayTo I w none = Unit
 WayTo I w (some c) = I .way w c ≡ true
 
 -- "better offer with its route and, if there is an own best client, that one's route and the margin, offer minus own"; "offer not better":
--- w has a way to the offer e, and its own best client is given
-unfoldable pub againstOwn : Instance → ℕ → ℕ → Option ℕ → Explanation
-againstOwn I w e none = Yes (AnyOffer e)
-againstOwn I w e (some c) = cond (prefers I w e c) (Yes (BetterOffer e c (Option·getD (marginOf I w e c) (pos 0)))) (No OfferNotBetter)
+-- w has a way to the offer e, d says that e itself tells it, and w's own best client is given. "Rule 3 uses this order at such a reflector,
+-- for its best client against an offer": one that the hop step puts second is not better, whatever the margin.
+unfoldable pub againstOwn : Instance → ℕ → Bool → ℕ → Option ℕ → Explanation
+againstOwn I w d e none = Yes (AnyOffer e)
+againstOwn I w d e (some c) = cond (prefers I w e d c true) (Yes (BetterOffer e c (Option·getD (marginOf I w e c) (pos 0)))) (No OfferNotBetter)
 
 -- "no offer, no way to the offer": the offer and w's own best client are given
-unfoldable pub byOffer : Instance → ℕ → Option ℕ → Option ℕ → Explanation
-byOffer I w none own = No NoOffer
-byOffer I w (some e) own = cond (I .way w e) (againstOwn I w e own) (No NoWayToTheOffer)
+unfoldable pub byOffer : Instance → ℕ → Bool → Option ℕ → Option ℕ → Explanation
+byOffer I w d none own = No NoOffer
+byOffer I w d (some e) own = cond (I .way w e) (againstOwn I w d e own) (No NoWayToTheOffer)
 
--- of unlisted w and its neighbour v, a reflector: rule 2, or rule 3 on what v offers
+-- of unlisted w and its neighbour v, a reflector: rule 2, or rule 3 on what v offers, which v itself tells if it is listed
 unfoldable pub onReflector : Instance → ℕ → ℕ → Explanation
-onReflector I w v = cond (I .reflector w) (byOffer I w (offer I v) (bestClient I w)) (Yes Parent)
+onReflector I w v = cond (I .reflector w) (byOffer I w (I .listed v) (offer I v) (bestClient I w)) (Yes Parent)
 
 -- .. a client: "second an unlisted client", rule 2, or rule 3 and "a client that is not the best one"
 unfoldable pub onClient : Instance → ℕ → ℕ → Explanation

@@ -1,13 +1,16 @@
 -- What an explanation says, in plain terms: it is yes exactly if the one router relies on the other, its reason is the first that applies,
 -- and a rule carries the routes and the margin that the rules of reliance and the comparison give.
-use Prim.Native.Nat.{ℕ, suc}
+use Prim.Native.Nat.{ℕ, suc, _<_}
 use mathlib.Core.Path.{_≡_}
 use mathlib.Core.Bool.{Bool, true, false, not, cond, _&&_}
 use mathlib.Core.Option.{Option, none, some}
 use mathlib.Core.List.{List, [], _∷_}
+use mathlib.Core.Logic.{_⊎_}
 use lib.Dec.{eqb}
+use lib.IntN.{ℤ, pos}
+use lib.Signed.{_<ℤ_}
 use Rattle.route_rules.specs.Instance.{Instance, isRouter}
-use Rattle.route_rules.specs.Preference.{better, marginOf}
+use Rattle.route_rules.specs.Preference.{hasStep, better, marginOf}
 use Rattle.route_rules.specs.Reliance.{bestClient, offer, betterOffer, relies}
 use Rattle.route_explain_rules.specs.Explained.{explained}
 use Rattle.route_explain_rules.specs.declared.explanation.Explanation.{Explanation}
@@ -44,7 +47,7 @@ reasons I w v =
     ∷ (I .reflector w && not (I .reflector v) && not (isRouter v (bestClient I w)))  -- "a client that is not the best one"
     ∷ (I .reflector w && I .reflector v && isNone (offer I v))  -- "no offer"
     ∷ (I .reflector w && I .reflector v && outOfReach I w (offer I v))  -- "no way to the offer"
-    ∷ (I .reflector w && I .reflector v && not (betterOffer I w (offer I v) (bestClient I w)))  -- "offer not better"
+    ∷ (I .reflector w && I .reflector v && not (betterOffer I w (I .listed v) (offer I v) (bestClient I w)))  -- "offer not better"
     ∷ []
 
 -- the place of the first that is true, counted from k; 0 if none is
@@ -86,7 +89,7 @@ ByRule I w v (AnyOffer e) =
     (I .reflector w ≡ true) × (I .reflector v ≡ true) × (offer I v ≡ some e) × (I .way w e ≡ true) × (bestClient I w ≡ none)
 ByRule I w v (BetterOffer e c m) =
     (I .reflector w ≡ true) × (I .reflector v ≡ true) × (offer I v ≡ some e) × (bestClient I w ≡ some c)
-    × (better I w e c ≡ true) × (marginOf I w e c ≡ some m)
+    × (better I w e (I .listed v) c true ≡ true) × (marginOf I w e c ≡ some m)
 
 -- .. as an answer says
 abbrev pub RuleOf : Instance → ℕ → ℕ → Explanation → Type 0
@@ -104,3 +107,14 @@ pub record Explaining (I : Instance) (w v : ℕ) : Type 0 where
   pub reason : reasonPlace (explained I w v) ≡ firstFrom 1 (reasons I w v)
   -- "Reasons that never occur are shown so and dropped": the fifth, "both clients with the second unlisted"
   pub neverFifth : firstFrom 1 (reasons I w v) ≡ 5 → ⊥
+
+-- The hop step in an explanation (document 02, "Reflectors with the hop step"). The theorem `step-explained` says that these hold.
+pub record StepExplained (I : Instance) (w v : ℕ) : Type 0 where
+  -- Where the step decides the reason is "offer not better": at a reflector with the step and a best client, of every offer that w has a way
+  -- to and that its egress does not tell itself, however near it is.
+  pub passedOn :
+      I .listed w ≡ false → hasStep I w ≡ true → (bestClient I w ≡ none → ⊥) → I .neighbour w v ≡ true → I .reflector v ≡ true
+      → I .listed v ≡ false → (e : ℕ) → offer I v ≡ some e → I .way w e ≡ true → (w ≡ v → ⊥) → explained I w v ≡ No OfferNotBetter
+  -- It makes no offer better, so the margin of a yes still tells why: the offer is nearer, or as near and has the lower number.
+  pub byDistance :
+      (e c : ℕ) (m : ℤ) → explained I w v ≡ Yes (BetterOffer e c m) → (m <ℤ pos 0) ⊎ ((m ≡ pos 0) × (e < c))

@@ -2,7 +2,7 @@
 use mathlib.Core.Path.{refl}
 use Rattle.base.specs.Below.{allBelow, anyBelow}
 use Rattle.base.specs.Best.{keepBest, best}
-use Rattle.route_rules.specs.Preference.{prefers, better, marginOf}
+use Rattle.route_rules.specs.Preference.{nearer, hasStep, hops, prefers, prefersBy, better, marginOf}
 use Rattle.route_rules.specs.Activation.{reflects, advertises, hears, senderOf, routeTo, choice, choose, entryOk, tableOk, activate, runActs}
 use Rattle.route_rules.specs.Rounds.{acted, roundsFrom, rounds, tallyAct, tallyActs}
 use Rattle.route_rules.specs.Reliance.{listedClientOf, bestClient, offer, betterOffer, relies}
@@ -11,7 +11,7 @@ use Rattle.route_rules.specs.Examples.{among, network, neighbours, dista
 pub routing-examples : RoutingExamples
 unfolding
     among network neighbours distances sixWith start
-    prefers better marginOf reflects advertises hears senderOf routeTo choice choose entryOk tableOk activate runActs
+    nearer hasStep hops prefers prefersBy better marginOf reflects advertises hears senderOf routeTo choice choose entryOk tableOk activate runActs
     acted roundsFrom rounds tallyAct tallyActs listedClientOf bestClient offer betterOffer relies
     allBelow anyBelow keepBest best
 routing-examples =

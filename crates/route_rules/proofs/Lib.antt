@@ -1,7 +1,9 @@
 pub mod Examples
+pub mod HopExamples
 pub mod Preference
 pub mod Margins
 pub mod Routes
 pub mod Rounds
 pub mod Reliance
 pub mod OneComparison
+pub mod StepChoice

@@ -16,9 +16,9 @@ use Rattle.base.proofs.Below.{Witness, any-at, any-found, all-at, all-intro}
 use Rattle.base.specs.Best.{best}
 use Rattle.base.proofs.Best.{StrictOrder, BestIs, IsBest, best-is, order-same, ltb-order}
 use Rattle.route_rules.specs.Instance.{Instance, Route, nothing, via, isRouter}
-use Rattle.route_rules.specs.Preference.{prefers}
-use Rattle.route_rules.specs.Activation.{reflects, advertises, Advertising, hears, Hearing, senderOf, routeFrom, routeTo, choice, choose, held, entryOk, tableOk, activate, runActs}
-use Rattle.route_rules.proofs.Preference.{prefers-order}
+use Rattle.route_rules.specs.Preference.{prefersBy}
+use Rattle.route_rules.specs.Activation.{reflects, advertises, Advertising, hears, Hearing, heardDirect, senderOf, routeFrom, routeTo, choice, choose, EntryTells, held, entryOk, tableOk, activate, runActs}
+use Rattle.route_rules.proofs.Preference.{prefersBy-order}
 
 pub isRouter-same : (v : ℕ) (o : Option ℕ) → isRouter v o ≡ true → o ≡ some v
 isRouter-same v none h = not-both false h refl
@@ -225,9 +225,22 @@ module _ (I : Instance) (w : ℕ) (view : ℕ → Route) where
   choose-listed h = cc
 
   -- any other the best egress that it hears, from the egress itself if that tells and else from the lowest teller, and nothing if it hears nothing
-  pub choose-is : I .listed w ≡ false → ChoiceIs (prefers I w) (hears I view w) (I .n) (choose I w view)
+  pub choose-is : I .listed w ≡ false → ChoiceIs (prefersBy I w (heardDirect I view w)) (hears I view w) (I .n) (choose I w view)
   unfolding choose
-  choose-is h = rw h (choice-is (prefers I w) (hears I view w) (I .n) (prefers-order I w))
+  choose-is h =
+      rw h (choice-is (prefersBy I w (heardDirect I view w)) (hears I view w) (I .n) (prefersBy-order I w (heardDirect I view w)))
+
+-- an entry that a router leaves itself says whether the egress told it
+pub entry-tells : (I : Instance) → EntryTells I
+entry-tells I w view unlisted e s h = go (heardDirect I view w e) refl
+  where
+    c : IsChoice (prefersBy I w (heardDirect I view w)) (hears I view w) (I .n) e s
+    c = rw h at (choose-is I w view unlisted)
+
+    go : (b : Bool) → heardDirect I view w e ≡ b → heardDirect I view w e ≡ eqb s e
+    go true p = p ∙ sym (eq-eqb s e (c .itself p))
+    go false p =
+        p ∙ sym (ne-eqb s e (λ q. not-both (hears I view w e e) (ap (λ v. hears I view w v e) (sym q) ∙ c .told) p))
 
 module _ (I : Instance) where
   -- an activation changes no entry but the router's own
@@ -253,7 +266,7 @@ module _ (I : Instance) where
   unfolding entryOk
   choose-ok w view = go (I .listed w) refl
     where
-      other : I .listed w ≡ false → (x : Route) → ChoiceIs (prefers I w) (hears I view w) (I .n) x → entryOk I w x ≡ true
+      other : I .listed w ≡ false → (x : Route) → ChoiceIs (prefersBy I w (heardDirect I view w)) (hears I view w) (I .n) x → entryOk I w x ≡ true
       other p nothing g = cc
       other p (via e s) g = cc (lt-ltb e (I .n) (g .egress), hears-neighbour I view w s e (g .told))
 

@@ -1,5 +1,5 @@
 -- What a router advertises, and what an activation leaves (document 01, "Choosing and announcing"; there the words are "announces" and
--- "act"; document 02, "Cut-off routers" and "Reflectors that skip their own clients").
+-- "act"; document 02, "Cut-off routers", "Reflectors that skip their own clients" and "Reflectors with the hop step").
 use Prim.Native.Nat.{ℕ}
 use mathlib.Core.Path.{_≡_}
 use mathlib.Core.Bool.{Bool, true, false, not, cond, _&&_}
@@ -10,7 +10,7 @@ use lib.ListN.{getD, set}
 use Rattle.base.specs.Below.{allBelow, anyBelow}
 use Rattle.base.specs.Best.{best}
 use Rattle.route_rules.specs.Instance.{Instance, Route, nothing, via, isRouter}
-use Rattle.route_rules.specs.Preference.{prefers}
+use Rattle.route_rules.specs.Preference.{prefersBy}
 
 -- "An unlisted reflector announces the route it holds: one heard from a client to all neighbours but that client, one heard from a
 -- reflector to its clients only." "Role 3 is such a reflector: what it hears from a client it announces to reflectors only."
@@ -74,6 +74,11 @@ pub record Hearing (I : Instance) (view : ℕ → Route) (w v e : ℕ) : Type 0 
   pub advertised : hears I view w v e ≡ true → advertises I v (view v) w ≡ some e
   pub way : hears I view w v e ≡ true → I .way w e ≡ true
 
+-- "a route told by its own egress router": w hears e from e itself, be it by a left-over entry with which an unlisted e tells a route to
+-- itself
+abbrev pub heardDirect : Instance → (ℕ → Route) → ℕ → ℕ → Bool
+heardDirect I view w e = hears I view w e e
+
 -- "If one egress is heard from several neighbours, the egress router itself is the sender if it is one of them, else the lowest number."
 -- `tells v e` says that v tells e.
 unfoldable pub senderOf : (ℕ → ℕ → Bool) → ℕ → ℕ → Option ℕ
@@ -96,7 +101,13 @@ choice prefer tells n = routeTo tells n (best prefer (λ e. anyBelow (λ v. tell
 -- "An act of a listed router leaves its own route. An act of another leaves the best route announced to it, or nothing if there is none."
 -- "A router's own route is unaffected": no way is asked for.
 unfoldable pub choose : Instance → ℕ → (ℕ → Route) → Route
-choose I w view = cond (I .listed w) (via w w) (choice (prefers I w) (hears I view w) (I .n))
+choose I w view = cond (I .listed w) (via w w) (choice (prefersBy I w (heardDirect I view w)) (hears I view w) (I .n))
+
+-- "told by its own egress router", of a route that w itself holds: exactly if its egress and its sender are the same. The theorem
+-- `entry-tells` says that this holds.
+abbrev pub EntryTells : Instance → Type 0
+EntryTells I =
+    (w : ℕ) (view : ℕ → Route) → I .listed w ≡ false → (e s : ℕ) → choose I w view ≡ via e s → heardDirect I view w e ≡ eqb s e
 
 -- what the routers of a table hold; the table is a list, so that it is worked out once
 abbrev pub held : List Route → ℕ → Route

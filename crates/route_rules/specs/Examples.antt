@@ -9,7 +9,7 @@ use lib.Dec.{eqb}
 use lib.ListN.{getD}
 use lib.IntN.{pos, negℤ}
 use Rattle.route_rules.specs.Instance.{Instance, Route, nothing, via}
-use Rattle.route_rules.specs.Preference.{prefers, better, marginOf}
+use Rattle.route_rules.specs.Preference.{nearer, better, marginOf}
 use Rattle.route_rules.specs.Activation.{reflects, advertises, hears, senderOf, choose, held, entryOk, tableOk, activate, runActs}
 use Rattle.route_rules.specs.Rounds.{rounds, freshTally, tallyActs}
 use Rattle.route_rules.specs.Reliance.{bestClient, offer, betterOffer, relies}
@@ -19,14 +19,15 @@ unfoldable pub among : List ℕ → ℕ → Bool
 among [] v = false
 among (x ∷ numbers) v = eqb x v || among numbers v
 
--- a network given by literal lists: its reflectors, those of role 3 and the listed routers, and for each router its neighbours, its
--- distances and the routers that it has no way to
-unfoldable pub network : (n : ℕ) (reflectors skipping listed : List ℕ) (neighbours distances cut : List (List ℕ)) → Instance
-network n reflectors skipping listed neighbours distances cut =
+-- a network given by literal lists: its reflectors, those that skip their clients (roles 3 and 5), those with the hop step (4 and 5) and
+-- the listed routers, and for each router its neighbours, its distances and the routers that it has no way to
+unfoldable pub network : (n : ℕ) (reflectors skipping hopping listed : List ℕ) (neighbours distances cut : List (List ℕ)) → Instance
+network n reflectors skipping hopping listed neighbours distances cut =
     record {
       n = n;
       reflector = among reflectors;
       skips = among skipping;
+      hop = among hopping;
       neighbour = λ w v. among (getD neighbours w []) v;
       dist = λ w e. getD (getD distances w []) e 0;
       way = λ w e. not (among (getD cut w []) e);
@@ -55,26 +56,26 @@ distances =
     ∷ (30 ∷ 30 ∷ 30 ∷ 30 ∷ 30 ∷ 0 ∷ [])
     ∷ []
 
--- reflectors 0, 1, 2 and clients 3, 4, 5, with the given routers listed; `cut` has for each router those that it has no way to, and
--- `skipping` the reflectors of role 3
-unfoldable pub sixWith : (cut : List (List ℕ)) (skipping listed : List ℕ) → Instance
-sixWith cut skipping listed = network 6 (0 ∷ 1 ∷ 2 ∷ []) skipping listed neighbours distances cut
+-- reflectors 0, 1, 2 and clients 3, 4, 5, with the given routers listed; `cut` has for each router those that it has no way to,
+-- `skipping` the reflectors that skip their clients, `hopping` those with the hop step
+unfoldable pub sixWith : (cut : List (List ℕ)) (skipping hopping listed : List ℕ) → Instance
+sixWith cut skipping hopping listed = network 6 (0 ∷ 1 ∷ 2 ∷ []) skipping hopping listed neighbours distances cut
 
 abbrev pub six : (listed : List ℕ) → Instance
-six = sixWith [] []
+six = sixWith [] [] []
 
 -- reflector 1 has no way to client 5, the nearest to it, nor 0 to 4, nor reflector 2 to 0, nor client 4 back to 2, nor 5 to any router,
 -- not even itself
 abbrev pub cutSix : (listed : List ℕ) → Instance
-cutSix = sixWith ((4 ∷ []) ∷ (5 ∷ []) ∷ (0 ∷ []) ∷ [] ∷ (2 ∷ []) ∷ (0 ∷ 1 ∷ 2 ∷ 3 ∷ 4 ∷ 5 ∷ []) ∷ []) []
+cutSix = sixWith ((4 ∷ []) ∷ (5 ∷ []) ∷ (0 ∷ []) ∷ [] ∷ (2 ∷ []) ∷ (0 ∷ 1 ∷ 2 ∷ 3 ∷ 4 ∷ 5 ∷ []) ∷ []) [] []
 
 -- reflector 1 has role 3: its clients are 4 and 5, of which 5 has a session with client 3 too
 abbrev pub skipSix : (listed : List ℕ) → Instance
-skipSix = sixWith [] (1 ∷ [])
+skipSix = sixWith [] (1 ∷ []) []
 
 -- .. and so has reflector 0
 abbrev pub skipTwo : (listed : List ℕ) → Instance
-skipTwo = sixWith [] (0 ∷ 1 ∷ [])
+skipTwo = sixWith [] (0 ∷ 1 ∷ []) []
 
 -- its lists
 abbrev pub clients34 : Instance
@@ -98,16 +99,16 @@ start = nothing ∷ via 4 4 ∷ via 4 4 ∷ via 4 5 ∷ via 4 4 ∷ nothing ∷ 
 
 pub record RoutingExamples : Type 0 where
   -- "At router w, route e is better than f if w's distance to e is smaller, or equal and e's number lower."
-  pub nearerIsPreferred : prefers clients34 1 5 4 ≡ true  -- by the number alone: false
-  pub fartherIsNot : prefers clients34 1 4 5 ≡ false  -- by the number alone: true
-  pub distancesAsTheyAre : prefers clients34 0 3 4 ≡ false  -- in tens, where 19 and 11 are equal: true
-  pub tieToTheLower : prefers clients34 1 3 4 ≡ true  -- a tie as no preference: false
-  pub tieNotToTheHigher : prefers clients34 1 4 3 ≡ false  -- a tie as either: true
+  pub nearerIsPreferred : nearer clients34 1 5 4 ≡ true  -- by the number alone: false
+  pub fartherIsNot : nearer clients34 1 4 5 ≡ false  -- by the number alone: true
+  pub distancesAsTheyAre : nearer clients34 0 3 4 ≡ false  -- in tens, where 19 and 11 are equal: true
+  pub tieToTheLower : nearer clients34 1 3 4 ≡ true  -- a tie as no preference: false
+  pub tieNotToTheHigher : nearer clients34 1 4 3 ≡ false  -- a tie as either: true
   -- "In a comparison a way beats none, and of two without a way neither is better."
-  pub wayBeatsNone : better (cutSix (3 ∷ [])) 1 4 5 ≡ true  -- no way as a distance: false
-  pub noneBeatsNoWay : better (cutSix (3 ∷ [])) 1 5 4 ≡ false  -- no way as a distance: true
-  pub neitherHasAWay : better (cutSix (3 ∷ [])) 5 3 4 ≡ false  -- by the number: true
-  pub bothHaveAWay : better (cutSix (3 ∷ [])) 1 3 4 ≡ true  -- a tie as no preference: false
+  pub wayBeatsNone : better (cutSix (3 ∷ [])) 1 4 true 5 true ≡ true  -- no way as a distance: false
+  pub noneBeatsNoWay : better (cutSix (3 ∷ [])) 1 5 true 4 true ≡ false  -- no way as a distance: true
+  pub neitherHasAWay : better (cutSix (3 ∷ [])) 5 3 true 4 true ≡ false  -- by the number: true
+  pub bothHaveAWay : better (cutSix (3 ∷ [])) 1 3 true 4 true ≡ true  -- a tie as no preference: false
   -- "the first distance minus the second": from 0 it is 11 to 4 and 19 to 3
   pub marginIsNegative : marginOf clients34 0 4 3 ≡ some (negℤ (pos 8))  -- the sign turned, or the magnitude alone: some (pos 8)
   pub marginIsPositive : marginOf clients34 0 3 4 ≡ some (pos 8)  -- in tens: some (pos 0)
@@ -197,11 +198,11 @@ pub record RoutingExamples : Type 0 where
   pub listedOffersItself : offer reflector1And34 1 ≡ some 1  -- its best client always: some 4
   pub unlistedOffersItsClient : offer clients34 1 ≡ some 4  -- listed ones alone offer: none
   -- "better, at the relying one, than its own best client. With no best client, any offer counts as better."
-  pub sharedClientIsNotBetter : betterOffer clients34 1 (some 4) (some 4) ≡ false  -- better than itself: true
-  pub anyOfferIsBetter : betterOffer client4 0 (some 5) none ≡ true  -- no client as the best: false
+  pub sharedClientIsNotBetter : betterOffer clients34 1 false (some 4) (some 4) ≡ false  -- better than itself: true
+  pub anyOfferIsBetter : betterOffer client4 0 false (some 5) none ≡ true  -- no client as the best: false
   -- ".. and does not make a reflector relied on"
-  pub offerWithoutAWay : betterOffer (cutSix (3 ∷ 4 ∷ [])) 0 (some 4) (some 3) ≡ false  -- no way as a distance: true
-  pub onlyOfferWithoutAWay : betterOffer (cutSix (4 ∷ [])) 0 (some 4) none ≡ false  -- any offer counts as better: true
+  pub offerWithoutAWay : betterOffer (cutSix (3 ∷ 4 ∷ [])) 0 false (some 4) (some 3) ≡ false  -- no way as a distance: true
+  pub onlyOfferWithoutAWay : betterOffer (cutSix (4 ∷ [])) 0 false (some 4) none ≡ false  -- any offer counts as better: true
   -- "1. A listed router relies on no one."
   pub rule1 : relies reflector1And34 1 4 ≡ false  -- as an unlisted one: true
   -- "2. An unlisted client relies on each neighbouring reflector and on each neighbouring listed client."

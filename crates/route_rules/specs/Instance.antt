@@ -12,6 +12,8 @@ pub record Instance : Type 0 where
   pub reflector : ℕ → Bool
   -- "Role 3 is such a reflector": it skips its own clients. Asked of reflectors alone.
   pub skips : ℕ → Bool
+  -- "Roles 4 and 5 are roles 1 and 3 with that step": it puts fewest hops before distance. Asked of reflectors alone.
+  pub hop : ℕ → Bool
   -- "Two routers of a pair are neighbours."
   pub neighbour : ℕ → ℕ → Bool
   -- the distance from the first to the second; "it need not equal the distance back"

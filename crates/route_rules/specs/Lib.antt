@@ -5,3 +5,4 @@ pub mod Rounds
 pub mod Reliance
 pub mod OneComparison
 pub mod Examples
+pub mod HopExamples

@@ -1,15 +1,15 @@
 -- What an activation leaves a reflector from a client is its best client's route, whatever the reflector saw.
-use Prim.Native.Nat.{ℕ}
+use Prim.Native.Nat.{ℕ, _<_}
 use native.Mathlib.Omega.{arith}
-use mathlib.Core.Path.{_≡_, refl, _∙_, sym}
+use mathlib.Core.Path.{_≡_, refl, _∙_, sym, ap}
 use mathlib.Core.Bool.{Bool, true, false}
 use mathlib.Core.Option.{Option, none, some}
 use Rattle.base.proofs.Best.{IsBest, best-unique}
 use Rattle.route_rules.specs.Instance.{Instance, Route, via}
-use Rattle.route_rules.specs.Preference.{prefers}
+use Rattle.route_rules.specs.Preference.{nearer, hops, prefersBy}
 use Rattle.route_rules.specs.Reliance.{listedClientOf, bestClient}
-use Rattle.route_rules.specs.Activation.{advertises, hears, choose}
-use Rattle.route_rules.proofs.Preference.{prefers-order}
+use Rattle.route_rules.specs.Activation.{advertises, hears, heardDirect, choose}
+use Rattle.route_rules.proofs.Preference.{nearer-order, prefers-tie}
 use Rattle.route_rules.proofs.Reliance.{bestClient-is, client-neighbour, client-listed, client-way, client-intro}
 use Rattle.route_rules.proofs.Routes.{advertises-listed, advertises-client, hears-neighbour, hears-told, hears-way, hears-intro, IsChoice, choose-is}
 
@@ -36,10 +36,11 @@ module _ (I : Instance) where
           absurd (omega arith)
 
   pub choose-clean : (v : ℕ) (view : ℕ → Route) → CleanEntry I v (choose I v view)
+  unfolding prefersBy
   choose-clean v view e s q unlisted reflector client =
-      best-unique (prefers I v) (prefers-order I v) (listedClientOf I v) (I .n) (bestClient I v) (some e) (bestClient-is I v) here
+      best-unique (nearer I v) (nearer-order I v) (listedClientOf I v) (I .n) (bestClient I v) (some e) (bestClient-is I v) here
     where
-      c : IsChoice (prefers I v) (hears I view v) (I .n) e s
+      c : IsChoice (prefersBy I v (heardDirect I view v)) (hears I view v) (I .n) e s
       c = rw q at (choose-is I v view unlisted)
 
       own : (I .listed s ≡ true) × (s ≡ e)
@@ -48,10 +49,17 @@ module _ (I : Instance) where
       way : I .way v s ≡ true
       way = rw (own .1) (hears-way I view v s e (c .told))
 
-      here : IsBest (prefers I v) (listedClientOf I v) (I .n) e
+      -- every client that tells its own route, e too, tells it itself
+      unbeaten : (i : ℕ) → i < I .n → listedClientOf I v i ≡ true → nearer I v i e ≡ false
+      unbeaten i l h =
+          let direct : hears I view v e e ≡ true = ap (λ z. hears I view v z e) (sym (own .1)) ∙ c .told in
+          sym (prefers-tie I v i (hears I view v i i) e (hears I view v e e) (ap (hops I v) (hears-client view v i h ∙ sym direct)))
+          ∙ c .unbeaten i i l l (hears-client view v i h)
+
+      here : IsBest (nearer I v) (listedClientOf I v) (I .n) e
       here =
           record {
             below = c .egress;
             among = rw (← own .1) (client-intro I v s (hears-neighbour I view v s e (c .told)) (own .0) client way);
-            unbeaten = λ i l h. c .unbeaten i i l l (hears-client view v i h);
+            unbeaten = unbeaten;
           }

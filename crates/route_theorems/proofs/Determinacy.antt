@@ -2,18 +2,19 @@
 use Prim.Native.Nat.{ℕ, _<_}
 use native.Mathlib.Omega.{arith}
 use mathlib.Core.Path.{_≡_, refl, _∙_, sym, ap}
-use mathlib.Core.Bool.{Bool, true, false, not}
+use mathlib.Core.Bool.{Bool, true, false, not, _&&_, and-false}
 use mathlib.Core.Option.{Option, none, some}
 use mathlib.Core.Logic.{_⊎_, inl, inr, ⊎-elim}
-use Rattle.base.proofs.Numbers.{eq-or-ne, not-both, true-or-false}
+use Rattle.base.proofs.Numbers.{both-left, both-right, eq-or-ne, not-both, true-or-false}
 use Rattle.base.proofs.Best.{StrictOrder, IsBest, order-not-trans}
 use Rattle.route_rules.specs.Instance.{Instance, Route, nothing, via}
-use Rattle.route_rules.specs.Preference.{prefers}
+use Rattle.route_rules.specs.Preference.{nearer, hasStep, hops, prefers, prefersBy}
 use Rattle.route_rules.specs.Reliance.{listedClientOf, bestClient, offer, betterOffer, relies}
-use Rattle.route_rules.specs.Activation.{advertises, hears, choose}
-use Rattle.route_rules.proofs.Preference.{prefers-order}
-use Rattle.route_rules.proofs.Reliance.{bestClient-is, offer-unlisted, relies-client, relies-offer, better-any, better-both}
-use Rattle.route_rules.proofs.Routes.{advertises-listed, advertises-client, advertises-reflector, FromClient, reflects-client}
+use Rattle.route_rules.specs.Activation.{advertises, hears, heardDirect, choose}
+use Rattle.route_rules.proofs.Preference.{client-without, prefers-tie, prefersBy-order, prefersBy-alike, prefersBy-without}
+use Rattle.route_rules.proofs.Reliance.{bestClient-is, client-no-reflector, client-neighbour, client-listed, client-way, client-intro}
+use Rattle.route_rules.proofs.Reliance.{offer-unlisted, relies-client, relies-offer, better-any, better-both}
+use Rattle.route_rules.proofs.Routes.{isRouter-some, advertises-listed, advertises-client, advertises-reflector, FromClient, reflects-client}
 use Rattle.route_rules.proofs.Routes.{hears-neighbour, hears-told, hears-way, hears-intro, IsChoice, ChoiceIs, choice-unique, choose-listed, choose-is}
 use Rattle.route_theorems.proofs.Clean.{CleanEntry, hears-client}
 
@@ -108,7 +109,104 @@ module _ (prefer : ℕ → ℕ → Bool) (o : StrictOrder prefer) (anchor : Opti
       go (some c) q =
           ⊎-elim (λ (p : e ≡ c). by-anchor e s (q ∙ ap some (sym p)) g) (λ (p : e ≡ c → ⊥). alike e s (apart c q p) g) (eq-or-ne e c)
 
+-- a choice by an order is one by any that agrees with it below n
+choice-by : (prefer other : ℕ → ℕ → Bool) (tells : ℕ → ℕ → Bool) (n : ℕ) → ((e f : ℕ) → e < n → f < n → prefer e f ≡ other e f)
+    → (x : Route) → ChoiceIs prefer tells n x → ChoiceIs other tells n x
+choice-by prefer other tells n agree nothing g = g
+choice-by prefer other tells n agree (via e s) g =
+    record {
+      egress = g .egress;
+      sender = g .sender;
+      told = g .told;
+      unbeaten = λ v f l m h. sym (agree f e m (g .egress)) ∙ g .unbeaten v f l m h;
+      itself = g .itself;
+      lowest = g .lowest;
+    }
+
+-- e is listed, and w neighbours it and has a way to it
+unfoldable listedNeighbour : Instance → ℕ → ℕ → Bool
+listedNeighbour I w e = I .neighbour w e && I .listed e && I .way w e
+
+module _ (I : Instance) (w : ℕ) where
+  -- the order of its choice where all entries that w sees are clean
+  abbrev settledOrder : ℕ → ℕ → Bool
+  settledOrder = prefersBy I w (listedNeighbour I w)
+
+  -- A reflector that sees clean entries is told by its own egress exactly what its listed neighbours tell: no other reflector passes on to
+  -- it a route to itself.
+  module _ (view : ℕ → Route) (role : I .reflector w ≡ true) (e : ℕ) (clean : CleanEntry I e (view e)) where
+    not-itself : I .listed e ≡ false → hears I view w e e ≡ true → ⊥
+    not-itself p h = go (I .reflector e) refl
+      where
+        told : advertises I e (view e) w ≡ some e
+        told = hears-told I view w e e h
+
+        go : (b : Bool) → I .reflector e ≡ b → ⊥
+        go false r =
+            let q : _≡_ {A = Option ℕ} none (some e) = sym (advertises-client I e (view e) w p r) ∙ told in
+            let z : _≡_ {A = ℕ} 0 1 = cc in
+            omega arith
+        go true r =
+            let f : FromClient I (view e) e = reflects-client I e (view e) w e role (sym (advertises-reflector I e (view e) w p r) ∙ told) in
+            let b : IsBest (nearer I e) (listedClientOf I e) (I .n) e
+            = rw (clean e (f .sender) (f .holds) p r (f .client)) at (bestClient-is I e) in
+            not-both (I .reflector e) r (client-no-reflector I e e (b .among))
+
+    clean-direct : heardDirect I view w e ≡ listedNeighbour I w e
+    unfolding listedNeighbour hears
+    clean-direct = go (I .listed e) refl (hears I view w e e) refl
+      where
+        go : (a : Bool) → I .listed e ≡ a → (b : Bool) → hears I view w e e ≡ b → heardDirect I view w e ≡ listedNeighbour I w e
+        go true p b q = cc (advertises-listed I e (view e) w p, isRouter-some e)
+        go false p true q = absurd (not-itself p q)
+        go false p false q = cc (and-false (I .neighbour w e))
+
+  -- .. and at a client who tells a route plays no part
+  order-is : (view : ℕ → Route) → ((v : ℕ) → v < I .n → CleanEntry I v (view v)) → (e f : ℕ) → e < I .n → f < I .n
+      → prefersBy I w (heardDirect I view w) e f ≡ settledOrder e f
+  order-is view clean e f l m = go (I .reflector w) refl
+    where
+      go : (b : Bool) → I .reflector w ≡ b → prefersBy I w (heardDirect I view w) e f ≡ settledOrder e f
+      go true r =
+          prefersBy-alike I w (heardDirect I view w) (listedNeighbour I w) e f (clean-direct view r e (clean e l)) (clean-direct view r f (clean f m))
+      go false r =
+          let h : hasStep I w ≡ false = client-without I w r in
+          prefersBy-without I w h (heardDirect I view w) e f ∙ sym (prefersBy-without I w h (listedNeighbour I w) e f)
+
 module _ (I : Instance) (w : ℕ) (unlisted : I .listed w ≡ false) where
+  -- the best client is listed, and tells its own route whatever the view
+  own-best : (c : ℕ) → bestClient I w ≡ some c → IsBest (nearer I w) (listedClientOf I w) (I .n) c
+  own-best c q = rw q at (bestClient-is I w)
+
+  anchored : (t : ℕ → Route) (c : ℕ) → bestClient I w ≡ some c → Anchored (hears I t w) (I .n) c
+  anchored t c q = let b = own-best c q in record { below = b .below; told = hears-client I t w c (b .among) }
+
+  -- what a reflector passes on and w, with the best client c, does not rely on
+  passed-on-beaten : (v e c : ℕ) → bestClient I v ≡ some e → bestClient I w ≡ some c → prefers I w e false c true ≡ false
+      → settledOrder I w e c ≡ false
+  unfolding prefersBy listedNeighbour
+  passed-on-beaten v e c offered own h = go (listedNeighbour I w e) refl
+    where
+      theirs : IsBest (nearer I v) (listedClientOf I v) (I .n) e
+      theirs = rw offered at (bestClient-is I v)
+
+      b : IsBest (nearer I w) (listedClientOf I w) (I .n) c
+      b = own-best c own
+
+      direct : listedNeighbour I w c ≡ true
+      direct = cc (client-neighbour I w c (b .among), client-listed I w c (b .among), client-way I w c (b .among))
+
+      -- e is a client of w too
+      shared : listedNeighbour I w e ≡ true → listedClientOf I w e ≡ true
+      shared p =
+          client-intro I w e (both-left (I .neighbour w e) (I .listed e) (both-left _ (I .way w e) p))
+          (both-right (I .neighbour w e) (I .listed e) (both-left _ (I .way w e) p)) (client-no-reflector I v e (theirs .among))
+          (both-right (I .neighbour w e && I .listed e) (I .way w e) p)
+
+      go : (a : Bool) → listedNeighbour I w e ≡ a → prefers I w e (listedNeighbour I w e) c (listedNeighbour I w c) ≡ false
+      go true p = prefers-tie I w e _ c _ (ap (hops I w) (p ∙ sym direct)) ∙ b .unbeaten e (theirs .below) (shared p)
+      go false p = rw (p, direct) h
+
   -- what w sees in one view and not in another, from a router that it does not rely on, its best client beats
   module _ (t u : ℕ → Route) (v e : ℕ) (clean : CleanEntry I v (t v)) (agree : relies I w v ≡ true → t v ≡ u v) (h : hears I t w v e ≡ true) where
     -- v tells the same whatever it holds
@@ -116,29 +214,41 @@ module _ (I : Instance) (w : ℕ) (unlisted : I .listed w ≡ false) where
     told-anyway q = hears-intro I u w v e (hears-neighbour I t w v e h) (sym q ∙ hears-told I t w v e h) (hears-way I t w v e h)
 
     -- a reflector's offer that w does not rely on
-    offered : I .listed v ≡ false → I .reflector v ≡ true → I .reflector w ≡ true → relies I w v ≡ false → Beaten (prefers I w) (bestClient I w) e
+    offered : I .listed v ≡ false → I .reflector v ≡ true → I .reflector w ≡ true → relies I w v ≡ false
+        → Beaten (settledOrder I w) (bestClient I w) e
     offered p r k q = go (bestClient I w) refl (sym same ∙ q)
       where
         f : FromClient I (t v) e
         f = reflects-client I v (t v) w e k (sym (advertises-reflector I v (t v) w p r) ∙ hears-told I t w v e h)
 
-        offers : offer I v ≡ some e
-        offers = offer-unlisted I v p ∙ clean e (f .sender) (f .holds) p r (f .client)
+        theirs : bestClient I v ≡ some e
+        theirs = clean e (f .sender) (f .holds) p r (f .client)
 
-        same : relies I w v ≡ betterOffer I w (some e) (bestClient I w)
+        offers : offer I v ≡ some e
+        offers = offer-unlisted I v p ∙ theirs
+
+        same : relies I w v ≡ betterOffer I w false (some e) (bestClient I w)
         same = relies-offer I w v unlisted k r ∙ cc (offers, hears-neighbour I t w v e h)
 
-        go : (b : Option ℕ) → bestClient I w ≡ b → betterOffer I w (some e) (bestClient I w) ≡ false → Beaten (prefers I w) (bestClient I w) e
+        go : (b : Option ℕ) → bestClient I w ≡ b → betterOffer I w false (some e) (bestClient I w) ≡ false
+            → Beaten (settledOrder I w) (bestClient I w) e
         go none b z =
-            not-both (betterOffer I w (some e) (bestClient I w)) (ap (betterOffer I w (some e)) b ∙ better-any I w e (hears-way I t w v e h)) z
+            not-both (betterOffer I w false (some e) (bestClient I w))
+            (ap (betterOffer I w false (some e)) b ∙ better-any I w false e (hears-way I t w v e h)) z
         go (some c) b z =
-            record { by = c; is = b; beaten = sym (ap (betterOffer I w (some e)) b ∙ better-both I w e c (hears-way I t w v e h)) ∙ z }
+            record {
+              by = c;
+              is = b;
+              beaten =
+                  passed-on-beaten v e c theirs b
+                  (sym (ap (betterOffer I w false (some e)) b ∙ better-both I w false e c (hears-way I t w v e h)) ∙ z);
+            }
 
-    covered : (hears I u w v e ≡ true) ⊎ Beaten (prefers I w) (bestClient I w) e
+    covered : (hears I u w v e ≡ true) ⊎ Beaten (settledOrder I w) (bestClient I w) e
     covered = go (relies I w v) refl (I .listed v) refl (I .reflector v) refl (I .reflector w) refl
       where
         Covered : Type 0
-        Covered = (hears I u w v e ≡ true) ⊎ Beaten (prefers I w) (bestClient I w) e
+        Covered = (hears I u w v e ≡ true) ⊎ Beaten (settledOrder I w) (bestClient I w) e
 
         go : (a : Bool) → relies I w v ≡ a → (b : Bool) → I .listed v ≡ b → (c : Bool) → I .reflector v ≡ c → (d : Bool) → I .reflector w ≡ d → Covered
         go true p b q c r d s = inl (told-anyway (ap (λ x. advertises I v x w) (agree p)))
@@ -148,28 +258,28 @@ module _ (I : Instance) (w : ℕ) (unlisted : I .listed w ≡ false) where
         go false p false q true r false s =
             not-both (relies I w v) (relies-client I w v unlisted s ∙ cc (hears-neighbour I t w v e h)) p
 
-  -- the best client tells its own route, whatever the view
-  anchored : (t : ℕ → Route) (c : ℕ) → bestClient I w ≡ some c → Anchored (hears I t w) (I .n) c
-  anchored t c q =
-      let b : IsBest (prefers I w) (listedClientOf I w) (I .n) c = rw q at (bestClient-is I w) in
-      record {
-        below = b .below;
-        told = hears-client I t w c (b .among);
-      }
-
 module _ (I : Instance) (w : ℕ) (t u : ℕ → Route) where
   -- determinacy, over any two views
   pub determined : ((v : ℕ) → v < I .n → CleanEntry I v (t v)) → ((v : ℕ) → v < I .n → CleanEntry I v (u v))
       → ((v : ℕ) → v < I .n → relies I w v ≡ true → t v ≡ u v) → choose I w t ≡ choose I w u
   determined clean-t clean-u agree = go (I .listed w) refl
     where
+      -- what w chooses by a clean view, in the one order of all of them
+      chosen : I .listed w ≡ false → (view : ℕ → Route) → ((v : ℕ) → v < I .n → CleanEntry I v (view v))
+          → ChoiceIs (settledOrder I w) (hears I view w) (I .n) (choose I w view)
+      chosen p view clean =
+          choice-by _ (settledOrder I w) (hears I view w) (I .n) (order-is I w view clean) (choose I w view) (choose-is I w view p)
+
+      ordered : StrictOrder (settledOrder I w)
+      ordered = prefersBy-order I w (listedNeighbour I w)
+
       go : (b : Bool) → I .listed w ≡ b → choose I w t ≡ choose I w u
       go true p = choose-listed I w t p ∙ sym (choose-listed I w u p)
       go false p =
-          choice-unique (prefers I w) (hears I u w) (I .n) (prefers-order I w) (choose I w t) (choose I w u)
-          (same-choice (prefers I w) (prefers-order I w) (bestClient I w) (I .n) (hears I t w) (hears I u w) (anchored I w p t) (anchored I w p u)
+          choice-unique (settledOrder I w) (hears I u w) (I .n) ordered (choose I w t) (choose I w u)
+          (same-choice (settledOrder I w) ordered (bestClient I w) (I .n) (hears I t w) (hears I u w) (anchored I w p t) (anchored I w p u)
           (λ v f l m h. covered I w p t u v f (clean-t v l) (agree v l) h)
           (λ v f l m h. covered I w p u t v f (clean-u v l) (λ r. sym (agree v l r)) h)
           (choose I w t)
-          (choose-is I w t p))
-          (choose-is I w u p)
+          (chosen p t clean-t))
+          (chosen p u clean-u)

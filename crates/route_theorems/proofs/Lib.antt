@@ -6,3 +6,5 @@ pub mod Uniqueness
 pub mod Sharpness
 pub mod Senders
 pub mod Nobody
+pub mod HopStep
+pub mod HopNetworks

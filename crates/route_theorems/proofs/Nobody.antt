@@ -12,10 +12,10 @@ use Rattle.base.proofs.Best.{best-unique}
 use Rattle.base.proofs.Numbers.{both-right, not-both}
 use Rattle.base.proofs.Seek.{highest-over, highest-under, highest-cong, highest-flag}
 use Rattle.route_rules.specs.Instance.{Instance, nothing}
-use Rattle.route_rules.specs.Preference.{prefers}
+use Rattle.route_rules.specs.Preference.{nearer, prefersBy}
 use Rattle.route_rules.specs.Reliance.{listedClientOf, bestClient, offer, betterOffer, relies}
-use Rattle.route_rules.specs.Activation.{advertises, hears, choose, held}
-use Rattle.route_rules.proofs.Preference.{prefers-order}
+use Rattle.route_rules.specs.Activation.{advertises, hears, heardDirect, choose, held}
+use Rattle.route_rules.proofs.Preference.{nearer-order, prefersBy-order}
 use Rattle.route_rules.proofs.Reliance.{bestClient-is, offer-unlisted, relies-client}
 use Rattle.route_rules.proofs.Routes.{advertising, choice-unique, choose-is}
 use Rattle.route_theorems.specs.Settled.{settledTable}
@@ -42,7 +42,7 @@ module _ (I : Instance) (h : NoneListed I) where
 
   no-best-client : (v : ℕ) → bestClient I v ≡ none
   no-best-client v =
-      best-unique (prefers I v) (prefers-order I v) (listedClientOf I v) (I .n) (bestClient I v) none (bestClient-is I v) (no-client v)
+      best-unique (nearer I v) (nearer-order I v) (listedClientOf I v) (I .n) (bestClient I v) none (bestClient-is I v) (no-client v)
 
   no-offer : (v : ℕ) → v < I .n → offer I v ≡ none
   no-offer v l = offer-unlisted I v (h v l) ∙ no-best-client v
@@ -98,7 +98,8 @@ module _ (I : Instance) (h : NoneListed I) where
 
   choose-empty : (w : ℕ) → w < I .n → choose I w (held (emptyTable I)) ≡ nothing
   choose-empty w l =
-      choice-unique (prefers I w) (hears I (held (emptyTable I)) w) (I .n) (prefers-order I w) (choose I w (held (emptyTable I))) nothing
+      choice-unique (prefersBy I w (heardDirect I (held (emptyTable I)) w)) (hears I (held (emptyTable I)) w) (I .n)
+      (prefersBy-order I w (heardDirect I (held (emptyTable I)) w)) (choose I w (held (emptyTable I))) nothing
       (choose-is I w (held (emptyTable I)) (h w l))
       (λ v f m k. hears-empty w v f m)
 

@@ -1,23 +1,21 @@
 -- Whichever neighbour is taken as sender: two routes to one egress, each told by a reflector, are advertised alike.
-use Prim.Native.Nat.{ℕ, _+_, _≤_, _<_}
+use Prim.Native.Nat.{ℕ, _≤_, _<_}
 use native.Mathlib.Omega.{arith}
-use mathlib.Core.Path.{_≡_, refl, _∙_, sym, ap, ap₂}
+use mathlib.Core.Path.{_≡_, refl, _∙_, sym, ap}
 use mathlib.Core.Bool.{Bool, true, false, _&&_}
 use mathlib.Core.Option.{Option, none, some}
 use mathlib.Core.List.{List, [], _∷_}
-use mathlib.Core.Logic.{_⊎_, inl, inr, ⊎-elim}
+use mathlib.Core.Logic.{_⊎_, inl, inr}
 use lib.ListN.{length, set, length-set}
 use lib.Seq.{getD-set-same, getD-set-other, set-out}
 use Rattle.base.proofs.Numbers.{eq-or-ne, lt-or-le, not-both}
 use Rattle.base.proofs.Best.{order-same}
 use Rattle.route_rules.specs.Instance.{Instance, Route, nothing, via, isRouter}
-use Rattle.route_rules.specs.Preference.{prefers}
-use Rattle.route_rules.specs.Activation.{reflects, advertises, hears, choose, held, activate, runActs}
-use Rattle.route_rules.specs.Rounds.{rounds}
-use Rattle.route_rules.proofs.Preference.{prefers-order}
+use Rattle.route_rules.specs.Preference.{prefersBy}
+use Rattle.route_rules.specs.Activation.{reflects, advertises, hears, heardDirect, choose, held, activate, runActs}
+use Rattle.route_rules.proofs.Preference.{prefersBy-order, prefersBy-alike}
 use Rattle.route_rules.proofs.Routes.{hears-told, advertises-listed, advertises-client, IsChoice, ChoiceIs, choose-listed, choose-is}
-use Rattle.route_theorems.specs.Settled.{settledTable}
-use Rattle.route_theorems.specs.Claims.{Ranked, IsTable}
+use Rattle.route_theorems.specs.Claims.{Ranked}
 use Rattle.route_theorems.specs.Senders.{BestHeard, MayLeave, own, silence, heard, MayReach, done, next, egressOf, AnySender, SettlesByAnySender}
 use Rattle.route_theorems.proofs.Settling.{settles}
 
@@ -58,7 +56,7 @@ module _ (I : Instance) where
     unfolding hears
     hears-alike v e = ap (λ o. I .neighbour w v && isRouter e o && I .way w e) (advertises-alike v w (alike v))
 
-    chosen-alike : (e s r : ℕ) → BestHeard I f w e s → IsChoice (prefers I w) (hears I g w) (I .n) e r → Alike (via e s) (via e r)
+    chosen-alike : (e s r : ℕ) → BestHeard I f w e s → IsChoice (prefersBy I w (heardDirect I g w)) (hears I g w) (I .n) e r → Alike (via e s) (via e r)
     chosen-alike e s r b c = go (hears I f w e e) refl
       where
         go : (b : Bool) → hears I f w e e ≡ b → Alike (via e s) (via e r)
@@ -73,18 +71,19 @@ module _ (I : Instance) where
     left-alike x (own l) = same-as (sym (choose-listed I w g l)) same
     left-alike x (silence l h) = go (choose I w g) refl (choose-is I w g l)
       where
-        go : (y : Route) → choose I w g ≡ y → ChoiceIs (prefers I w) (hears I g w) (I .n) y → Alike nothing (choose I w g)
+        go : (y : Route) → choose I w g ≡ y → ChoiceIs (prefersBy I w (heardDirect I g w)) (hears I g w) (I .n) y → Alike nothing (choose I w g)
         go nothing e c = same-as (sym e) same
         go (via e s) _ c = not-both (hears I f w s e) (hears-alike s e ∙ c .told) (h s e (c .sender) (c .egress))
     left-alike x (heard l {e} {s} b) = go (choose I w g) refl (choose-is I w g l)
       where
-        go : (y : Route) → choose I w g ≡ y → ChoiceIs (prefers I w) (hears I g w) (I .n) y → Alike (via e s) (choose I w g)
+        go : (y : Route) → choose I w g ≡ y → ChoiceIs (prefersBy I w (heardDirect I g w)) (hears I g w) (I .n) y → Alike (via e s) (choose I w g)
         go nothing _ c = not-both (hears I f w s e) (b .told) (hears-alike s e ∙ c s e (b .sender) (b .egress))
         go (via k r) q c =
             let p : e ≡ k
-            = order-same (prefers I w) (prefers-order I w) e k
+            = order-same (prefersBy I w (heardDirect I g w)) (prefersBy-order I w (heardDirect I g w)) e k
             (c .unbeaten s e (b .sender) (b .egress) (sym (hears-alike s e) ∙ b .told))
-            (b .unbeaten r k (c .sender) (c .egress) (hears-alike r k ∙ c .told)) in
+            (prefersBy-alike I w (heardDirect I g w) (heardDirect I f w) k e (sym (hears-alike k k)) (sym (hears-alike e e))
+            ∙ b .unbeaten r k (c .sender) (c .egress) (hears-alike r k ∙ c .told)) in
             same-as (ap (λ z. via z r) p ∙ sym q) (chosen-alike e s r b (rw (sym p) at c))
 
   -- two tables whose entries are alike
@@ -111,7 +110,7 @@ module _ (I : Instance) where
   choose-may : (view : ℕ → Route) (w : ℕ) → MayLeave I view w (choose I w view)
   choose-may view w = go (I .listed w) refl
     where
-      chosen : I .listed w ≡ false → (x : Route) → ChoiceIs (prefers I w) (hears I view w) (I .n) x → MayLeave I view w x
+      chosen : I .listed w ≡ false → (x : Route) → ChoiceIs (prefersBy I w (heardDirect I view w)) (hears I view w) (I .n) x → MayLeave I view w x
       chosen l nothing c = silence l c
       chosen l (via e s) c =
           heard l (record { egress = c .egress; sender = c .sender; told = c .told; unbeaten = c .unbeaten; itself = c .itself })

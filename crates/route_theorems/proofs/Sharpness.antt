@@ -12,7 +12,7 @@ use Rattle.base.proofs.Below.{all-at}
 use Rattle.base.proofs.Numbers.{not-both}
 use Rattle.base.specs.Tab.{tab}
 use Rattle.route_rules.specs.Instance.{Instance, Route, nothing, via}
-use Rattle.route_rules.specs.Preference.{prefers}
+use Rattle.route_rules.specs.Preference.{nearer, hasStep, hops, prefers, prefersBy}
 use Rattle.route_rules.specs.Reliance.{listedClientOf, bestClient, offer, betterOffer, relies}
 use Rattle.route_rules.specs.Activation.{reflects, advertises, hears, senderOf, routeTo, choice, choose, held, entryOk, tableOk, activate, runActs}
 use Rattle.route_rules.specs.Rounds.{acted, roundsFrom, rounds}
@@ -30,6 +30,7 @@ network =
       n = 5;
       reflector = λ v. ltb v 2;
       skips = λ v. false;
+      hop = λ v. false;
       neighbour = λ w v. session 0 1 w v || session 0 2 w v || session 1 3 w v;
       dist = λ w e. 0;
       way = λ w e. true;
@@ -57,11 +58,11 @@ unfolding network start tableOk entryOk allBelow
 legal = refl
 
 still-held : held (runActs network start acts) 2 ≡ via 3 0
-unfolding network start acts runActs activate choose choice routeTo senderOf hears advertises reflects prefers best keepBest anyBelow
+unfolding network start acts runActs activate choose choice routeTo senderOf hears advertises reflects prefersBy prefers hops hasStep nearer best keepBest anyBelow
 still-held = refl
 
 settled-none : held (settledTable network 1) 2 ≡ nothing
-unfolding network settledTable chosenAfter chooseAll tab choose choice routeTo senderOf hears advertises reflects prefers best keepBest anyBelow
+unfolding network settledTable chosenAfter chooseAll tab choose choice routeTo senderOf hears advertises reflects prefersBy prefers hops hasStep nearer best keepBest anyBelow
 settled-none = refl
 
 -- the ranks fall along every reliance of these five, and none is above 1
@@ -79,6 +80,9 @@ unfolding
     betterOffer
     listedClientOf
     prefers
+    hops
+    hasStep
+    nearer
     best
     keepBest
     allBelow

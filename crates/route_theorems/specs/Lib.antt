@@ -2,3 +2,4 @@ pub mod Settled
 pub mod Claims
 pub mod Senders
 pub mod Nobody
+pub mod HopStep

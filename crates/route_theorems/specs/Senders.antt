@@ -7,8 +7,8 @@ use mathlib.Core.Option.{Option, none, some}
 use mathlib.Core.List.{List, [], _∷_}
 use lib.ListN.{set}
 use Rattle.route_rules.specs.Instance.{Instance, Route, nothing, via}
-use Rattle.route_rules.specs.Preference.{prefers}
-use Rattle.route_rules.specs.Activation.{hears, held, runActs}
+use Rattle.route_rules.specs.Preference.{prefersBy}
+use Rattle.route_rules.specs.Activation.{hears, heardDirect, held, runActs}
 use Rattle.route_rules.specs.Rounds.{rounds}
 use Rattle.route_theorems.specs.Settled.{settledTable}
 use Rattle.route_theorems.specs.Claims.{IsTable}
@@ -18,7 +18,7 @@ pub record BestHeard (I : Instance) (view : ℕ → Route) (w e s : ℕ) : Type 
   pub egress : e < I .n
   pub sender : s < I .n
   pub told : hears I view w s e ≡ true
-  pub unbeaten : (v f : ℕ) → v < I .n → f < I .n → hears I view w v f ≡ true → prefers I w f e ≡ false
+  pub unbeaten : (v f : ℕ) → v < I .n → f < I .n → hears I view w v f ≡ true → prefersBy I w (heardDirect I view w) f e ≡ false
   pub itself : hears I view w e e ≡ true → s ≡ e
 
 -- what an activation of w may leave

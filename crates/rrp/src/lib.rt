@@ -36,13 +36,26 @@ pub extern "C" fn rrp_compare(
     router: usize,
     first: usize,
     second: usize,
+    first_direct: u8,
+    second_direct: u8,
     better: &mut u8,
     has_margin: &mut u8,
     margin: &mut i64,
 ) -> u8
-    ensures { λ r. ⌜ CompareExport (now (plan .entry)) router first second r (lent better) (lent «has_margin») (lent margin) ⌝ }
+    ensures { λ r. ⌜ CompareExport (now (plan .entry)) router first «first_direct» second «second_direct» r
+        (lent better) (lent «has_margin») (lent margin) ⌝ }
 {
-    c_query::compare(plan, router, first, second, better, has_margin, margin)
+    c_query::compare(
+        plan,
+        router,
+        first,
+        second,
+        first_direct,
+        second_direct,
+        better,
+        has_margin,
+        margin,
+    )
 }
 
 #[no_mangle]

@@ -2,6 +2,7 @@
 use Prim.Native.Nat.{ℕ, zero, suc, _-_, _≤_, _<_}
 use native.Mathlib.Omega.{arith}
 use mathlib.Core.Path.{_≡_, refl, _∙_, sym, ap}
+use mathlib.Core.Bool.{Bool}
 use mathlib.Core.List.{List, [], _∷_}
 use mathlib.Core.Option.{Option, none, some}
 use lib.IntN.{ℤ}
@@ -48,16 +49,16 @@ given-line : (margin : Option ℤ) → givenLine (marginCase margin) ≡ lineOf 
 given-line none = refl
 given-line (some difference) = refl
 
--- what the comparison returned says the line
+-- what the comparison returned says the line, whoever told the routes
 pub answer-line :
-    (plan : List ℕ) (w e f : ℕ) {r : CompareAnswer} →
-    Compares plan w e f r →
+    (plan : List ℕ) (w e : ℕ) (d : Bool) (f : ℕ) (d' : Bool) {r : CompareAnswer} →
+    Compares plan w e d f d' r →
     answerLine r ≡ compareLine plan w e f
 unfolding compareLine compared
-answer-line plan w e f s = ap answerLine (s .answer) ∙ go (compareRefusal plan w e f)
+answer-line plan w e d f d' s = ap answerLine (s .answer) ∙ go (compareRefusal plan w e f)
   where
     go : (number : ℕ) →
-        answerLine (unlessRefused number (Refused number) (compared plan w e f))
+        answerLine (unlessRefused number (Refused number) (compared plan w e d f d'))
         ≡ unlessRefused number (refusedLine number) (lineOf (marginOf (instanceOf plan 0) w e f))
     go zero = given-line (marginOf (instanceOf plan 0) w e f)
     go (suc number) = refl

@@ -36,7 +36,8 @@ fn answer_line(out: &mut [u8], answer: CompareAnswer) -> usize
 }
 
 // Writes the whole text of an input to the front of a buffer, and returns the text's length. The input's first three bytes are the
-// router, the first and the second, and the plan is the rest.
+// router, the first and the second, and the plan is the rest. A margin is the same whoever told the routes: each is compared as told by
+// its own egress router.
 pub fn margin_text(input: &[u8], out: &mut [u8]) -> usize
     requires { ⌜ lineRoom ≤ length (now out) ⌝ }
     ensures { λ r. ⌜ AtFront (now (out .entry)) (marginText (now (input .entry))) (now (out .exit)) r ⌝ }
@@ -47,6 +48,6 @@ pub fn margin_text(input: &[u8], out: &mut [u8]) -> usize
     let router = wide(input[0]);
     let first = wide(input[1]);
     let second = wide(input[2]);
-    let answer = call_compare::compare::compare(&input[3..], router, first, second);
+    let answer = call_compare::compare::compare(&input[3..], router, first, second, true, true);
     answer_line(out, answer)
 }

@@ -14,7 +14,8 @@ abbrev pub lineOf : Option ℤ → List ℕ
 lineOf none = noneLine
 lineOf (some margin) = marginLine margin
 
--- ".. or the verdict program's refusal line": the comparison's margin or refusal. It reads only distances, which every list shares.
+-- ".. or the verdict program's refusal line": the comparison's margin or refusal. A margin reads distances alone, which every list
+-- shares; who told a route plays no part in it.
 unfoldable pub compareLine : List ℕ → ℕ → ℕ → ℕ → List ℕ
 compareLine plan router first second =
     unlessRefused (compareRefusal plan router first second) (refusedLine (compareRefusal plan router first second))

@@ -2,7 +2,7 @@
 use Prim.Native.Nat.{ℕ}
 use mathlib.Core.Path.{_≡_}
 use mathlib.Core.List.{List, [], _∷_, _++_, map}
-use Rattle.plan_examples.specs.Plans.{smallPlan, M3WithNobody}
+use Rattle.plan_examples.specs.Plans.{smallPlan, M3WithNobody, M3WithRoles}
 use Rattle.text_verdict_rules.specs.Listing.{planText}
 
 -- "M3's distances with lists 2,3 and 3"
@@ -26,6 +26,15 @@ nobodyText =
     ∷ 50 ∷ 32 ∷ 115 ∷ 116 ∷ 97 ∷ 98 ∷ 108 ∷ 101 ∷ 32 ∷ 50 ∷ 10  -- "2 stable 2"
     ∷ []
 
+-- M3's plan with roles 4 and 1
+unfoldable pub mixedText : List ℕ
+mixedText =
+    114 ∷ 111 ∷ 117 ∷ 116 ∷ 101 ∷ 114 ∷ 115 ∷ 32 ∷ 52 ∷ 32 ∷ 108 ∷ 105 ∷ 115 ∷ 116 ∷ 115 ∷ 32 ∷ 51 ∷ 10  -- "routers 4 lists 3"
+    ∷ 48 ∷ 32 ∷ 115 ∷ 116 ∷ 97 ∷ 98 ∷ 108 ∷ 101 ∷ 32 ∷ 50 ∷ 10  -- "0 stable 2"
+    ∷ 49 ∷ 32 ∷ 115 ∷ 116 ∷ 97 ∷ 98 ∷ 108 ∷ 101 ∷ 32 ∷ 51 ∷ 10  -- "1 stable 3"
+    ∷ 50 ∷ 32 ∷ 115 ∷ 116 ∷ 97 ∷ 98 ∷ 108 ∷ 101 ∷ 32 ∷ 50 ∷ 10  -- "2 stable 2"
+    ∷ []
+
 -- "A refused plan gives the single line `refused`, a space and its number": here 1, and 3
 unfoldable pub refused1 : List ℕ
 refused1 = 114 ∷ 101 ∷ 102 ∷ 117 ∷ 115 ∷ 101 ∷ 100 ∷ 32 ∷ 49 ∷ 10 ∷ []
@@ -38,12 +47,14 @@ pub record Example : Type 0 where
   pub text : List ℕ
 
 -- the plan of document 01; one with a list of nobody (a text without a line for it would end with "1 stable 2", one that refused it would
--- be "refused 7"); no bytes at all; the first plan with a byte after its last body (a text that went on after the refusal would have the
--- lines of its two lists)
+-- be "refused 7"); one of a reflector with the hop step and one without it (without the step in rule 3 the text would have the line
+-- "0 suspect 2 0 1", with roles 1 to 3 alone admitted it would be "refused 4"); no bytes at all; the first plan with a byte after its last
+-- body (a text that went on after the refusal would have the lines of its two lists)
 unfoldable pub examples : List Example
 examples =
     record { plan = examplePlan; text = exampleText }
     ∷ record { plan = M3WithNobody; text = nobodyText }
+    ∷ record { plan = M3WithRoles 4 1; text = mixedText }
     ∷ record { plan = []; text = refused1 }
     ∷ record { plan = examplePlan ++ (0 ∷ []); text = refused3 }
     ∷ []

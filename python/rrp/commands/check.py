@@ -13,8 +13,10 @@ from ..plan import Plan, Verdict
 
 SET_HELP = (
     "judge a change beside what was; repeatable. The statement goes in place of what the plan has "
-    "on the same two routers, or of the list of that name: link A B 12, link A B none, "
-    "distance A > B 12, session A B, session A B none, list NAME A B, list NAME for nobody"
+    "on the same two routers, or of the list or the reflector of that name: link A B 12, "
+    "link A B none, distance A > B 12, session A B, session A B none, list NAME A B, list NAME for "
+    "nobody, reflector A hop-step, reflector A no-client-reflection hop-step, reflector A for "
+    "neither"
 )
 
 STRICT_HELP = "end with 1 also where a list is stable but leaves a router without a route"
@@ -60,15 +62,17 @@ def _run_plain(options: Namespace) -> tuple[Verdict, ...]:
 
 def _run_changed(options: Namespace) -> tuple[Verdict, ...]:
     from ..text.assembly import assemble
-    from ..text.changes import assemble_changed
+    from ..text.changes import assemble_changed, other_roles
     from ..text.reading import read_draft
 
     draft = read_draft(options.plan)
     plan, changed = assemble(draft), assemble_changed(draft, options.set)
     effects = [effect_on(name, plan, changed) for name in changed.lists]
+    roles = other_roles(plan, changed)
     if options.json:
         lists = [{"list": each.after.name, **each.values()} for each in effects]
         answer = {**plan_values(changed), "mark_before": plan.mark, "changes": options.set}
+        answer["roles"] = [each.values() for each in roles]
         write_json({**answer, "lists": lists, "notes": changed.notes})
     else:
         write_notes(changed.notes)
@@ -78,6 +82,8 @@ def _run_changed(options: Namespace) -> tuple[Verdict, ...]:
         if plan.mark != changed.mark:
             why = f"{'a' if changed.width == WIDE else 'no'} distance is above {longest(NARROW):,}"
             print(f"the plan is then {changed.mark} and no longer {plan.mark}, as {why}")
+        for line in (line for each in roles for line in each.lines()):
+            print(line)
         _print_rows([row for each in effects for row in _effect_rows(each)])
     return tuple(each.after for each in effects)
 

@@ -16,8 +16,9 @@ def arguments(parser: ArgumentParser) -> None:
     parser.add_argument("list", metavar="LIST", help="a list, by name or number")
     parser.epilog = (
         "An arrow leads from a router to one that it relies on, and has the rule and the margin. "
-        "Reflectors are boxes, listed routers are filled, the cycle is red. The routers of a rank "
-        "of a stable list are in a row, rank 0 at the bottom. "
+        "Reflectors are boxes, double ones if they have the hop step; listed routers are filled, "
+        "the cycle is red. The routers of a rank of a stable list are in a row, rank 0 at the "
+        "bottom. "
         "To draw it: rrp dot PLAN LIST | dot -Tsvg >PICTURE. "
         "Exit status: 0 written, be the list stable or suspect; 2 error."
     )
@@ -41,6 +42,7 @@ def _values(plan: Plan, verdict: Verdict) -> dict[str, object]:
         {
             "router": router,
             "role": plan.role(router),
+            "hop_step": plan.has_hop_step(router),
             "listed": router in listed,
             "in_cycle": router in verdict.cycle,
             "rank": verdict.ranks[router] if verdict.ranks else None,

@@ -20,6 +20,13 @@ from ..table_files import NOTHING, table_values
 _COLUMNS = 110
 _WHOLE = {"break_long_words": False, "break_on_hyphens": False}
 
+#: What to do where no change of one distance makes a list stable.
+_NONE_ENDS_IT = (
+    "no change above makes the list stable by itself: make one of them in the plan,",
+    "and show the list again for the cycle that is left; or change a session or the list,",
+    "or give one of the reflectors the hop step",
+)
+
 
 def arguments(parser: ArgumentParser) -> None:
     """Adds what `show` takes."""
@@ -143,8 +150,7 @@ def _print_advice(path: str, remedies: list[Remedy]) -> None:
         words = ["rrp", "check", path, "--set", best.change.statement]
         print(f"\nto judge a change for all lists: {join(words)}")
     elif remedies:
-        print("\nno change above makes the list stable by itself: make one of them in the plan,")
-        print("and show the list again for the cycle that is left; or change a session or the list")
+        print("\n".join(["", *_NONE_ENDS_IT]))
 
 
 def _write(plan: Plan, verdict: Verdict, values: dict[str, object]) -> None:

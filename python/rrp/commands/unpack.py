@@ -34,6 +34,7 @@ def values(plan: Plan) -> dict[str, object]:
             "name": name,
             "role": plan.role(name),
             "client_reflection": plan.role(name) == "reflector" and not plan.skips_clients(name),
+            "hop_step": plan.has_hop_step(name),
             "identifier": identifier_text(plan.identifier(name)),
         }
         for name in plan.routers

@@ -30,5 +30,6 @@ def run(options: Namespace) -> int:
     else:
         write_notes(plan.notes)
         print(f"{'yes' if found.relies else 'no'}: {found.claim}:")
-        print(f"  {found.reason}")
+        for line in found.lines:
+            print(f"  {line}")
     return 0

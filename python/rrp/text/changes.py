@@ -1,26 +1,92 @@
-"""Changes to a plan, each a statement of the text format: a link, a distance, a session or a list.
+"""Changes to a plan, each a statement of the text format: a link, a distance, a session, a list or
+a reflector.
 
 A change replaces what the plan states of the same two routers, or the list of the same name, and
 is added where there is none. `link A B none` and `session A B none` take a link or a session away.
+One of a reflector replaces the words that the plan has after its identifier.
 """
 
 from __future__ import annotations
 
 from collections.abc import Sequence
+from typing import NamedTuple
 
+from ..encoding import CLIENT
 from ..errors import RrpError
 from ..plan import Plan
 from .assembly import assemble
 from .draft import Draft, Way, session
 from .gathering import Gathering, ways_of
 from .problems import Problem, TextErrors
-from .statements import ListStatement, SessionStatement, Statement, WayStatement, read_statement
+from .statements import (
+    HOP_STEP,
+    NO_REFLECTION,
+    ListStatement,
+    RouterStatement,
+    SessionStatement,
+    Statement,
+    WayStatement,
+    read_statement,
+)
 from .words import Line, Word, words_of
+from .writing import identifier_text
 
 #: The file that a change is said to be in.
 _FILE = "--set"
 
-_ADVICE = "a change is a link, distance, session or list, as: link lon-rr par-a 12"
+_ADVICE = "a change is a link, distance, session, list or reflector, as: link lon-rr par-a 12"
+
+
+class Kind(NamedTuple):
+    """What kind of reflector a router is."""
+
+    skips: bool
+    step: bool
+
+    def values(self) -> dict[str, bool]:
+        """The kind as plain values."""
+        return {"client_reflection": not self.skips, "hop_step": self.step}
+
+
+class OtherRole(NamedTuple):
+    """A reflector that changes make another kind of reflector."""
+
+    router: str
+    before: Kind
+    after: Kind
+
+    def lines(self) -> list[str]:
+        """What it then does that it did not, or no longer does. Where changes leave out that it
+        skips its clients, how to keep that."""
+        parts = []
+        if self.before.step != self.after.step:
+            parts.append(f"has {'the' if self.after.step else 'no'} hop step")
+        if self.before.skips != self.after.skips:
+            reflects = "does not reflect" if self.after.skips else "reflects"
+            parts.append(f"{reflects} between its clients")
+        said = [f"{self.router} then {' and '.join(parts)}"]
+        if self.before.skips and not self.after.skips:
+            words = [NO_REFLECTION, *[HOP_STEP] * self.after.step]
+            kept = " ".join(["reflector", self.router, *words])
+            said.append(f"    to keep it from reflecting between them: {kept}")
+        return said
+
+    def values(self) -> dict[str, object]:
+        """The reflector before changes and after them, as plain values."""
+        kinds = {"before": self.before.values(), "after": self.after.values()}
+        return {"router": self.router, **kinds}
+
+
+def other_roles(before: Plan, after: Plan) -> list[OtherRole]:
+    """The reflectors of which changes make another kind of reflector."""
+    found = []
+    for router in after.routers:
+        old, new = (
+            Kind(plan.skips_clients(router), plan.has_hop_step(router)) for plan in (before, after)
+        )
+        if old != new:
+            found.append(OtherRole(router, old, new))
+    return found
 
 
 def with_changes(draft: Draft, texts: Sequence[str]) -> Draft:
@@ -33,7 +99,7 @@ def with_changes(draft: Draft, texts: Sequence[str]) -> Draft:
         if not words:
             problems.append(Problem(Word("", line, 1), "there is no statement", _ADVICE))
             continue
-        statement = read_statement(words, problems)
+        statement = read_statement(words, problems, change=True)
         if statement is not None:
             _change(gathering, words[0], statement)
     gathering.few_links()
@@ -81,6 +147,9 @@ def _change(gathering: Gathering, first: Word, statement: Statement) -> None:
     elif isinstance(statement, ListStatement):
         if statement.name.text in gathering.draft.lists or gathering.room_for_list(statement.name):
             gathering.draft.lists[statement.name.text] = gathering.members(statement)
+    elif isinstance(statement, RouterStatement) and statement.role != CLIENT:
+        if gathering.known(statement.name):
+            _change_reflector(gathering, statement)
     else:
         gathering.problem(first, f"{first.text} is no change", _ADVICE)
 
@@ -114,3 +183,18 @@ def _change_session(gathering: Gathering, statement: SessionStatement) -> None:
         del sessions[pair]
     else:
         gathering.problem(one, f"{both} have no session to take away", "name two neighbours")
+
+
+def _change_reflector(gathering: Gathering, statement: RouterStatement) -> None:
+    """Another role of a reflector. Its identifier stays, as routers are numbered by theirs."""
+    routers, name, stated = gathering.draft.routers, statement.name, statement.identifier
+    router = routers[name.text]
+    if router.role == CLIENT:
+        advice = "name a reflector, as: reflector lon-rr hop-step"
+        gathering.problem(name, f"{name.text} is a client, and stays one in a change", advice)
+    elif stated not in (None, router.identifier):
+        message = f"the identifier of {name.text} is {identifier_text(router.identifier)}"
+        advice = "a change leaves identifiers as they are: leave it out"
+        gathering.problem(statement.identifier_word, message, advice)
+    else:
+        routers[name.text] = router._replace(role=statement.role)

@@ -9,6 +9,7 @@ from ..library import MAX_LINKS, MAX_LISTS, MAX_ROUTERS
 from .draft import Draft, EgressList, Router, Way, session
 from .problems import Problem, guess
 from .statements import (
+    REFLECTOR_WORDS,
     ListStatement,
     MeshStatement,
     RouterStatement,
@@ -16,6 +17,7 @@ from .statements import (
     Statement,
     WayStatement,
     WideStatement,
+    reflectors_alone,
 )
 from .words import Word
 
@@ -66,6 +68,9 @@ class Gathering:
         """Whether a word is the name of a router; a problem if not."""
         if word.text in self.draft.routers:
             return True
+        if word.text in REFLECTOR_WORDS:
+            self.problems.append(reflectors_alone(word).problem)
+            return False
         near = guess(word.text, self.draft.routers, self.problems)
         add = f"add a line for it, as: client {word.text} IDENTIFIER of REFLECTOR"
         advice = f"did you mean {near}? Else {add}" if near else add

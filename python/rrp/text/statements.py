@@ -3,15 +3,16 @@
 from __future__ import annotations
 
 import re
+from collections.abc import Iterable
 from typing import NamedTuple, Union
 
-from ..encoding import CLIENT, REFLECTOR, SKIPPING, WIDE, longest
+from ..encoding import CLIENT, REFLECTOR, REFLECTORS, WIDE, longest
 from .problems import Problem, Slip, guess, printable
 from .words import Word, after
 
 #: How each statement is written.
 FORMS = {
-    "reflector": "reflector NAME IDENTIFIER [no-client-reflection]",
+    "reflector": "reflector NAME IDENTIFIER [no-client-reflection] [hop-step]",
     "client": "client NAME IDENTIFIER [of NAME ..]",
     "mesh": "mesh NAME NAME ..",
     "session": "session NAME NAME",
@@ -21,11 +22,18 @@ FORMS = {
     "wide": "wide",
 }
 
+#: How a statement is written as a change, where that differs.
+_CHANGE_FORMS = {"reflector": "reflector NAME [no-client-reflection] [hop-step]"}
+
 #: What the number of a statement is called, the least that it may be, and the most.
 NUMBERS = {"link": ("weight", 1, 65535), "distance": ("distance", 0, longest(WIDE))}
 
 NO_REFLECTION = "no-client-reflection"
+HOP_STEP = "hop-step"
 NO_WAY = "none"
+
+#: The words that a reflector takes after its identifier, in any order.
+REFLECTOR_WORDS = (NO_REFLECTION, HOP_STEP)
 
 #: A word of so many letters is cut in a message.
 _LONG = 40
@@ -37,7 +45,8 @@ _ADDRESS = re.compile(r"\.".join([_BYTE] * 4))
 
 
 class RouterStatement(NamedTuple):
-    """`reflector` or `client`. The identifier is None if it has a problem."""
+    """`reflector` or `client`. The identifier is None if it has a problem, or if a change leaves it
+    out."""
 
     name: Word
     role: int
@@ -89,11 +98,13 @@ Statement = Union[
 
 
 class Reader:
-    """Reads the words of one statement from left to right."""
+    """Reads the words of one statement from left to right. `change` says whether the statement is a
+    change of a plan, which keeps the identifiers that there are."""
 
-    def __init__(self, words: list[Word], problems: list[Problem]) -> None:
+    def __init__(self, words: list[Word], problems: list[Problem], change: bool = False) -> None:
         self.words = words
         self.problems = problems
+        self.change = change
         self.place = 1
 
     @property
@@ -104,7 +115,8 @@ class Reader:
     @property
     def advice(self) -> str:
         """How the statement is written."""
-        return f"write: {FORMS[self.kind]}"
+        form = FORMS[self.kind]
+        return f"write: {_CHANGE_FORMS.get(self.kind, form) if self.change else form}"
 
     def left(self) -> bool:
         """Whether there are words left."""
@@ -119,7 +131,7 @@ class Reader:
 
     def take_if(self, text: str) -> bool:
         """Takes the next word if it is the one given."""
-        found = self.left() and self.words[self.place].text == text
+        found = self.next_is(text)
         self.place += found
         return found
 
@@ -133,12 +145,31 @@ class Reader:
             raise Slip(word, message, "use letters, digits and - . _ / :")
         return word
 
-    def identifier(self) -> Word:
-        """The next word, which is an identifier. An `of` is left where that is missing."""
-        if self.left() and self.words[self.place].text == "of":
+    def next_is(self, *texts: str) -> bool:
+        """Whether the next word is one of those given."""
+        return self.left() and self.words[self.place].text in texts
+
+    def identifier(self) -> Word | None:
+        """The next word, which is an identifier. What may follow one is left where it is missing. A
+        change of a reflector may be without one: it then has no word that starts as a number."""
+        if self.change and self.kind == "reflector":
+            if not self.left() or not self.words[self.place].text[0].isdigit():
+                return None
+        if self.next_is("of", *REFLECTOR_WORDS):
             word = self.words[self.place]
-            raise Slip(word, "the identifier is missing before of", self.advice)
+            raise Slip(word, f"the identifier is missing before {word.text}", self.advice)
         return self.take("the identifier")
+
+    def reflector_role(self) -> int:
+        """The role that the words after a reflector's identifier make."""
+        given: list[str] = []
+        while self.next_is(*REFLECTOR_WORDS):
+            word = self.take("a word")
+            if word.text in given:
+                raise Slip(word, f"{word.text} is given twice", "leave one of them out")
+            given.append(word.text)
+        self.end(REFLECTOR_WORDS)
+        return REFLECTORS[NO_REFLECTION in given, HOP_STEP in given]
 
     def names(self, what: str) -> list[Word]:
         """All words that are left, which are names; at least one."""
@@ -147,20 +178,25 @@ class Reader:
             found.append(self.name(what))
         return found
 
-    def end(self) -> None:
-        """No word is left."""
+    def end(self, known: Iterable[str] = ()) -> None:
+        """No word is left. One that is may be meant as one of those known."""
         if self.left():
             word = self.words[self.place]
-            raise Slip(word, f"{clear(word.text)} is a word too many", self.advice)
+            near = guess(word.text, known, self.problems)
+            advice = f"did you mean {near}? Else {self.advice}" if near else self.advice
+            raise Slip(word, f"{clear(word.text)} is a word too many", advice)
 
 
-def read_statement(words: list[Word], problems: list[Problem]) -> Statement | None:
-    """The statement that the words of a line make. Its problems are added to those given."""
+def read_statement(
+    words: list[Word], problems: list[Problem], change: bool = False
+) -> Statement | None:
+    """The statement that the words of a line, or of a change, make. Its problems are added to those
+    given."""
     kind = words[0].text
     if kind not in FORMS:
         return _read_misspelt(words, problems)
     try:
-        return _READERS[kind](Reader(words, problems))
+        return _READERS[kind](Reader(words, problems, change))
     except Slip as slip:
         problems.append(slip.problem)
         return None
@@ -183,13 +219,15 @@ def _read_router(reader: Reader) -> RouterStatement:
     name, word, identifier, others = reader.name("the router's name"), None, None, []
     try:
         word = reader.identifier()
-        identifier = read_identifier(word)
+        identifier = None if word is None else read_identifier(word)
     except Slip as slip:
         reader.problems.append(slip.problem)
     try:
-        if role == REFLECTOR and reader.take_if(NO_REFLECTION):
-            role = SKIPPING
-        elif role == CLIENT and reader.take_if("of"):
+        if role == REFLECTOR:
+            role = reader.reflector_role()
+        elif reader.next_is(*REFLECTOR_WORDS):
+            raise reflectors_alone(reader.take("a word"))
+        elif reader.take_if("of"):
             others = reader.names("a router's name after of")
         reader.end()
     except Slip as slip:
@@ -238,6 +276,12 @@ _READERS = {
     "list": _read_list,
     "wide": _read_wide,
 }
+
+
+def reflectors_alone(word: Word) -> Slip:
+    """The slip of a word of reflectors at a client."""
+    advice = f"leave it out; with it, write: {FORMS['reflector']}"
+    return Slip(word, f"{word.text} is for reflectors alone", advice)
 
 
 def read_identifier(word: Word) -> int:

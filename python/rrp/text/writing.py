@@ -6,9 +6,9 @@ from collections.abc import Iterator
 from itertools import combinations
 
 from ..columns import left, widest
-from ..encoding import CLIENT, SKIPPING, WIDE
+from ..encoding import CLIENT, WIDE
 from ..plan import Plan
-from .statements import NO_REFLECTION, NO_WAY
+from .statements import HOP_STEP, NO_REFLECTION, NO_WAY
 
 #: The comment after the name of a list of nobody.
 _NOBODY = " # nobody"
@@ -43,11 +43,11 @@ def _routers(plan: Plan) -> Iterator[str]:
     for number, (name, identifier) in enumerate(zip(plan.routers, identifiers)):
         line = f"{plan.role(number):9} {left(name, columns)} {identifier:{width}}"
         parents = _parents(plan, number)
-        if plan.model.roles[number] == SKIPPING:
-            line += f" {NO_REFLECTION}"
-        elif plan.model.roles[number] == CLIENT and parents:
+        if plan.role(number) == "client" and parents:
             line += f" of {' '.join(parents)}"
-        yield line.rstrip()
+        skips, step = plan.skips_clients(number), plan.has_hop_step(number)
+        words = [NO_REFLECTION] * skips + [HOP_STEP] * step
+        yield " ".join([line, *words]).rstrip()
 
 
 def _parents(plan: Plan, client: int) -> list[str]:

@@ -44,10 +44,30 @@ pub struct ListFields {
     pub count: u64,
 }
 
-/// What a comparison of two egress routers gives.
+/// A route handed to a comparison.
+#[derive(Clone, Copy, Debug, PartialEq, Eq)]
+pub struct Handed {
+    pub egress: usize,
+    /// Whether the egress router itself told the route: any number but 0 is yes. With 0 it
+    /// was passed on.
+    pub direct: u8,
+}
+
+impl Handed {
+    /// A route that its egress router told.
+    pub fn told(egress: usize) -> Self {
+        Handed { egress, direct: 1 }
+    }
+
+    pub fn passed_on(egress: usize) -> Self {
+        Handed { egress, direct: 0 }
+    }
+}
+
+/// What a comparison of two routes gives.
 #[derive(Clone, Copy)]
 pub struct CompareFields {
-    /// 1 for the first, 2 for the second, 0 for neither: both are the same, or
+    /// 1 for the first, 2 for the second, 0 for neither: both have one egress router, or
     /// there is a way to neither.
     pub better: Flag,
     /// 1 if there is a way to both, else 0.
@@ -180,7 +200,8 @@ pub trait Checker {
 
     fn list(&mut self, plan: &[u8], list: usize, fields: &mut ListFields) -> u8;
 
-    fn compare(&mut self, plan: &[u8], router: usize, pair: (usize, usize), fields: &mut CompareFields) -> u8;
+    /// Compares a first route with a second.
+    fn compare(&mut self, plan: &[u8], router: usize, routes: [Handed; 2], fields: &mut CompareFields) -> u8;
 
     fn relies(&mut self, plan: &[u8], list: usize, pair: (usize, usize), relies: &mut u8) -> u8;
 

@@ -1,10 +1,12 @@
 //! Libraries with the C interface: the proved one, linked as a static library, and
 //! another build of it, loaded as a shared one.
 
+use crate::harness::plans::small_plans::star;
 use crate::interface::{
-    Acts, Checker, CompareFields, ExplainFields, Lent, ListFields, RunFields, SizeFields, VerdictBuffers,
+    Acts, Checker, CompareFields, ExplainFields, Handed, Lent, ListFields, RunFields, SizeFields, VerdictBuffers,
     VerdictFields,
 };
+use crate::oracle::plan::STEPPING;
 use std::ffi::{c_char, c_int, c_void, CStr, CString};
 use std::mem::transmute;
 
@@ -36,8 +38,8 @@ macro_rules! functions {
             fn found(find: impl Fn(&CString) -> *mut c_void) -> Self {
                 Library { $($name: {
                     let name = CString::new(stringify!($name)).expect("a name without a byte 0");
-                    // SAFETY: a function of this name has this type in every build, and
-                    // null is none.
+                    // SAFETY: a function of this name has this type in every build that the
+                    // function is called of, and null is none.
                     unsafe { transmute::<*mut c_void, Option<unsafe extern "C" fn($($type),*) -> u8>>(find(&name)) }
                 },)* }
             }
@@ -58,6 +60,8 @@ functions! {
         router: usize,
         first: usize,
         second: usize,
+        first_direct: u8,
+        second_direct: u8,
         better: *mut u8,
         has_margin: *mut u8,
         margin: *mut i64,
@@ -141,7 +145,17 @@ impl Library {
             return Err(unsafe { CStr::from_ptr(dlerror()) }.to_string_lossy().into_owned());
         }
         // SAFETY: the library is loaded, and the name is a C string.
-        Ok(Library::found(|name| unsafe { dlsym(library, name.as_ptr()) }))
+        let mut library = Library::found(|name| unsafe { dlsym(library, name.as_ptr()) });
+        // A build that does not read role 4 has a comparison of this name without flags.
+        if library.check(&star(0, &[STEPPING]).bytes()) != 0 {
+            library.rrp_compare = None;
+        }
+        Ok(library)
+    }
+
+    /// Whether the library has the comparison that takes flags.
+    pub fn compares(&self) -> bool {
+        self.rrp_compare.is_some()
     }
 }
 
@@ -163,15 +177,18 @@ impl Checker for Library {
         }
     }
 
-    fn compare(&mut self, plan: &[u8], router: usize, pair: (usize, usize), fields: &mut CompareFields) -> u8 {
+    fn compare(&mut self, plan: &[u8], router: usize, routes: [Handed; 2], fields: &mut CompareFields) -> u8 {
+        let [first, second] = routes;
         // SAFETY: as above.
         unsafe {
             self.rrp_compare.expect(MISSING)(
                 plan.as_ptr(),
                 plan.len(),
                 router,
-                pair.0,
-                pair.1,
+                first.egress,
+                second.egress,
+                first.direct,
+                second.direct,
                 &mut fields.better.value,
                 &mut fields.has_margin.value,
                 &mut fields.margin.value,

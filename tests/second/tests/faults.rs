@@ -10,9 +10,12 @@ use second_checker::harness::faults::count_slips::{self, count_faults};
 use second_checker::harness::faults::empty_list_misreadings::{MisreadEmptyList, EMPTY_LIST_MISREADINGS};
 use second_checker::harness::faults::empty_list_slips::EMPTY_LIST_SLIPS;
 use second_checker::harness::faults::explain_misreadings::{MisreadExplanation, EXPLAIN_MISREADINGS};
+use second_checker::harness::faults::hop_misreadings::{MisreadHop, HOP_MISREADINGS};
+use second_checker::harness::faults::hop_slips::HOP_SLIPS;
 use second_checker::harness::faults::misreader::{Misreader, PlanCall};
 use second_checker::harness::faults::misreadings::{Misread, MISREADINGS};
 use second_checker::harness::faults::parent_slips::PARENT_SLIPS;
+use second_checker::harness::faults::role_slips::{self, role_faults};
 use second_checker::harness::faults::skip_misreadings::{MisreadSkip, SKIP_MISREADINGS};
 use second_checker::harness::faults::slips::{Slip, SLIPS};
 use second_checker::harness::faults::width_slips::{self, width_faults};
@@ -26,18 +29,26 @@ use std::fmt::Debug;
 /// A fault must be found within so many plans.
 const PLANS: u64 = 4000;
 
+/// The plans before this one are fixed and large, so that they are tried last, if at all.
+const FIRST_DRAWN: u64 = 5;
+
 /// The gate runs the margin program on so many inputs.
 const INPUTS: u64 = 300;
 
+/// Some plan tells the two checkers apart.
+fn are_told_apart(one: &mut dyn Checker, other: &mut dyn Checker) -> bool {
+    differ(one, other, SEED, FIRST_DRAWN..PLANS) || differ(one, other, SEED, 0..FIRST_DRAWN)
+}
+
 /// The comparison tells each checker with a fault from the right one.
 fn each_is_found<F: Debug, C: Checker>(faults: impl IntoIterator<Item = F>, with: impl Fn(&F) -> C) {
-    none_missed(faults, |fault| differ(&mut Oracle::right(), &mut with(fault), SEED, 0..PLANS));
+    none_missed(faults, |fault| are_told_apart(&mut Oracle::right(), &mut with(fault)));
 }
 
 /// .. and from itself.
 fn each_is_found_beside_itself<F: Debug, R: Rules>(faults: impl IntoIterator<Item = F>, with: impl Fn(&F) -> R) {
     let checker = |fault: &F| Oracle::with(with(fault));
-    none_missed(faults, |fault| differ(&mut checker(fault), &mut checker(fault), SEED, 0..PLANS));
+    none_missed(faults, |fault| are_told_apart(&mut checker(fault), &mut checker(fault)));
 }
 
 fn none_missed<F: Debug>(faults: impl IntoIterator<Item = F>, is_found: impl Fn(&F) -> bool) {
@@ -46,14 +57,15 @@ fn none_missed<F: Debug>(faults: impl IntoIterator<Item = F>, is_found: impl Fn(
 }
 
 /// The comparison tells a checker that takes plans for others, as a slip has it, in one call
-/// from the right one. Each is looked for from the plan on that showed the slip in the call
-/// before, since plans that show one are few.
+/// from the right one, by a plan from this number on. Each is looked for from the plan on that
+/// showed the slip in the call before, since plans that show one are few.
 fn each_is_found_in_each_call<S: Copy + Debug>(
     faults: Vec<(S, Vec<PlanCall>)>,
+    from: u64,
     taken_for: fn(S, &[u8]) -> Option<Vec<u8>>,
 ) {
     for (slip, calls) in faults {
-        let mut first = 0;
+        let mut first = from;
         for call in calls {
             let mut misreader = Misreader::new(call, |plan: &[u8]| taken_for(slip, plan));
             let mut is_found = |number: &u64| differ(&mut Oracle::right(), &mut misreader, SEED, *number..number + 1);
@@ -81,6 +93,16 @@ fn each_misreading_of_role_3_is_found() {
 #[test]
 fn each_misreading_of_role_3_is_found_beside_itself() {
     each_is_found_beside_itself(SKIP_MISREADINGS, |&fault| MisreadSkip(fault));
+}
+
+#[test]
+fn each_misreading_of_the_hop_step_is_found() {
+    each_is_found(HOP_MISREADINGS, |&fault| Oracle::with(MisreadHop(fault)));
+}
+
+#[test]
+fn each_misreading_of_the_hop_step_is_found_beside_itself() {
+    each_is_found_beside_itself(HOP_MISREADINGS, |&fault| MisreadHop(fault));
 }
 
 #[test]
@@ -115,12 +137,22 @@ fn each_slip_in_the_check_of_parents_is_found() {
 
 #[test]
 fn each_slip_in_what_a_mark_says_is_found_in_each_call() {
-    each_is_found_in_each_call(width_faults(), width_slips::taken_for);
+    each_is_found_in_each_call(width_faults(), 0, width_slips::taken_for);
 }
 
 #[test]
 fn each_slip_in_a_count_of_0_is_found_in_each_call() {
-    each_is_found_in_each_call(count_faults(), count_slips::taken_for);
+    each_is_found_in_each_call(count_faults(), FIRST_DRAWN, count_slips::taken_for);
+}
+
+#[test]
+fn each_role_taken_for_another_is_found_in_each_call() {
+    each_is_found_in_each_call(role_faults(), FIRST_DRAWN, role_slips::taken_for);
+}
+
+#[test]
+fn each_slip_with_the_hop_step_is_found() {
+    each_is_found(HOP_SLIPS, |&slip| Careless::new(Slip::Hop(slip)));
 }
 
 #[test]

@@ -11,7 +11,7 @@ returns-2 c =
     let b = c .before in
     let a = b .before in
     let matched = a .before .before in
-    compare-given _ _ _ _ _ (matched .before .before .compare .ensures) _ _ _ _ _ (matched .answer2 .given .1) _ _ _
+    compare-given _ _ _ _ _ _ _ (matched .before .before .compare .ensures) _ _ _ _ _ (matched .answer2 .given .1) _ _ _
     (a .preferred-number .ensures) (b .margin-flag .ensures) (toZ-ofZ w64 _ (search needs) ∙ c .margin-value .ensures)
 
 -- an arm knows the answer that it matched
@@ -21,7 +21,7 @@ compare-spec =
     (tie.spec
     (λ c κs. search needs)
     (λ c. search needs)
-    (λ c. compare-refused _ _ _ _ _ (c .before .before .before .compare .ensures) _ _ _ _ (c .before .answer .given .1))
+    (λ c. compare-refused _ _ _ _ _ _ _ (c .before .before .before .compare .ensures) _ _ _ _ (c .before .answer .given .1))
     (λ c. search needs)
     (λ c κs. search needs)
     (λ c κs. search needs)

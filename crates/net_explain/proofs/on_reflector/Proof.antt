@@ -19,16 +19,16 @@ I c = decoded (c .args .net) (c .args .rows .now) (c .args .distances .now)
 returns : tie.Need-returns
 returns c = sym (on-reflector-parent (I (c .before .before .before)) _ _ (no _ (c .before .has-bit .ensures) (c .if1 .taken)))
 
-module _ (c : tie.After-offered) where
+module _ (c : tie.After-behind) where
   abbrev left : tie.Else1
-  left = c .before .before .before
+  left = c .before .before .before .before
 
   abbrev start : tie.Start
   start = left .before .before .before
 
   -- v's offer, from its best client
-  offer-is : asRouter (c .offered .result) ≡ offer (I start) (start .args .v)
-  offer-is = c .offered .ensures (start .args .rows .now) (start .args .distances .now) (c .before .best-client2 .ensures)
+  offer-is : asRouter (c .before .offered .result) ≡ offer (I start) (start .args .v)
+  offer-is = c .before .offered .ensures (start .args .rows .now) (start .args .distances .now) (c .before .before .best-client2 .ensures)
 
 by-offer-requires : tie.Need-by-offer-requires
 by-offer-requires c κs =
@@ -36,16 +36,18 @@ by-offer-requires c κs =
       p .1,
       p .0 .pairs,
       rw (offer-is c) (offer-below (I (start c)) _ (p .2)),
-      rw (c .before .before .best-client .ensures) (bestClient-below (I (start c)) _),
+      rw (c .before .before .before .best-client .ensures) (bestClient-below (I (start c)) _),
     )
 
 returns-2 : tie.Need-returns-2
 returns-2 c =
     let d = c .before in
     let J = I (start d) in
-    let own = d .before .before .best-client .ensures in
-    c .by-offer .ensures J (record { dist = refl; way = refl }) (rw own (own-way-to J _))
-    ∙ ap₂ (byOffer J (start d .args .w)) (offer-is d) own
+    let a = start d .args in
+    let own = d .before .before .before .best-client .ensures in
+    c .by-offer .ensures J (J .listed (a .v)) (record { dist = refl; way = refl }) (rw own (own-way-to J _))
+    (d .behind .ensures (a .rows .now) (a .distances .now))
+    ∙ ap₂ (byOffer J (a .w) (J .listed (a .v))) (offer-is d) own
     ∙ sym (on-reflector-offer J _ _ (yes _ (left d .before .has-bit .ensures) (left d .if1 .left)))
 
 pub on-reflector-spec : {M : Type 1} → statement M
@@ -54,6 +56,7 @@ on-reflector-spec =
     (tie.spec
     (λ c κs. search needs)
     returns
+    (λ c κs. search needs)
     (λ c κs. search needs)
     (λ c κs. search needs)
     (λ c κs. search needs)

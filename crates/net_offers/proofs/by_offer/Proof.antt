@@ -15,9 +15,9 @@ use Rattle.net_offers.proofs.by_offer.Statement.{statement}
 use Rattle.net_offers.proofs.by_offer.Tie as tie
 
 returns : tie.Need-returns
-returns c I q own =
+returns c I d q own h =
     let a = c .before .before .args in
-    sym (ap (λ o. byOffer I (a .w) o (asRouter (a .own))) (router-none _ (c .if1 .taken)) ∙ offer-none I _ _)
+    sym (ap (λ o. byOffer I (a .w) d o (asRouter (a .own))) (router-none _ (c .if1 .taken)) ∙ offer-none I _ _ _)
 
 -- an offer exists
 module _ (c : tie.After-wide) where
@@ -33,10 +33,10 @@ has-way-requires c κs =
     (p .0, omega (arith, c .wide .ensures .0, router-below _ (start c .args .offer) (c .before .if1 .left) (p .2)), p .1)
 
 returns-2 : tie.Need-returns-2
-returns-2 c I q own =
-    let d = c .before .before in
-    let a = start d .args in
-    sym (ap (λ o. byOffer I (a .w) o (asRouter (a .own))) (offered d) ∙ offer-no-way I _ _ _ (no-way q _ _ _ (c .before .has-way .ensures) (c .if2 .taken)))
+returns-2 c I d q own h =
+    let f = c .before .before in
+    let a = start f .args in
+    sym (ap (λ o. byOffer I (a .w) d o (asRouter (a .own))) (offered f) ∙ offer-no-way I _ _ _ _ (no-way q _ _ _ (c .before .has-way .ensures) (c .if2 .taken)))
 
 -- .. to which w has a way
 has-way : (c : tie.Else2) (I : Instance) → let a = start (c .before .before) .args in Measured I (a .width) (a .distances .now) (a .n)
@@ -50,13 +50,13 @@ against-own-requires c κs =
     (p .0, p .1, omega (arith, d .wide .ensures .0, router-below _ (start d .args .offer) (d .before .if1 .left) (p .2)), p .3)
 
 returns-3 : tie.Need-returns-3
-returns-3 c I q own =
+returns-3 c I d q own h =
     let e = c .before in
-    let d = e .before .before in
-    let a = start d .args in
+    let f = e .before .before in
+    let a = start f .args in
     let way = has-way e I q in
-    c .against-own .ensures I q way own
-    ∙ sym (ap (λ o. byOffer I (a .w) o (asRouter (a .own))) (offered d) ∙ offer-way I _ _ _ way)
+    c .against-own .ensures I d q way own h
+    ∙ sym (ap (λ o. byOffer I (a .w) d o (asRouter (a .own))) (offered f) ∙ offer-way I _ _ _ _ way)
 
 pub by-offer-spec : {M : Type 1} → statement M
 by-offer-spec =

@@ -8,20 +8,20 @@ use Rattle.net_prefer.proofs.better.Statement.{statement}
 use Rattle.net_prefer.proofs.better.Tie as tie
 
 returns : tie.Need-returns
-returns c I w p q = sym (better-without I _ _ _ (p .way ∙ no _ (c .before .is-way .ensures) (c .if1 .taken)))
+returns c I w p q h = sym (better-without I _ _ _ _ _ (p .way ∙ no _ (c .before .is-way .ensures) (c .if1 .taken)))
 
 returns-2 : tie.Need-returns-2
-returns-2 c I w p q =
+returns-2 c I w p q h =
     let d = c .before .before in
-    sym (better-one-way I _ _ _ (p .way ∙ yes _ (d .before .is-way .ensures) (d .if1 .left))
+    sym (better-one-way I _ _ _ _ _ (p .way ∙ yes _ (d .before .is-way .ensures) (d .if1 .left))
     (q .way ∙ no _ (c .before .is-way2 .ensures) (c .if2 .taken)))
 
 returns-3 : tie.Need-returns-3
-returns-3 c I w p q =
+returns-3 c I w p q h =
     let e = c .before in
     let d = e .before .before in
-    c .nearer .ensures I w (distances-ordered (p .dist) (q .dist))
-    ∙ sym (better-both-ways I _ _ _ (p .way ∙ yes _ (d .before .is-way .ensures) (d .if1 .left))
+    c .prefers .ensures I w (distances-ordered (p .dist) (q .dist)) h
+    ∙ sym (better-both-ways I _ _ _ _ _ (p .way ∙ yes _ (d .before .is-way .ensures) (d .if1 .left))
     (q .way ∙ yes _ (e .before .is-way2 .ensures) (e .if2 .left)))
 
 pub better-spec : {M : Type 1} → statement M

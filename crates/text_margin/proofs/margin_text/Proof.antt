@@ -16,7 +16,7 @@ returns-2 c =
     let first = second .before .before in
     let input = first .before .before .before .before .before .args .input .now in
     at-front (c .before .before .answer-line .ensures)
-    (answer-line _ _ _ _ (compared .compare .ensures)
+    (answer-line _ _ _ _ _ _ (compared .compare .ensures)
     ∙ long-text input (first .before .before .if1 .left) (rest input)
     (first .wide .ensures .0)
     (second .wide2 .ensures .0)

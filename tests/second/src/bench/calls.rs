@@ -4,8 +4,8 @@ use crate::harness::comparison::arguments;
 use crate::harness::plans::draft::Draft;
 use crate::harness::random::Random;
 use crate::interface::{
-    Acts, Checker, CompareFields, ExplainFields, Flag, Lent, ListFields, RunFields, SizeFields, VerdictBuffers,
-    VerdictFields,
+    Acts, Checker, CompareFields, ExplainFields, Flag, Handed, Lent, ListFields, RunFields, SizeFields,
+    VerdictBuffers, VerdictFields,
 };
 use crate::oracle::mark::Mark;
 use crate::oracle::plan;
@@ -30,7 +30,8 @@ pub fn list(checker: &mut dyn Checker, plan: &[u8]) {
 
 pub fn compare(checker: &mut dyn Checker, plan: &[u8]) {
     let mut fields = CompareFields::new(0, 0, 0);
-    assert_eq!(checker.compare(black_box(plan), 0, (1, 2), &mut fields), 0);
+    let routes = black_box([Handed::told(1), Handed::passed_on(2)]);
+    assert_eq!(checker.compare(black_box(plan), 0, routes, &mut fields), 0);
     black_box((fields.better.value, fields.has_margin.value, fields.margin.value));
 }
 

@@ -2,11 +2,11 @@
 
 use crate::harness::plans::draft::{Draft, NO_WAY};
 use crate::harness::plans::sheets::Sheet;
-use crate::harness::plans::topology::all_pairs;
+use crate::harness::plans::topology::{all_pairs, with_step};
 use crate::harness::random::Random;
 use crate::oracle::links::MOST_LINKS;
 use crate::oracle::mark::Mark;
-use crate::oracle::plan::MOST_PARENTS;
+use crate::oracle::plan::{CLIENT, MOST_PARENTS, REFLECTOR, SKIPPING};
 use crate::oracle::verdict_lines;
 use std::collections::{BTreeMap, BTreeSet};
 
@@ -23,15 +23,36 @@ pub struct Shape {
     all_sessions: bool,
     /// So many of a hundred pairs have no way.
     cut: usize,
-    /// Every second reflector skips its own clients.
-    half_skip: bool,
+    /// The reflectors that skip their own clients.
+    skip: Share,
+    /// The reflectors with the hop step.
+    step: Share,
+}
+
+#[derive(Clone, Copy)]
+enum Share {
+    None,
+    /// Every second one.
+    Half,
+    All,
+}
+
+impl Share {
+    fn has(self, reflector: usize) -> bool {
+        match self {
+            Share::None => false,
+            Share::Half => reflector % 2 == 1,
+            Share::All => true,
+        }
+    }
 }
 
 impl Shape {
     /// A quarter reflectors, all in a mesh; clients with two parents.
     pub fn mesh(n: usize) -> Self {
         let reflectors = (n / 4).max(2);
-        Shape { n, reflectors, reach: n, parents: 2, all_sessions: false, cut: 0, half_skip: false }
+        let (skip, step) = (Share::None, Share::None);
+        Shape { n, reflectors, reach: n, parents: 2, all_sessions: false, cut: 0, skip, step }
     }
 
     /// A mesh; half reflectors in a mesh, and clients with four parents (for four
@@ -60,7 +81,17 @@ impl Shape {
 
     /// A mesh in which every second reflector skips its own clients.
     pub fn half_skip(n: usize) -> Self {
-        Shape { half_skip: true, ..Shape::mesh(n) }
+        Shape { skip: Share::Half, ..Shape::mesh(n) }
+    }
+
+    /// A mesh in which every second reflector has the hop step.
+    pub fn half_step(n: usize) -> Self {
+        Shape { step: Share::Half, ..Shape::mesh(n) }
+    }
+
+    /// A mesh in which every reflector has the hop step.
+    pub fn all_step(n: usize) -> Self {
+        Shape { step: Share::All, ..Shape::mesh(n) }
     }
 
     pub fn name(&self) -> String {
@@ -88,6 +119,18 @@ impl Shape {
         drafts.find(|draft| verdict_lines(&draft.bytes()).contains("suspect"))
     }
 
+    fn role(&self, router: usize) -> u8 {
+        if router >= self.reflectors {
+            return CLIENT;
+        }
+        let role = if self.skip.has(router) { SKIPPING } else { REFLECTOR };
+        if self.step.has(router) {
+            with_step(role)
+        } else {
+            role
+        }
+    }
+
     /// With `one_order` all routers prefer the egresses in one order, and every
     /// list is stable; without, distances are drawn at random.
     pub fn draft(&self, random: &mut Random, one_order: bool) -> Draft {
@@ -100,8 +143,7 @@ impl Shape {
         };
         Draft {
             mark: Mark::Rrp1,
-            reflector: (0..n).map(|router| router < self.reflectors).collect(),
-            skips: (0..self.reflectors).filter(|router| self.half_skip && router % 2 == 1).collect(),
+            roles: (0..n).map(|router| self.role(router)).collect(),
             identifiers: (1..=n as u32).collect(),
             sessions: self.sessions(),
             distances: (0..n).map(|from| (0..n).map(|to| distance(from, to)).collect()).collect(),

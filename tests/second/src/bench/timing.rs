@@ -42,6 +42,11 @@ impl Bench<'_> {
         Bench { other: self.other.filter(|&(mut other)| other.check(plan) == 0), ..*self }
     }
 
+    /// The bench for lines of comparisons, which older builds have without flags.
+    fn for_comparisons(&self) -> Self {
+        Bench { other: self.other.filter(Library::compares), ..*self }
+    }
+
     /// Prints a line of times by checker, and of ratios.
     fn print(&self, name: &str, parts: usize, turns: &Turns) {
         let best = |which: usize| turns.best(which) / parts as f64;
@@ -102,7 +107,7 @@ fn time_checks(bench: &Bench, random: &mut Random) {
         bench.line(&format!("check, {shape}"), 1, |checker| check(checker, &plan));
         bench.line(&format!("size, {shape}"), 1, |checker| size(checker, &plan));
         bench.line(&format!("list, {shape}"), 1, |checker| list(checker, &plan));
-        bench.line(&format!("compare, {shape}"), 1, |checker| compare(checker, &plan));
+        bench.for_comparisons().line(&format!("compare, {shape}"), 1, |checker| compare(checker, &plan));
     }
     let largest = generate::largest(random, Mark::Rrp1).bytes();
     bench.line("check, largest plan", 1, |checker| check(checker, &largest));
@@ -175,6 +180,14 @@ fn time_skips(bench: &Bench, random: &mut Random) {
     time_shape(bench, random, &Shape::half_skip(64), "half skip, n = 64");
 }
 
+/// Plans with reflectors that have the hop step: every second one, or all.
+fn time_steps(bench: &Bench, random: &mut Random) {
+    for (share, shape) in [("half", Shape::half_step(64)), ("all", Shape::all_step(64))] {
+        let bench = bench.for_plan(&shape.draft(random, false).bytes());
+        time_shape(&bench, random, &shape, &format!("{share} with the hop step, n = 64"));
+    }
+}
+
 /// The same plans of either mark, and how many times as long those of RRP2 take.
 fn time_widths(bench: &Bench, random: &mut Random) {
     for n in [8, 64] {
@@ -219,6 +232,7 @@ pub fn bench(word: &str, other: Option<Library>) {
     time_sheets(&bench, &mut random);
     time_cuts(&bench, &mut random);
     time_skips(&bench, &mut random);
+    time_steps(&bench, &mut random);
     time_widths(&bench, &mut random);
     time_conversions(&bench, &mut random);
 }

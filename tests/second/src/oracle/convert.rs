@@ -2,7 +2,7 @@
 //! that were read are written anew, byte by byte. Refusal 14.
 
 use super::mark::Mark;
-use super::plan::{Plan, Router, CLIENT, FIRST_BODY, REFLECTOR, SKIPPING};
+use super::plan::{Plan, Router, CLIENT, FIRST_BODY, REFLECTOR, SKIPPING, STEPPING, STEPPING_AND_SKIPPING};
 
 /// The bytes of the plan of this mark that says what `plan` says.
 pub fn written(plan: &Plan, mark: Mark) -> Result<Vec<u8>, u8> {
@@ -24,10 +24,12 @@ fn low_first(number: u32, count: u32) -> impl Iterator<Item = u8> {
 }
 
 fn routers(plan: &Plan) -> Vec<u8> {
-    let role = |router: Router| match (plan.is_reflector(router), plan.skips(router)) {
-        (false, _) => CLIENT,
-        (true, false) => REFLECTOR,
-        (true, true) => SKIPPING,
+    let role = |router: Router| match (plan.steps(router), plan.skips(router)) {
+        _ if !plan.is_reflector(router) => CLIENT,
+        (false, false) => REFLECTOR,
+        (false, true) => SKIPPING,
+        (true, false) => STEPPING,
+        (true, true) => STEPPING_AND_SKIPPING,
     };
     let routers = plan.identifiers.iter().enumerate();
     routers.flat_map(|(router, &identifier)| [role(router)].into_iter().chain(low_first(identifier, 4))).collect()

@@ -1,6 +1,6 @@
 //! The second checker, written from documents 01 and 02 alone and by other
-//! algorithms than the library's: sets and sorted orders, depth-first search,
-//! layers, Dijkstra's search.
+//! algorithms than the library's: sets and sorted orders, choices step by step,
+//! depth-first search, layers, Dijkstra's search.
 
 mod convert;
 mod lines;
@@ -12,13 +12,13 @@ pub mod tables;
 pub mod verdict;
 
 use crate::interface::{
-    store, Acts, Checker, CompareFields, Compared, ExplainFields, Explained, Flag, Lent, ListFields, RunFields,
-    SizeFields, VerdictBuffers, VerdictFields,
+    store, Acts, Checker, CompareFields, Compared, ExplainFields, Explained, Flag, Handed, Lent, ListFields,
+    RunFields, SizeFields, VerdictBuffers, VerdictFields,
 };
 pub use lines::{margin_line, verdict_lines};
 use mark::Mark;
 use plan::Plan;
-use rules::{Case, Right, Rules};
+use rules::{Candidate, Case, Right, Rules};
 use std::collections::VecDeque;
 use std::rc::Rc;
 use verdict::Outcome;
@@ -94,15 +94,15 @@ impl<R: Rules> Oracle<R> {
         Ok(ListFields { start: asked.start as u64, count: asked.listed.len() as u64 })
     }
 
-    fn try_compare(&mut self, plan: &[u8], at: usize, pair: (usize, usize)) -> Result<Compared, u8> {
+    fn try_compare(&mut self, plan: &[u8], at: usize, routes: [Handed; 2]) -> Result<Compared, u8> {
         let reading = self.reading(plan);
         let plan = plan_of(&reading)?;
-        let (first, second) = pair;
-        asked_for(plan, &[at, first, second])?;
+        let [first, second] = routes.map(Candidate::from);
+        asked_for(plan, &[at, first.egress, second.egress])?;
         let first_wins = self.rules.is_better(plan, at, first, second);
         let second_wins = self.rules.is_better(plan, at, second, first);
         let better = u8::from(first_wins) + 2 * u8::from(second_wins);
-        Ok((better, self.rules.margin(plan, at, first, second)))
+        Ok((better, self.rules.margin(plan, at, first.egress, second.egress)))
     }
 
     fn try_relies(&mut self, plan: &[u8], list: usize, pair: (usize, usize)) -> Result<u8, u8> {
@@ -196,8 +196,8 @@ impl<R: Rules> Checker for Oracle<R> {
         store(self.try_list(plan, list), fields)
     }
 
-    fn compare(&mut self, plan: &[u8], router: usize, pair: (usize, usize), fields: &mut CompareFields) -> u8 {
-        store(self.try_compare(plan, router, pair).map(|answer| fields.put(answer)), &mut ())
+    fn compare(&mut self, plan: &[u8], router: usize, routes: [Handed; 2], fields: &mut CompareFields) -> u8 {
+        store(self.try_compare(plan, router, routes).map(|answer| fields.put(answer)), &mut ())
     }
 
     fn relies(&mut self, plan: &[u8], list: usize, pair: (usize, usize), relies: &mut u8) -> u8 {

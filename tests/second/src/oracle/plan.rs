@@ -16,10 +16,15 @@ pub const MOST_LISTS: usize = 64;
 /// The most parents, neighbouring reflectors, that a client may have.
 pub const MOST_PARENTS: usize = 4;
 
-/// The roles: of a reflector, of a client, and of a reflector that skips its clients.
+/// The roles: of a reflector, of a client, and of a reflector that skips its clients; and
+/// those of the two reflectors with the hop step.
 pub const REFLECTOR: u8 = 1;
 pub const CLIENT: u8 = 2;
 pub const SKIPPING: u8 = 3;
+pub const STEPPING: u8 = 4;
+pub const STEPPING_AND_SKIPPING: u8 = 5;
+
+pub const ROLES: [u8; 5] = [REFLECTOR, CLIENT, SKIPPING, STEPPING, STEPPING_AND_SKIPPING];
 
 /// An egress list, which may name nobody, and where in the plan its router numbers start.
 #[derive(Clone)]
@@ -32,10 +37,12 @@ pub struct EgressList {
 pub struct Plan {
     pub mark: Mark,
     pub n: usize,
-    /// The routers of role 1 or 3.
+    /// The routers of each role but that of a client.
     pub reflectors: BTreeSet<Router>,
-    /// The reflectors of role 3, which skip their own clients.
+    /// The reflectors of roles 3 and 5, which skip their own clients.
     pub skipping: BTreeSet<Router>,
+    /// The reflectors of roles 4 and 5, which have the hop step.
+    pub stepping: BTreeSet<Router>,
     pub identifiers: Vec<u32>,
     pub neighbours: Vec<BTreeSet<Router>>,
     /// From each router to each; none if there is no way.
@@ -51,6 +58,16 @@ impl Plan {
 
     pub fn skips(&self, router: Router) -> bool {
         self.skipping.contains(&router)
+    }
+
+    /// Whether a router has the hop step.
+    pub fn steps(&self, router: Router) -> bool {
+        self.stepping.contains(&router)
+    }
+
+    /// Whether every reflector has the hop step.
+    pub fn all_step(&self) -> bool {
+        self.reflectors == self.stepping
     }
 
     /// The place of an egress router in the order of preference at `at`: all
@@ -90,9 +107,12 @@ pub fn read(bytes: &[u8]) -> Result<Plan, u8> {
     let n = read_router_count(bytes)?;
     let [routers, sessions, distances, lists] = read_contents(bytes, n, mark)?;
     let (roles, identifiers) = read_routers(routers)?;
-    let with_role = |role: u8| (0..n).filter(|&router| roles[router] == role).collect::<BTreeSet<_>>();
-    let skipping = with_role(SKIPPING);
-    let reflectors = &with_role(REFLECTOR) | &skipping;
+    let [reflectors, skipping, stepping] = [
+        [REFLECTOR, SKIPPING, STEPPING, STEPPING_AND_SKIPPING].as_slice(),
+        &[SKIPPING, STEPPING_AND_SKIPPING],
+        &[STEPPING, STEPPING_AND_SKIPPING],
+    ]
+    .map(|chosen| with_roles(&roles, chosen));
     let neighbours = read_sessions(sessions, n)?;
     if most_parents(&reflectors, &neighbours) > MOST_PARENTS {
         return Err(13);
@@ -100,7 +120,12 @@ pub fn read(bytes: &[u8]) -> Result<Plan, u8> {
     let distances = read_distances(distances, n, mark)?;
     let lists = read_lists(lists, bytes.len() - lists.len(), n)?;
     let places = distances.iter().map(|row| order_of_preference(row)).collect();
-    Ok(Plan { mark, n, reflectors, skipping, identifiers, neighbours, distances, lists, places })
+    Ok(Plan { mark, n, reflectors, skipping, stepping, identifiers, neighbours, distances, lists, places })
+}
+
+/// The routers that have one of the chosen roles.
+fn with_roles(roles: &[u8], chosen: &[u8]) -> BTreeSet<Router> {
+    (0..roles.len()).filter(|&router| chosen.contains(&roles[router])).collect()
 }
 
 /// The mark of a plan whose length and number of entries fit it.
@@ -148,8 +173,7 @@ fn number(bytes: &[u8]) -> u32 {
 fn read_routers(body: &[u8]) -> Result<(Vec<u8>, Vec<u32>), u8> {
     let (roles, identifiers): (Vec<u8>, Vec<u32>) =
         body.chunks_exact(5).map(|entry| (entry[0], number(&entry[1..]))).unzip();
-    let known = |role: &u8| [REFLECTOR, CLIENT, SKIPPING].contains(role);
-    (roles.iter().all(known) && rises(&identifiers)).then_some((roles, identifiers)).ok_or(4)
+    (roles.iter().all(|role| ROLES.contains(role)) && rises(&identifiers)).then_some((roles, identifiers)).ok_or(4)
 }
 
 fn read_sessions(body: &[u8], n: usize) -> Result<Vec<BTreeSet<Router>>, u8> {

@@ -1,11 +1,12 @@
 //! Choosing, advertising and reliance (RFC 4271, RFC 4456), said with sets; and
-//! why a router relies on another or does not.
+//! why a router relies on another or does not. Of candidate routes one is chosen step by
+//! step, each of which leaves some.
 //!
 //! The rules are the default methods of a trait, so that a single wrong rule
 //! can be put in place of a right one, to see that the comparison finds it.
 
 use super::plan::{Listed, Plan, Router};
-use crate::interface::{Explained, Reason, Rule};
+use crate::interface::{Explained, Handed, Reason, Rule};
 use std::collections::{BTreeMap, BTreeSet};
 
 /// A route held or received: its egress router, and the neighbour that sent it.
@@ -18,7 +19,40 @@ pub struct Route {
 /// What the routers hold; a router that holds no route has no entry.
 pub type Table = BTreeMap<Router, Route>;
 
-/// What routes are compared by: the smaller is the better.
+/// A route to choose from: its egress router, and whether that router itself told it. If
+/// not, it was passed on.
+#[derive(Clone, Copy, Debug, PartialEq, Eq)]
+pub struct Candidate {
+    pub egress: Router,
+    pub direct: bool,
+}
+
+impl Candidate {
+    /// A route that its egress router told.
+    pub fn told(egress: Router) -> Self {
+        Candidate { egress, direct: true }
+    }
+
+    pub fn passed_on(egress: Router) -> Self {
+        Candidate { egress, direct: false }
+    }
+}
+
+impl From<Handed> for Candidate {
+    fn from(route: Handed) -> Self {
+        Candidate { egress: route.egress, direct: route.direct != 0 }
+    }
+}
+
+impl From<Route> for Candidate {
+    /// A route that was sent, be it by an unlisted router that announces a left-over one to
+    /// itself.
+    fn from(route: Route) -> Self {
+        Candidate { egress: route.egress, direct: route.sender == route.egress }
+    }
+}
+
+/// What routes are compared by, whoever told them: the smaller is the better.
 pub type Value = (usize, usize);
 
 /// A plan together with the list asked for.
@@ -33,7 +67,7 @@ impl Case<'_> {
         self.listed.contains(&router)
     }
 
-    fn neighbouring_reflectors(&self, router: Router) -> impl Iterator<Item = Router> + '_ {
+    pub fn neighbouring_reflectors(&self, router: Router) -> impl Iterator<Item = Router> + '_ {
         self.plan.neighbours[router].iter().copied().filter(|&other| self.plan.is_reflector(other))
     }
 
@@ -43,9 +77,10 @@ impl Case<'_> {
     }
 }
 
-/// A way beats none, and of two without a way neither is better.
-pub fn beats(first: Option<Value>, second: Option<Value>) -> bool {
-    first.is_some_and(|first| second.is_none_or(|second| first < second))
+/// Whether the first is the best of two routes; two of one egress router are the same. A way
+/// beats none, and of two without a way neither is better.
+pub fn beats<R: Rules + ?Sized>(rules: &R, plan: &Plan, at: Router, first: Candidate, second: Candidate) -> bool {
+    first.egress != second.egress && rules.best(plan, at, vec![first, second]) == Some(first.egress)
 }
 
 /// The reasons in the order of document 02; the first that applies is given.
@@ -62,14 +97,42 @@ pub const REASONS: [Reason; 9] = [
 ];
 
 pub trait Rules {
-    /// How a router values an egress router, none if it has no way to it; the
-    /// smaller key is the better.
+    /// How a router values an egress router by distance and number, none if it has no
+    /// way to it; the smaller key is the better.
     fn value(&self, plan: &Plan, at: Router, egress: Router) -> Option<Value> {
         plan.place(at, egress).map(|place| (place, 0))
     }
 
-    fn is_better(&self, plan: &Plan, at: Router, first: Router, second: Router) -> bool {
-        beats(self.value(plan, at, first), self.value(plan, at, second))
+    fn has_way(&self, plan: &Plan, at: Router, egress: Router) -> bool {
+        self.value(plan, at, egress).is_some()
+    }
+
+    /// Whether a router has the hop step.
+    fn steps(&self, plan: &Plan, router: Router) -> bool {
+        plan.steps(router)
+    }
+
+    /// What the hop step leaves of candidate routes: at a reflector that has it, those told
+    /// by their own egress routers, if there are any; else all.
+    fn after_hop_step(&self, plan: &Plan, at: Router, candidates: Vec<Candidate>) -> Vec<Candidate> {
+        let mut left = candidates.clone();
+        left.retain(|route| route.direct);
+        if left.is_empty() || !self.steps(plan, at) {
+            return candidates;
+        }
+        left
+    }
+
+    /// The egress router of the best of candidate routes, none if none has a way: those with
+    /// a way, of these those that the hop step leaves, of these the nearest.
+    fn best(&self, plan: &Plan, at: Router, mut candidates: Vec<Candidate>) -> Option<Router> {
+        candidates.retain(|route| self.has_way(plan, at, route.egress));
+        let left = self.after_hop_step(plan, at, candidates);
+        left.iter().map(|route| route.egress).min_by_key(|&egress| self.value(plan, at, egress))
+    }
+
+    fn is_better(&self, plan: &Plan, at: Router, first: Candidate, second: Candidate) -> bool {
+        beats(self, plan, at, first, second)
     }
 
     /// The distance to the first minus the distance to the second, if there is a
@@ -79,30 +142,32 @@ pub trait Rules {
         Some(distance(first)? - distance(second)?)
     }
 
-    /// The best client of a reflector, by the ways and distances of the router `at`.
+    /// The best client of a reflector, by the ways and distances of the router `at`. Each
+    /// client tells its own route.
     fn best_client_valued_at(&self, case: Case, reflector: Router, at: Router) -> Option<Router> {
         let clients = case.neighbouring_listed_clients(reflector);
-        let valued = clients.filter_map(|client| Some((self.value(case.plan, at, client)?, client)));
-        valued.min().map(|(_, client)| client)
+        self.best(case.plan, at, clients.map(Candidate::told).collect())
     }
 
     fn best_client(&self, case: Case, reflector: Router) -> Option<Router> {
         self.best_client_valued_at(case, reflector, reflector)
     }
 
-    /// What a reflector offers to the reflector `_relying`.
-    fn offer(&self, case: Case, reflector: Router, _relying: Router) -> Option<Router> {
+    /// What a reflector offers to the reflector `_relying`: if it is listed it tells its own
+    /// route, else it passes one on.
+    fn offer(&self, case: Case, reflector: Router, _relying: Router) -> Option<Candidate> {
         if case.is_listed(reflector) {
-            Some(reflector)
-        } else {
-            self.best_client(case, reflector)
+            return Some(Candidate::told(reflector));
         }
+        self.best_client(case, reflector).map(Candidate::passed_on)
     }
 
     /// Whether an offer makes a reflector relied on at `at`, whose best client is
-    /// `own`: there is a way to it, and it is better than that client, if any.
-    fn counts(&self, plan: &Plan, at: Router, offer: Router, own: Option<Router>) -> bool {
-        self.value(plan, at, offer).is_some() && own.is_none_or(|own| self.is_better(plan, at, offer, own))
+    /// `own`: there is a way to it, and it is better than that client, if any, which tells
+    /// its own route.
+    fn counts(&self, plan: &Plan, at: Router, offer: Candidate, own: Option<Router>) -> bool {
+        let is_better = |own: Router| self.is_better(plan, at, offer, Candidate::told(own));
+        self.has_way(plan, at, offer.egress) && own.is_none_or(is_better)
     }
 
     fn relied_on(&self, case: Case, router: Router) -> BTreeSet<Router> {
@@ -121,7 +186,7 @@ pub trait Rules {
 
     fn relied_on_by_reflector(&self, case: Case, router: Router) -> BTreeSet<Router> {
         let own = self.best_client(case, router);
-        let counts = |offer: Router| self.counts(case.plan, router, offer, own);
+        let counts = |offer: Candidate| self.counts(case.plan, router, offer, own);
         let offering =
             case.neighbouring_reflectors(router).filter(|&other| self.offer(case, other, router).is_some_and(counts));
         offering.chain(own).collect()
@@ -145,7 +210,7 @@ pub trait Rules {
             (false, false) => Some(Rule::PeerClient),
             (true, false) => Some(Rule::OwnBestClient),
             (true, true) => {
-                let offer = self.offer(case, other, router)?;
+                let offer = self.offer(case, other, router)?.egress;
                 let own = self.best_client(case, router);
                 let with_margin = |own: Router| Some((own, self.margin(case.plan, router, offer, own)?));
                 Some(Rule::BetterOffer { offer, own: own.and_then(with_margin) })
@@ -174,11 +239,16 @@ pub trait Rules {
             Reason::BothClients => !is_reflector(router) && unlisted_client,
             Reason::NotTheBestClient => is_reflector(router) && !is_reflector(other) && own != Some(other),
             Reason::NoOffer => of_reflectors && offer.is_none(),
-            Reason::NoWay => offer.is_some_and(|offer| self.value(plan, router, offer).is_none()),
+            Reason::NoWay => offer.is_some_and(|offer| !self.has_way(plan, router, offer.egress)),
             Reason::NotBetter => {
                 offer.zip(own).is_some_and(|(offer, own)| !self.counts(plan, router, offer, Some(own)))
             }
         }
+    }
+
+    /// Whether a reflector skips its own clients.
+    fn skips(&self, plan: &Plan, reflector: Router) -> bool {
+        plan.skips(reflector)
     }
 
     /// The egress router of the route that `from` advertises to its neighbour
@@ -194,17 +264,26 @@ pub trait Rules {
         let told = match (case.plan.is_reflector(held.sender), case.plan.is_reflector(to)) {
             (true, true) => false,
             (true, false) | (false, true) => true,
-            (false, false) => !case.plan.skips(from) && to != held.sender,
+            (false, false) => !self.skips(case.plan, from) && to != held.sender,
         };
         told.then_some(held.egress)
     }
 
-    /// How a router values a route it receives: the egress router first, then
-    /// the egress router as sender, then the sender with the lowest number. None
-    /// if the route is not heard: there is no way to its egress router.
-    fn value_received(&self, plan: &Plan, at: Router, route: Route) -> Option<(Value, bool, Router)> {
-        let value = self.value(plan, at, route.egress)?;
-        Some((value, route.sender != route.egress, route.sender))
+    /// Whether a router hears a route that is sent to it: there is a way to its egress
+    /// router.
+    fn hears(&self, plan: &Plan, at: Router, route: Route) -> bool {
+        self.has_way(plan, at, route.egress)
+    }
+
+    /// The egress router of the route that a router chooses of those it hears.
+    fn choice(&self, case: Case, at: Router, heard: &[Route]) -> Option<Router> {
+        self.best(case.plan, at, heard.iter().map(|&route| route.into()).collect())
+    }
+
+    /// Which of several neighbours counts as the sender of a route: the egress router
+    /// itself, else the one with the lowest number.
+    fn sender(&self, egress: Router, senders: &BTreeSet<Router>) -> Option<Router> {
+        senders.get(&egress).or(senders.first()).copied()
     }
 
     /// What a router holds after its activation.
@@ -214,10 +293,12 @@ pub trait Rules {
         }
         let heard = case.plan.neighbours[router].iter().filter_map(|&sender| {
             let egress = self.advertised(case, table, sender, router)?;
-            let route = Route { egress, sender };
-            Some((self.value_received(case.plan, router, route)?, route))
+            Some(Route { egress, sender }).filter(|&route| self.hears(case.plan, router, route))
         });
-        heard.min_by_key(|&(value, _)| value).map(|(_, route)| route)
+        let heard: Vec<Route> = heard.collect();
+        let egress = self.choice(case, router, &heard)?;
+        let senders = heard.iter().filter(|route| route.egress == egress).map(|route| route.sender);
+        Some(Route { egress, sender: self.sender(egress, &senders.collect())? })
     }
 }
 

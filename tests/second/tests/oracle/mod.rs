@@ -3,5 +3,6 @@
 mod conversions;
 mod empty_lists;
 mod explained_pairs;
+mod hop_steps;
 mod least_sums;
 mod verdicts;

@@ -4,7 +4,7 @@ use crate::{Outcome, SEED};
 use second_checker::harness::comparison::arguments;
 use second_checker::harness::plans::generate;
 use second_checker::harness::random::Random;
-use second_checker::oracle::plan::{self, Router};
+use second_checker::oracle::plan::{self, Plan, Router};
 use second_checker::oracle::rules::{Case, Right, Rules, Table};
 use second_checker::oracle::tables::{self, Rounds};
 use second_checker::oracle::verdict::{self, Ranks, Reliances};
@@ -57,16 +57,20 @@ fn a_rank_is_0_or_one_more_than_the_highest_relied_on() -> Outcome {
     some("stable lists", stable)
 }
 
-/// .. on plans with cuts and with role 3 too, of which some settle otherwise for it.
+/// .. on plans with cuts, with role 3 and with the hop step too, of which some settle
+/// otherwise for it.
 #[test]
 fn a_stable_list_settles_from_any_table_within_its_highest_rank_and_two_rounds() -> Outcome {
     let (mut with_cuts, mut with_skips, mut changed_by_skips) = (0, 0, 0);
+    let (mut with_steps, mut changed_by_steps) = (0, 0);
     on_each_list(|random, case| match verdict::verdict(&Right, case).outcome {
         verdict::Outcome::Suspect { .. } => Ok(()),
         verdict::Outcome::Stable { ranks, table } => {
             with_cuts += u64::from(case.plan.has_cuts());
             with_skips += u64::from(!case.plan.skipping.is_empty());
-            changed_by_skips += u64::from(table != settled_without_skips(case));
+            changed_by_skips += u64::from(table != settled_without(case, |plan| plan.skipping.clear()));
+            with_steps += u64::from(!case.plan.stepping.is_empty());
+            changed_by_steps += u64::from(table != settled_without(case, |plan| plan.stepping.clear()));
             let (settled, highest) = (tables::bytes(&table, case.plan.n), verdict::highest(&ranks));
             settles(random, case, &settled, highest)?;
             settles(random, case, &settled, highest)
@@ -74,7 +78,9 @@ fn a_stable_list_settles_from_any_table_within_its_highest_rank_and_two_rounds()
     })?;
     some("stable lists with cuts", with_cuts)?;
     some("stable lists with role 3", with_skips)?;
-    some("stable lists that role 3 lets settle otherwise", changed_by_skips)
+    some("stable lists that role 3 lets settle otherwise", changed_by_skips)?;
+    some("stable lists with the hop step", with_steps)?;
+    some("stable lists that the hop step lets settle otherwise", changed_by_steps)
 }
 
 /// At least a thousand of these were among the lists.
@@ -85,10 +91,10 @@ fn some(what: &str, count: u64) -> Outcome {
     Ok(())
 }
 
-/// What a list settles on if role 3 is taken for role 1, which leaves it stable.
-fn settled_without_skips(case: Case) -> Table {
+/// What rounds of activations leave if some roles are taken for others.
+fn settled_without(case: Case, clear: impl Fn(&mut Plan)) -> Table {
     let mut plan = case.plan.clone();
-    plan.skipping.clear();
+    clear(&mut plan);
     tables::settle(&Right, Case { plan: &plan, ..case })
 }
 

@@ -63,7 +63,7 @@ fn the_converter_changes_the_distances_and_what_the_contents_say_of_them() -> Ou
 fn what_is_widened_has_the_same_verdicts_and_goes_back_to_the_same_bytes() -> Outcome {
     for draft in [draft(6, 6, &[&[2, 3], &[3]]), with_cuts(&[2, 3], &[(0, 3), (1, 2)]), generate::deepest()] {
         let plan = draft.bytes();
-        let room = plan.len() + 2 * draft.reflector.len().pow(2);
+        let room = plan.len() + 2 * draft.roles.len().pow(2);
         let wide = converted(widen, &plan, room).buffers.concat();
         same("the plan of RRP2", &wide, &draft.marked(Mark::Rrp2).bytes())?;
         same("its verdicts", verdict_lines(&wide), verdict_lines(&plan))?;
@@ -103,7 +103,7 @@ fn refusal_14_goes_after_those_of_the_plan_and_before_9() -> Outcome {
     type Damage = fn(&mut Bodies);
     let damages: [(u8, Damage); 5] = [
         (3, |bodies| bodies.sessions.push(0)),
-        (4, |bodies| bodies.routers[0] = 4),
+        (4, |bodies| bodies.routers[0] = 6),
         (5, |bodies| bodies.sessions.extend([3, 3])),
         (6, |bodies| bodies.distances[0] = 1),
         (7, |bodies| bodies.lists[0] = 0),

@@ -58,7 +58,7 @@ fn an_empty_list_changes_no_other_refusal() -> Outcome {
         damage(&mut bodies);
         same(what, Oracle::right().check(&bodies.bytes()), refusal)
     };
-    is("role 4", 4, |bodies| bodies.routers[0] = 4)?;
+    is("role 6", 4, |bodies| bodies.routers[0] = 6)?;
     is("a session with itself", 5, |bodies| bodies.sessions[0] = 1)?;
     is("a diagonal of 1", 6, |bodies| bodies.distances[0] = 1)?;
     let mut crowded = star(5, &[1, 1, 1, 1, 1, 2]);

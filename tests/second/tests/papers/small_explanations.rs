@@ -82,11 +82,11 @@ fn rules() -> Vec<Stated> {
         (m3(&[0]), (1, 0), offer(0)),
         (m3(&[0]), (3, 1), PARENT),
         // Reflector 0 skips its clients; 3 and 4 are clients in a mesh.
-        (two_sites(&[0], &[&[3]]), (4, 3), PEER_CLIENT),
-        (two_sites(&[0], &[&[3]]), (4, 0), PARENT),
-        (two_sites(&[0], &[&[3]]), (1, 0), offer(3)),
-        (two_sites(&[0], &[&[3, 5]]), (1, 0), better(3, 5, -4)),
-        (two_sites(&[0], &[&[3, 5]]), (0, 1), better(5, 3, -4)),
+        (two_sites([3, 1], &[&[3]]), (4, 3), PEER_CLIENT),
+        (two_sites([3, 1], &[&[3]]), (4, 0), PARENT),
+        (two_sites([3, 1], &[&[3]]), (1, 0), offer(3)),
+        (two_sites([3, 1], &[&[3, 5]]), (1, 0), better(3, 5, -4)),
+        (two_sites([3, 1], &[&[3, 5]]), (0, 1), better(5, 3, -4)),
         // No way to the own client, or to the parent, which rule 2 does not ask for.
         (with_cuts(&[2, 3], &[(0, 2)]), (0, 1), offer(3)),
         (with_cuts(&[3], &[(2, 0)]), (2, 0), PARENT),
@@ -120,7 +120,7 @@ fn reasons_of_any() -> Vec<Stated> {
         (m3(&[0]), (0, 2), no(3)),
         (m3(&[3]), (0, 2), no(4)),
         // Both are clients, and the second is unlisted: the fourth reason, not the fifth.
-        (two_sites(&[], &[&[5]]), (4, 3), no(4)),
+        (two_sites([1, 1], &[&[5]]), (4, 3), no(4)),
     ]
 }
 
@@ -129,7 +129,7 @@ fn reasons_of_reflectors() -> Vec<Stated> {
     let mut shared = m3(&[3]);
     shared.sessions.insert((0, 3));
     vec![
-        (two_sites(&[], &[&[2, 3]]), (0, 3), no(6)),
+        (two_sites([1, 1], &[&[2, 3]]), (0, 3), no(6)),
         // A client that there is no way to is not the best one.
         (with_cuts(&[2, 3], &[(0, 2)]), (0, 2), no(6)),
         (m3(&[3]), (1, 0), no(7)),

@@ -8,6 +8,7 @@ use second_checker::harness::plans::draft::Draft;
 use second_checker::harness::plans::generate;
 use second_checker::harness::plans::small_plans::{draft, with_cuts};
 use second_checker::harness::random::Random;
+use second_checker::interface::Handed;
 use second_checker::oracle::mark::Mark;
 use second_checker::oracle::{margin_line, verdict_lines, Oracle};
 use std::collections::BTreeSet;
@@ -15,7 +16,7 @@ use std::collections::BTreeSet;
 /// Which of two is better at router 0, and the margin if there is one.
 fn compares(draft: &Draft, pair: (usize, usize), better: Field, margin: Option<Field>) -> Outcome {
     let (first, second) = pair;
-    let answer = answer(draft, &Call::Compare { router: 0, first, second });
+    let answer = answer(draft, &Call::Compare { router: 0, routes: [first, second].map(Handed::told) });
     let fields = vec![better, Field::from(margin.is_some()), margin.unwrap_or(0)];
     same(&format!("{first} compared with {second}"), (answer.refusal, answer.fields), (0, fields))
 }
@@ -63,8 +64,7 @@ fn a_cycle_of_four_is_suspect_and_in_tens_it_would_be_stable() -> Outcome {
     };
     let plan = Draft {
         mark: Mark::Rrp1,
-        reflector: (0..8).map(|router| router < 4).collect(),
-        skips: BTreeSet::new(),
+        roles: vec![1, 1, 1, 1, 2, 2, 2, 2],
         identifiers: (1..=8).collect(),
         sessions: BTreeSet::from([(0, 1), (1, 2), (2, 3), (0, 3), (0, 4), (1, 5), (2, 6), (3, 7)]),
         distances: (0..8).map(|from| (0..8).map(|to| distance(from, to)).collect()).collect(),

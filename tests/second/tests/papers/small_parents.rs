@@ -27,11 +27,15 @@ fn a_client_has_at_most_four_parents() -> Outcome {
     is("five parents, two of role 3", 5, &[1, 3, 1, 3, 1, 2], 13)?;
     is("five parents of role 3", 5, &[3, 3, 3, 3, 3, 2], 13)?;
     is("four parents of role 3", 4, &[3, 3, 3, 3, 2], 0)?;
+    is("five parents, two with the hop step", 5, &[1, 4, 3, 5, 1, 2], 13)?;
+    is("five parents with the hop step", 5, &[4, 5, 4, 5, 4, 2], 13)?;
+    is("four parents with the hop step", 4, &[4, 5, 5, 4, 2], 0)?;
     is("four parents and two clients", 6, &[1, 2, 1, 1, 2, 1, 2], 0)?;
     is("a client with five clients", 5, &[2, 2, 2, 2, 2, 2], 0)?;
     is("a reflector with five clients", 5, &[2, 2, 2, 2, 2, 1], 0)?;
     is("a reflector with five reflectors", 5, &[1, 1, 1, 1, 1, 1], 0)?;
-    is("role 3 with five reflectors", 5, &[1, 1, 1, 1, 1, 3], 0)
+    is("role 3 with five reflectors", 5, &[1, 1, 1, 1, 1, 3], 0)?;
+    is("role 4 with five reflectors", 5, &[1, 1, 4, 1, 5, 4], 0)
 }
 
 #[test]
@@ -42,7 +46,7 @@ fn refusal_13_goes_after_4_and_5_and_before_6_7_and_8() -> Outcome {
         same(what, check(&bodies.bytes()), refusal)
     };
     let (four, five) = ([1, 1, 1, 1, 2, 2], [1, 1, 1, 1, 1, 2]);
-    is("five parents and role 4", &five, 4, |bodies| bodies.routers[0] = 4)?;
+    is("five parents and role 6", &five, 4, |bodies| bodies.routers[0] = 6)?;
     is("five parents and a session with itself", &five, 5, |bodies| bodies.sessions.extend([5, 5]))?;
     is("five parents and a diagonal of 1", &five, 13, |bodies| bodies.distances[0] = 1)?;
     is("five parents and no lists", &five, 13, |bodies| bodies.lists[0] = 0)?;

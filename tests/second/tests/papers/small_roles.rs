@@ -10,9 +10,9 @@ use second_checker::interface::Checker;
 use second_checker::oracle::Oracle;
 
 #[test]
-fn there_are_the_roles_1_to_3_and_no_other() -> Outcome {
-    let mut bodies = two_sites(&[0], &[&[3]]).bodies();
-    for (role, refusal) in [(0, 4), (1, 0), (2, 0), (3, 0), (4, 4), (255, 4)] {
+fn there_are_the_roles_1_to_5_and_no_other() -> Outcome {
+    let mut bodies = two_sites([3, 1], &[&[3]]).bodies();
+    for (role, refusal) in [(0, 4), (1, 0), (2, 0), (3, 0), (4, 0), (5, 0), (6, 4), (255, 4)] {
         bodies.routers[0] = role;
         same(&format!("role {role}"), Oracle::right().check(&bodies.bytes()), refusal)?;
     }
@@ -34,11 +34,11 @@ fn stable(what: &str, draft: &Draft, ranks: [u8; 6], table: [u8; 12]) -> Outcome
 /// Router 0 skips its clients, or does not.
 #[test]
 fn role_3_tells_its_clients_no_route_of_a_client() -> Outcome {
-    let skips = |list: &[usize]| two_sites(&[0], &[list]);
+    let skips = |list: &[usize]| two_sites([3, 1], &[list]);
     let (ranks, nothing) = ([1, 2, 2, 0, 2, 3], 255);
     // Client 2 ends with nothing; the mesh brings 4 the route.
     stable("a client's route", &skips(&[3]), ranks, [3, 3, 3, 0, nothing, nothing, 3, 3, 3, 3, 3, 1])?;
-    stable("role 1", &two_sites(&[], &[&[3]]), ranks, [3, 3, 3, 0, 3, 0, 3, 3, 3, 3, 3, 1])?;
+    stable("role 1", &two_sites([1, 1], &[&[3]]), ranks, [3, 3, 3, 0, 3, 0, 3, 3, 3, 3, 3, 1])?;
     stable("a reflector's route", &skips(&[5]), [2, 1, 3, 3, 3, 0], [5, 1, 5, 5, 5, 0, 5, 0, 5, 0, 5, 5])?;
     stable("its own route", &skips(&[0]), [0, 1, 1, 1, 1, 2], [0, 0, 0, 0, 0, 0, 0, 0, 0, 0, 0, 1])?;
     let found = verdict(&skips(&[3, 5]));
@@ -56,7 +56,7 @@ fn role_3_is_a_reflector_in_every_rule_of_the_reliances() -> Outcome {
         (&[0, 5], 1, 5, true),
     ];
     cases.into_iter().try_for_each(|(list, router, other, relies)| {
-        let found = answer(&two_sites(&[0], &[list]), &Call::Relies { list: 0, router, other });
+        let found = answer(&two_sites([3, 1], &[list]), &Call::Relies { list: 0, router, other });
         same(&format!("{router} on {other}, list {list:?}"), found.fields, vec![relies.into()])
     })
 }

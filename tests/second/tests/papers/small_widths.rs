@@ -7,7 +7,7 @@ use second_checker::harness::plans::draft::{Bodies, Draft};
 use second_checker::harness::plans::generate;
 use second_checker::harness::plans::small_plans::draft;
 use second_checker::harness::random::Random;
-use second_checker::interface::Checker;
+use second_checker::interface::{Checker, Handed};
 use second_checker::oracle::mark::Mark;
 use second_checker::oracle::{margin_line, Oracle};
 
@@ -71,7 +71,7 @@ fn the_farthest_is_4294967294_and_the_next_number_is_no_way() -> Outcome {
         same(&format!("{distance} to another"), check(&wide(distance).bytes()), 0)?;
         same(&format!("{distance} to itself"), check(&to_itself(distance)), 6)?;
     }
-    let compared = |p: u32| answer(&wide(p), &Call::Compare { router: 0, first: 2, second: 3 }).fields;
+    let compared = |p: u32| answer(&wide(p), &Call::Compare { router: 0, routes: [2, 3].map(Handed::told) }).fields;
     same("the farthest", compared(FARTHEST), vec![1, 1, 10 - Field::from(FARTHEST)])?;
     same("no way", compared(FARTHEST + 1), vec![1, 0, 0])?;
     same("what is no way in RRP1", compared(65_535), vec![1, 1, 10 - 65_535])
@@ -79,8 +79,9 @@ fn the_farthest_is_4294967294_and_the_next_number_is_no_way() -> Outcome {
 
 #[test]
 fn margins_go_from_minus_4294967294_to_4294967294() -> Outcome {
-    let compared =
-        |first: usize, second: usize| answer(&wide(FARTHEST), &Call::Compare { router: 0, first, second }).fields;
+    let compared = |first: usize, second: usize| {
+        answer(&wide(FARTHEST), &Call::Compare { router: 0, routes: [first, second].map(Handed::told) }).fields
+    };
     let farthest = Field::from(FARTHEST);
     same("the least", compared(0, 3), vec![1, 1, -farthest])?;
     same("the greatest", compared(3, 0), vec![2, 1, farthest])?;

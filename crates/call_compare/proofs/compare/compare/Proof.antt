@@ -2,7 +2,6 @@ use native.Mathlib.Omega.{arith}
 use mathlib.Core.Path.{_≡_, _∙_, sym}
 use borrow.Author.Needs.{needs}
 use lib.Dec.{lit<}
-use lib.ListN.{length}
 use Rattle.plan_rules.specs.Distances.{DistanceTable}
 use Rattle.plan_read.specs.declared.refusal.CheckedPlan.{CheckedPlan}
 use Rattle.plan_read.specs.Checked.{Accepted}
@@ -57,15 +56,24 @@ distance-requires-2 c κs =
 measured : (c : tie.After-part) → Measured (instanceOf (start c .args .plan .now) 0) (checkedPlan c .width) (c .part .result .now) (checkedPlan c .n)
 measured c = let a = accepted (passed c) in measured-of (start c .args .plan .now) (a .bytes) (c .part .ensures .bytes) (a .routers)
 
+-- .. and its role is read
+has-step-requires : tie.Need-has-step-requires
+has-step-requires c κs =
+    let d = c .before .before in
+    let q = asked (passed d) in
+    (accepted (passed d), omega arith)
+
 returns-2 : tie.Need-returns-2
 returns-2 c =
-    let second = c .before .before in
+    let role = c .before .before in
+    let second = role .before in
     let first = second .before in
     let part = first .before in
     let to-first = read-as (measured part) _ _ _ (first .distance .ensures .0) in
     let to-second = read-as (measured part) _ _ _ (second .distance2 .ensures .0) in
     let bytes = accepted (passed part) .bytes in
-    compares-given _ _ _ _ _ _ (given (passed part)) (c .before .which-better .ensures _ _ to-first to-second)
+    compares-given _ _ _ _ _ _ _ _ (given (passed part))
+    (c .before .which-better .ensures _ _ to-first to-second (role .has-step .ensures))
     (c .margin-of .ensures _ _ _ _ to-first to-second)
     (rw (to-first .dist, ← bytes) (first .distance .ensures .1))
     (rw (to-second .dist, ← bytes) (second .distance2 .ensures .1))
@@ -76,12 +84,13 @@ compare-spec =
     (tie.spec
     (λ c κs. search needs)
     (λ c κs. search needs)
-    (λ c. compares-refused _ _ _ _ _ (c .before .compare-refusal .ensures _ (c .before .before .check .ensures)) (c .if1 .taken))
+    (λ c. compares-refused _ _ _ _ _ _ _ (c .before .compare-refusal .ensures _ (c .before .before .check .ensures)) (c .if1 .taken))
     (λ c. search needs)
     (λ c. search needs)
     (λ c κs. (accepted (c .before .before), lit< tt))
     distance-requires
     distance-requires-2
+    has-step-requires
     (λ c κs. search needs)
     (λ c κs. search needs)
     returns-2)

@@ -1,5 +1,5 @@
 use native.Mathlib.Omega.{arith}
-use mathlib.Core.Path.{refl, _∙_, sym, ap}
+use mathlib.Core.Path.{_∙_, sym, ap}
 use borrow.Author.Needs.{needs}
 use borrow.Author.Tests.{eqb-true}
 use Rattle.route_rules.specs.Instance.{Instance}
@@ -8,7 +8,7 @@ use Rattle.net_tables.specs.TableBytes.{RoutesIn, routeAt, putRoute, activateBy
 use Rattle.route_rules.proofs.Routes.{choose-listed}
 use Rattle.net_tables.proofs.TableBytes.{read-via, table-below}
 use Rattle.net_activate.specs.OnePass.{numbersOf, keyRoute}
-use Rattle.net_activate.proofs.OnePass.{least-choice}
+use Rattle.net_activate.proofs.TwoPasses.{chosen-choice}
 use Rattle.net_activate.proofs.Numbers.{numbers-from}
 use Rattle.net_activate.proofs.activations.activate.Statement.{statement}
 use Rattle.net_activate.proofs.activations.activate.Tie as tie
@@ -40,8 +40,8 @@ returns-2 c =
     c .before .before .put-route2 .ensures
     ∙ ap (putRoute (d .args .table .now) (d .args .w))
     (k .key-route .ensures (numbersOf (d .args .net) (d .args .distances .now) (d .args .w)) (n .no-key .ensures)
-    ∙ ap (keyRoute (numbersOf (d .args .net) (d .args .distances .now) (d .args .w))) (k .before .best-heard .ensures)
-    ∙ least-choice _ (instance d) _ (routeAt (d .args .table .now)) (d .pre .0 .count)
+    ∙ ap (keyRoute (numbersOf (d .args .net) (d .args .distances .now) (d .args .w))) (k .before .chosen .ensures)
+    ∙ chosen-choice _ (instance d) _ (routeAt (d .args .table .now)) (d .pre .0 .count)
     (numbers-from (d .args .net) (d .args .rows .now) (d .args .distances .now) _ (d .pre .0 .pairs .bytes) (λ i. omega (arith, s .shared-slice-known .given i)))
     (below d .below) (sym (e .before .has-bit .ensures) ∙ e .if1 .left))
 

@@ -10,14 +10,15 @@ mod rules;
 mod verdict;
 
 use crate::interface::{
-    store, Acts, Checker, CompareFields, Compared, ExplainFields, Explained, Flag, Lent, ListFields, RunFields,
-    SizeFields, VerdictBuffers, VerdictFields,
+    store, Acts, Checker, CompareFields, Compared, ExplainFields, Explained, Flag, Handed, Lent, ListFields,
+    RunFields, SizeFields, VerdictBuffers, VerdictFields,
 };
 use convert::{narrow, widen};
 use distance::Distance;
 use links::distances;
 use reader::{check, read};
-use rules::{key, Network};
+use rules::{key, Network, HOP};
+use std::cmp::Ordering;
 use std::iter;
 use verdict::verdict as verdict_of;
 
@@ -73,14 +74,25 @@ fn list<D: Distance>(plan: &[u8], list: usize) -> Result<ListFields, u8> {
     Ok(ListFields { start: start as u64, count: count as u64 })
 }
 
-fn compare<D: Distance>(plan: &[u8], router: usize, pair: (usize, usize)) -> Result<Compared, u8> {
+fn compare<D: Distance>(plan: &[u8], router: usize, routes: [Handed; 2]) -> Result<Compared, u8> {
     let plan = check::<D>(plan)?;
     let distances = plan.distances_from(plan.router(router)?);
-    let [first, second] = [plan.router(pair.0)?, plan.router(pair.1)?].map(|egress| key(distances, egress));
-    let best = first.min(second);
-    let better = if first == second || best >= D::NO_WAY_KEY { 0 } else { 1 + u8::from(best == second) };
-    let [to_first, to_second] = [first, second].map(|key| (key >> 8) as i64);
-    let margin = (first.max(second) < D::NO_WAY_KEY).then_some(to_first - to_second);
+    let egresses = [plan.router(routes[0].egress)?, plan.router(routes[1].egress)?];
+    let keys = egresses.map(|egress| key(distances, egress));
+    let passed_on = if has(plan.stepping, router) { HOP } else { 0 };
+    let [first, second] = [0, 1].map(|place| match (keys[place], routes[place].direct) {
+        (key, _) if key >= D::NO_WAY_KEY => u64::MAX,
+        (key, 0) => key | passed_on,
+        (key, _) => key,
+    });
+    let better = match first.cmp(&second) {
+        _ if egresses[0] == egresses[1] => 0,
+        Ordering::Less => 1,
+        Ordering::Equal => 0,
+        Ordering::Greater => 2,
+    };
+    let [to_first, to_second] = keys.map(|key| (key >> 8) as i64);
+    let margin = (keys[0].max(keys[1]) < D::NO_WAY_KEY).then_some(to_first - to_second);
     Ok((better, margin))
 }
 
@@ -148,8 +160,8 @@ impl Checker for Tight {
         store(by_mark!(list(plan, number)), fields)
     }
 
-    fn compare(&mut self, plan: &[u8], router: usize, pair: (usize, usize), fields: &mut CompareFields) -> u8 {
-        store(by_mark!(compare(plan, router, pair)).map(|answer| fields.put(answer)), &mut ())
+    fn compare(&mut self, plan: &[u8], router: usize, routes: [Handed; 2], fields: &mut CompareFields) -> u8 {
+        store(by_mark!(compare(plan, router, routes)).map(|answer| fields.put(answer)), &mut ())
     }
 
     fn relies(&mut self, plan: &[u8], list: usize, pair: (usize, usize), answer: &mut u8) -> u8 {

@@ -10,6 +10,8 @@ pub struct Bodies<'a, D> {
     pub reflectors: u64,
     /// The reflectors that skip their own clients.
     pub skipping: u64,
+    /// The reflectors with the hop step.
+    pub stepping: u64,
     pub distances: &'a [D],
     pub lists: &'a [u8],
     lists_at: usize,
@@ -38,12 +40,13 @@ fn sound<D: Distance, T>(
         return Err(2);
     }
     let [routers, sessions, distances, lists] = cut::<D>(plan, n)?;
-    let (reflectors, skipping) = read_routers(routers)?;
+    let [reflectors, skipping, stepping] = read_routers(routers)?;
     let of_sessions = read_sessions(sessions.as_chunks().0, n, reflectors)?;
     let distances = D::all(distances);
     check_distances(distances, n)?;
     check_lists(lists, n)?;
-    Ok((Bodies { n, reflectors, skipping, distances, lists, lists_at: plan.len() - lists.len() }, of_sessions))
+    let lists_at = plan.len() - lists.len();
+    Ok((Bodies { n, reflectors, skipping, stepping, distances, lists, lists_at }, of_sessions))
 }
 
 /// Cuts a plan into its bodies by the table of contents.
@@ -66,21 +69,21 @@ fn cut<D>(plan: &[u8], n: usize) -> Result<[&[u8]; 4], u8> {
     Ok(bodies)
 }
 
-/// The reflectors, and those of them that skip their own clients.
-fn read_routers(body: &[u8]) -> Result<(u64, u64), u8> {
-    let mut reflectors = 0;
-    let mut skipping = 0;
+/// The reflectors, those of them that skip their own clients, and those with the hop step.
+fn read_routers(body: &[u8]) -> Result<[u64; 3], u8> {
+    let (mut reflectors, mut skipping, mut stepping) = (0, 0, 0);
     let mut least = 0;
     for (u, &[role, a, b, c, d]) in body.as_chunks().0.iter().enumerate() {
         let identifier = u64::from(u32::from_le_bytes([a, b, c, d]));
-        if role == 0 || role > 3 || identifier < least {
+        if role == 0 || role > 5 || identifier < least {
             return Err(4);
         }
         reflectors |= u64::from(role != 2) << u;
-        skipping |= u64::from(role == 3) << u;
+        skipping |= u64::from(role == 3 || role == 5) << u;
+        stepping |= u64::from(role > 3) << u;
         least = identifier + 1;
     }
-    Ok((reflectors, skipping))
+    Ok([reflectors, skipping, stepping])
 }
 
 fn count_parents(pairs: &[Pair], n: usize, reflectors: u64) -> Result<(), u8> {

@@ -18,6 +18,10 @@ pub fn key<D: Distance>(distances: &[D], egress: usize) -> u64 {
     u64::from(distances[egress].number()) << 8 | egress as u64
 }
 
+/// What goes before a key, with or without the sender, where the hop step puts the route
+/// behind.
+pub const HOP: u64 = 1 << 56;
+
 impl<D: Distance> Network<'_, D> {
     /// What a reflector offers: itself if listed, else its best client.
     pub fn offer(&self, reflector: usize) -> Option<usize> {
@@ -43,11 +47,22 @@ impl<D: Distance> Network<'_, D> {
         let own = offer(router);
         let least = own.map_or(D::NO_WAY_KEY, |client| key(distances, client));
         let mut relied_on = own.map_or(0, |client| 1 << client);
-        for reflector in bits(neighbours & self.bodies.reflectors) {
+        let offering = if own.is_some() { self.not_behind(router) } else { u64::MAX };
+        for reflector in bits(neighbours & self.bodies.reflectors & offering) {
             let better = offer(reflector).is_some_and(|egress| key(distances, egress) < least);
             relied_on |= u64::from(better) << reflector;
         }
         relied_on
+    }
+
+    /// The routers whose offers the hop step does not put behind an own best client: the
+    /// listed ones, where the router has it.
+    fn not_behind(&self, router: usize) -> u64 {
+        if has(self.bodies.stepping, router) {
+            self.listed
+        } else {
+            u64::MAX
+        }
     }
 
     /// Why a router relies on another, or why it does not.
@@ -81,7 +96,7 @@ impl<D: Distance> Network<'_, D> {
             return Explained::No(Reason::NoWay);
         }
         let own = self.offer(router).map(|client| (client, key(distances, client)));
-        if own.is_some_and(|(_, least)| offered >= least) {
+        if own.is_some_and(|(_, least)| offered >= least || !has(self.not_behind(router), other)) {
             return Explained::No(Reason::NotBetter);
         }
         let margin = |least: u64| (offered >> 8) as i64 - (least >> 8) as i64;
@@ -104,7 +119,7 @@ impl<D: Distance> Network<'_, D> {
         Ok(())
     }
 
-    /// One activation. A route's key is its distance, its egress and its sender;
+    /// One activation. A route's key is its hops, its distance, its egress and its sender;
     /// the egress as sender goes before all others.
     pub fn activate(&self, table: &mut [Pair], router: usize) {
         if has(self.listed, router) {
@@ -112,6 +127,7 @@ impl<D: Distance> Network<'_, D> {
         }
         let (reflectors, skipping) = (self.bodies.reflectors, self.bodies.skipping);
         let distances = self.bodies.distances_from(router);
+        let passed_on = if has(self.bodies.stepping, router) { HOP } else { 0 };
         let mut best = u64::MAX;
         for from in bits(self.rows[router] & (self.listed | reflectors)) {
             if table[from] == NONE {
@@ -123,11 +139,11 @@ impl<D: Distance> Network<'_, D> {
             } else {
                 sender == router || has(skipping, from) && !has(reflectors, sender)
             };
-            let preference = if egress == from { 0 } else { from as u64 + 1 };
-            let key = key(distances, egress) << 8 | preference;
-            best = best.min(if withheld { u64::MAX } else { key });
+            let preference = if egress == from { 0 } else { passed_on | (from as u64 + 1) };
+            let key = key(distances, egress);
+            best = best.min(if withheld || key >= D::NO_WAY_KEY { u64::MAX } else { key << 8 | preference });
         }
-        table[router] = if best >> 8 < D::NO_WAY_KEY { entry(best) } else { NONE };
+        table[router] = if best < u64::MAX { entry(best) } else { NONE };
     }
 }
 

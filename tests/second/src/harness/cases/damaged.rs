@@ -80,7 +80,7 @@ fn routers_and_sessions() -> Vec<String> {
         sessions("3-odd-sessions", &[0, 1, 0]),
         bodies("3-distances-length", |bodies| bodies.distances.truncate(30)),
         bodies("4-role-0", |bodies| bodies.routers[0] = 0),
-        bodies("4-role-4", |bodies| bodies.routers[15] = 4),
+        bodies("4-role-6", |bodies| bodies.routers[15] = 6),
         bodies("4-same-identifier", |bodies| bodies.routers[6] = 10),
         bodies("4-lower-identifier", |bodies| bodies.routers[6] = 9),
         sessions("5-router-4", &[0, 1, 0, 2, 1, 4]),

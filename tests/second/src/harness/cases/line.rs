@@ -2,6 +2,7 @@
 //! numbers with a space before each.
 
 use crate::harness::comparison::call::{perform, Answer, Call};
+use crate::interface::Handed;
 use crate::oracle::Oracle;
 use std::fmt::Display;
 
@@ -57,9 +58,14 @@ impl Line<'_> {
         }
     }
 
-    /// The refusal, or which is better and the margin.
+    /// A comparison of two routes that their egress routers told.
     pub fn compare(&mut self, router: usize, first: usize, second: usize) {
-        let call = Call::Compare { router, first, second };
+        self.compare_handed(router, [first, second].map(Handed::told));
+    }
+
+    /// The refusal, or which is better and the margin.
+    pub fn compare_handed(&mut self, router: usize, routes: [Handed; 2]) {
+        let call = Call::Compare { router, routes };
         self.choice(&call, &["neither", "first", "second"]);
         let answer = self.answer(&call);
         if answer.refusal == 0 {

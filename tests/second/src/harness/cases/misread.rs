@@ -4,7 +4,7 @@ use super::line::line;
 use super::small;
 use crate::harness::plans::draft::Draft;
 use crate::oracle::mark::Mark;
-use std::collections::BTreeSet;
+use crate::oracle::plan::{CLIENT, REFLECTOR};
 
 fn relies(name: &str, plan: &[u8], list: usize, router: usize, other: usize) -> String {
     line(name, plan, |line| line.relies(list, router, other))
@@ -32,8 +32,7 @@ fn plan<const N: usize>(
 ) -> Vec<u8> {
     let draft = Draft {
         mark: Mark::Rrp1,
-        reflector: (0..N).map(|router| router < reflectors).collect(),
-        skips: BTreeSet::new(),
+        roles: (0..N).map(|router| if router < reflectors { REFLECTOR } else { CLIENT }).collect(),
         identifiers: (1..=N as u32).collect(),
         sessions: sessions.iter().copied().collect(),
         distances: distances.map(Vec::from).to_vec(),

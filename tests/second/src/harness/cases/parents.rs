@@ -36,7 +36,7 @@ pub fn lines() -> Vec<String> {
         role("four-parents-without-role-3", 2, 2),
         role("a-reflector-with-five-reflectors", 5, 1),
         line("a-client-with-five-clients", &bodies([2; 6]).bytes(), |line| line.check()),
-        damaged("4-before-13", |bodies| bodies.routers[0] = 4),
+        damaged("4-before-13", |bodies| bodies.routers[0] = 6),
         damaged("5-before-13", |bodies| bodies.sessions[0] = 1),
         damaged("13-before-6", |bodies| bodies.distances[0] = 1),
         damaged("13-before-7", |bodies| bodies.lists[0] = 0),

@@ -8,14 +8,13 @@ use std::collections::BTreeSet;
 
 const LISTS: [&[usize]; 5] = [&[2], &[3], &[4], &[0], &[2, 4]];
 
-/// The plan in which these reflectors have role 3, and client 3 has a session with
+/// The plan in which the reflectors have these roles, and client 3 has a session with
 /// reflector 0 and another router.
-fn draft(skips: &[usize], other_of_3: usize) -> Draft {
+fn draft([of_0, of_1]: [u8; 2], other_of_3: usize) -> Draft {
     let distance = |from: usize, to: usize| if from == to { 0 } else { 9 };
     Draft {
         mark: Mark::Rrp1,
-        reflector: (0..5).map(|router| router < 2).collect(),
-        skips: skips.iter().copied().collect(),
+        roles: vec![of_0, of_1, 2, 2, 2],
         identifiers: (1..=5).map(|place| 10 * place).collect(),
         sessions: BTreeSet::from([(0, 1), (0, 2), (0, 3), (other_of_3, 3), (1, 4)]),
         distances: (0..5).map(|from| (0..5).map(|to| distance(from, to)).collect()).collect(),
@@ -25,11 +24,11 @@ fn draft(skips: &[usize], other_of_3: usize) -> Draft {
 
 /// A line on the plan in which router 0 has role 3.
 fn on_plan(name: &str, ask: impl FnOnce(&mut Line)) -> String {
-    line(name, &draft(&[0], 1).bytes(), ask)
+    line(name, &draft([3, 1], 1).bytes(), ask)
 }
 
-fn verdict(name: &str, skips: &[usize], list: usize) -> String {
-    line(name, &draft(skips, 1).bytes(), |line| line.verdict(list, [5, 5, 10, 5]))
+fn verdict(name: &str, roles: [u8; 2], list: usize) -> String {
+    line(name, &draft(roles, 1).bytes(), |line| line.verdict(list, [5, 5, 10, 5]))
 }
 
 fn relies(name: &str, list: usize, router: usize, other: usize) -> String {
@@ -37,24 +36,24 @@ fn relies(name: &str, list: usize, router: usize, other: usize) -> String {
 }
 
 fn roles() -> Vec<String> {
-    let mut bodies = draft(&[0], 1).bodies();
-    bodies.routers[0] = 4;
-    vec![on_plan("role-3", |line| line.check()), line("4-role-4-of-0", &bodies.bytes(), |line| line.check())]
+    let mut bodies = draft([3, 1], 1).bodies();
+    bodies.routers[0] = 6;
+    vec![on_plan("role-3", |line| line.check()), line("4-role-6-of-0", &bodies.bytes(), |line| line.check())]
 }
 
 /// What a client told goes to reflectors alone, what a reflector told to clients,
 /// and a listed router's own route to every neighbour.
 fn settled() -> Vec<String> {
-    let mesh = draft(&[0], 2).bytes();
+    let mesh = draft([3, 1], 2).bytes();
     vec![
-        verdict("role-3-listed-2", &[0], 0),
-        verdict("role-3-both-listed-2", &[0, 1], 0),
-        verdict("role-1-listed-2", &[], 0),
-        verdict("role-3-listed-3", &[0], 1),
-        verdict("role-3-both-listed-3", &[0, 1], 1),
-        verdict("role-1-listed-3", &[], 1),
-        verdict("role-3-listed-4", &[0], 2),
-        verdict("role-3-listed-0", &[0], 3),
+        verdict("role-3-listed-2", [3, 1], 0),
+        verdict("role-3-both-listed-2", [3, 3], 0),
+        verdict("role-1-listed-2", [1, 1], 0),
+        verdict("role-3-listed-3", [3, 1], 1),
+        verdict("role-3-both-listed-3", [3, 3], 1),
+        verdict("role-1-listed-3", [1, 1], 1),
+        verdict("role-3-listed-4", [3, 1], 2),
+        verdict("role-3-listed-0", [3, 1], 3),
         relies("role-3-2-on-0", 1, 2, 0),
         relies("role-3-1-on-0", 0, 1, 0),
         relies("role-3-1-on-listed-0", 3, 1, 0),

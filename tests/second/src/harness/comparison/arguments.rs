@@ -1,8 +1,8 @@
-//! Arguments for the calls: numbers at and past their bounds, buffers too
+//! Arguments for the calls: numbers at and past their bounds, flags, buffers too
 //! short, exact and longer, routing tables sound and broken, sequences.
 
 use crate::harness::random::Random;
-use crate::oracle::plan::Plan;
+use crate::interface::Handed;
 use crate::oracle::rules::Case;
 use crate::oracle::tables::NONE;
 
@@ -32,6 +32,17 @@ pub fn mostly_below(random: &mut Random, bound: usize) -> usize {
     } else {
         past(random, bound)
     }
+}
+
+/// A flag that says yes: 1, or another number that is not 0.
+pub fn yes(random: &mut Random) -> u8 {
+    random.pick(&[1, 2, 255])
+}
+
+/// A route to compare, told by its egress router or passed on.
+pub fn handed(random: &mut Random, egress: usize) -> Handed {
+    let direct = if random.chance(50) { yes(random) } else { 0 };
+    Handed { egress, direct }
 }
 
 /// Random content: the need, or more.
@@ -75,19 +86,25 @@ pub fn table(random: &mut Random, case: Case) -> Vec<u8> {
         } else if neighbours.is_empty() || random.chance(empty) {
             [NONE, NONE]
         } else {
-            [left_over(random, case.plan, router) as u8, random.pick(&neighbours) as u8]
+            [left_over(random, case, router) as u8, random.pick(&neighbours) as u8]
         }
     };
     (0..case.plan.n).flat_map(entry).collect()
 }
 
-/// The egress of a left-over route: any router, often one without a way.
-fn left_over(random: &mut Random, plan: &Plan, router: usize) -> usize {
-    let without_way: Vec<usize> = (0..plan.n).filter(|&egress| !plan.has_way(router, egress)).collect();
-    if !without_way.is_empty() && random.chance(30) {
-        return random.pick(&without_way);
+/// The egress of a left-over route: any router, often one without a way or a listed one; or the
+/// router itself, which then, if it is a reflector, tells others a route to itself though it is
+/// not listed.
+fn left_over(random: &mut Random, case: Case, router: usize) -> usize {
+    let n = case.plan.n;
+    let without_way: Vec<usize> = (0..n).filter(|&egress| !case.plan.has_way(router, egress)).collect();
+    let listed: Vec<usize> = case.listed.iter().copied().collect();
+    match random.below(20) {
+        0..=2 => router,
+        3..=7 if !without_way.is_empty() => random.pick(&without_way),
+        8..=12 if !listed.is_empty() => random.pick(&listed),
+        _ => random.below(n),
     }
-    random.below(plan.n)
 }
 
 /// A routing table with bytes after it that are no part of it.

@@ -2,7 +2,7 @@
 //! leaves: results, buffers, and the bytes around them.
 
 use crate::interface::{
-    Acts, Checker, CompareFields, Compared, ExplainFields, Flag, Lent, ListFields, RunFields, SizeFields,
+    Acts, Checker, CompareFields, Compared, ExplainFields, Flag, Handed, Lent, ListFields, RunFields, SizeFields,
     VerdictBuffers, VerdictFields,
 };
 
@@ -14,10 +14,10 @@ pub enum Call {
     List {
         list: usize,
     },
+    /// The routes are the first and the second.
     Compare {
         router: usize,
-        first: usize,
-        second: usize,
+        routes: [Handed; 2],
     },
     Relies {
         list: usize,
@@ -152,9 +152,7 @@ pub fn perform(checker: &mut dyn Checker, plan: &[u8], call: &Call, prior: u64) 
             let refusal = checker.list(&lent_plan, *list, &mut fields);
             Answer::new(refusal, [fields.start, fields.count].map(Field::from))
         }
-        Call::Compare { router, first, second } => {
-            perform_compare(checker, &lent_plan, *router, (*first, *second), prior)
-        }
+        Call::Compare { router, routes } => perform_compare(checker, &lent_plan, *router, *routes, prior),
         Call::Relies { list, router, other } => {
             let mut relies = Flag::new(prior as u8);
             let refusal = checker.relies(&lent_plan, *list, (*router, *other), &mut relies.value);
@@ -177,15 +175,9 @@ pub fn perform(checker: &mut dyn Checker, plan: &[u8], call: &Call, prior: u64) 
     answer
 }
 
-fn perform_compare(
-    checker: &mut dyn Checker,
-    plan: &[u8],
-    router: usize,
-    pair: (usize, usize),
-    prior: u64,
-) -> Answer {
+fn perform_compare(checker: &mut dyn Checker, plan: &[u8], router: usize, routes: [Handed; 2], prior: u64) -> Answer {
     let mut fields = CompareFields::new(prior as u8, !prior as u8, prior as i64);
-    let refusal = checker.compare(plan, router, pair, &mut fields);
+    let refusal = checker.compare(plan, router, routes, &mut fields);
     let CompareFields { better, has_margin, margin } = fields;
     let results = [better.value.into(), has_margin.value.into(), margin.value.into()];
     Answer::new(refusal, results).beside(better).beside(has_margin).beside(margin)

@@ -5,12 +5,14 @@
 
 use super::call::{perform, Answer, Call, Field};
 use super::counts::Counts;
+use super::hop_step;
 use super::plan_calls;
 use super::preferences::Preferences;
 use super::sheet_calls;
 use crate::harness::plans::generate;
 use crate::harness::random::Random;
-use crate::interface::Checker;
+use crate::interface::{Checker, Handed};
+use crate::oracle::plan::Plan;
 use crate::oracle::Oracle;
 use std::ops::Range;
 
@@ -118,6 +120,22 @@ impl<'a> Comparison<'a> {
     pub fn subject(&mut self, plan: &[u8], call: &Call) -> Answer {
         self.counts.calls_alone += 1;
         perform(self.subject, plan, call, self.priors.word())
+    }
+
+    /// Compares two routes by both.
+    pub fn compare_routes(
+        &mut self,
+        bytes: &[u8],
+        plan: &Plan,
+        router: usize,
+        routes: [Handed; 2],
+    ) -> Result<Answer, Box<Mismatch>> {
+        let answer = self.call(bytes, &Call::Compare { router, routes })?;
+        if answer.refusal == 0 && hop_step::decides(plan, router, routes) {
+            self.counts.by_step += 1;
+            self.counts.ties_by_step += u64::from(answer.compared().1 == Some(0));
+        }
+        Ok(answer)
     }
 
     /// Makes the call on both; the answer if they agree to the last byte.

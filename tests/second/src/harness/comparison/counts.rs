@@ -1,6 +1,8 @@
 //! What a comparison counts and prints.
 
 use super::call::{Answer, Call};
+use crate::oracle::mark::Mark;
+use crate::oracle::plan::{Plan, MOST_PARENTS};
 use std::fmt;
 
 /// What was compared, and how it came out.
@@ -20,6 +22,9 @@ pub struct Counts {
     pub plans_with_cuts: u64,
     /// .. in which some reflector skips its own clients.
     pub plans_with_skips: u64,
+    /// .. in which some reflector has the hop step, and in which all have it.
+    pub plans_with_steps: u64,
+    pub plans_with_all_steps: u64,
     /// .. in which some client has as many parents as there may be.
     pub plans_with_most_parents: u64,
     /// .. of which some list is empty.
@@ -29,6 +34,7 @@ pub struct Counts {
     /// Empty lists of plans in which some client has a parent.
     pub empty_lists_of_rank_1: u64,
     pub suspect_lists: u64,
+    pub suspect_lists_with_steps: u64,
     pub sheets: u64,
     /// Sheets whose distances are written.
     pub sheets_with_distances: u64,
@@ -37,6 +43,9 @@ pub struct Counts {
     /// Calls whose answers were worked out from comparisons alone too.
     pub calls_by_comparisons: u64,
     pub margins: Margins,
+    /// Comparisons that the hop step decided; and those of them with equal distances.
+    pub by_step: u64,
+    pub ties_by_step: u64,
     /// Pairs of routers for which a reliance and its explanation were asked for.
     pub pairs: u64,
     pub explanations: Explanations,
@@ -45,6 +54,7 @@ pub struct Counts {
     pub series: u64,
     pub series_with_cuts: u64,
     pub series_with_skips: u64,
+    pub series_with_steps: u64,
     pub series_on_empty_lists: u64,
     pub acts_in_series: u64,
     pub highest_rank: u64,
@@ -114,8 +124,21 @@ impl Counts {
         }
     }
 
+    /// A plan that is not refused.
+    pub fn count_plan(&mut self, plan: &Plan) {
+        self.sound_plans += 1;
+        self.wide_plans += u64::from(plan.mark == Mark::Rrp2);
+        self.plans_with_far_distances += u64::from(plan.has_distances_past(Mark::Rrp1));
+        self.plans_with_cuts += u64::from(plan.has_cuts());
+        self.plans_with_skips += u64::from(!plan.skipping.is_empty());
+        self.plans_with_steps += u64::from(!plan.stepping.is_empty());
+        self.plans_with_all_steps += u64::from(!plan.stepping.is_empty() && plan.all_step());
+        self.plans_with_most_parents += u64::from(plan.most_parents() == MOST_PARENTS);
+        self.plans_with_empty_lists += u64::from(!plan.empty_lists().is_empty());
+    }
+
     /// The verdict of a list, which is not refused.
-    pub fn count_verdict(&mut self, answer: &Answer) {
+    pub fn count_verdict(&mut self, plan: &Plan, answer: &Answer) {
         let size = answer.fields[1] as u64;
         self.lists += 1;
         if answer.fields[0] == 1 {
@@ -123,6 +146,7 @@ impl Counts {
             return;
         }
         self.suspect_lists += 1;
+        self.suspect_lists_with_steps += u64::from(!plan.stepping.is_empty());
         let (labels, first) = (&answer.buffers[0], answer.buffers[3][0]);
         self.entered_cycles += u64::from(labels[usize::from(first)] != first);
         self.longest_cycle = self.longest_cycle.max(size);
@@ -132,21 +156,8 @@ impl Counts {
 impl fmt::Display for Counts {
     fn fmt(&self, out: &mut fmt::Formatter) -> fmt::Result {
         writeln!(out, "sound plans {}, calls not refused {}", self.sound_plans, self.refusals[0])?;
-        let [widened, narrowed] = self.conversions;
-        writeln!(
-            out,
-            "plans of RRP2 {}, with distances above 65,534 {}, widened {widened}, narrowed {narrowed}",
-            self.wide_plans, self.plans_with_far_distances
-        )?;
-        writeln!(out, "calls made on the converted plan too {}", self.calls_on_converted)?;
-        writeln!(out, "plans with cuts {}, series on these {}", self.plans_with_cuts, self.series_with_cuts)?;
-        writeln!(out, "plans with role 3 {}, series on these {}", self.plans_with_skips, self.series_with_skips)?;
-        writeln!(out, "plans with a client of four parents {}", self.plans_with_most_parents)?;
-        writeln!(
-            out,
-            "plans with an empty list {}, empty lists {}, of highest rank 1 {}, series on these {}",
-            self.plans_with_empty_lists, self.empty_lists, self.empty_lists_of_rank_1, self.series_on_empty_lists
-        )?;
+        self.write_plans(out)?;
+        self.write_steps(out)?;
         writeln!(out, "sheets with distances {}", self.sheets_with_distances)?;
         writeln!(out, "{}", self.margins)?;
         writeln!(out, "{}", self.explanations)?;
@@ -167,5 +178,35 @@ impl fmt::Display for Counts {
             "second: {} plans, {} lists, {} suspect, {} sheets, {} calls, {} series settled, mismatches {}",
             self.plans, self.lists, self.suspect_lists, self.sheets, self.calls, self.series, self.mismatches
         )
+    }
+}
+
+impl Counts {
+    fn write_plans(&self, out: &mut fmt::Formatter) -> fmt::Result {
+        let [widened, narrowed] = self.conversions;
+        writeln!(
+            out,
+            "plans of RRP2 {}, with distances above 65,534 {}, widened {widened}, narrowed {narrowed}",
+            self.wide_plans, self.plans_with_far_distances
+        )?;
+        writeln!(out, "calls made on the converted plan too {}", self.calls_on_converted)?;
+        writeln!(out, "plans with cuts {}, series on these {}", self.plans_with_cuts, self.series_with_cuts)?;
+        let (skips, series) = (self.plans_with_skips, self.series_with_skips);
+        writeln!(out, "plans with role 3 or 5 {skips}, series on these {series}")?;
+        writeln!(out, "plans with a client of four parents {}", self.plans_with_most_parents)?;
+        writeln!(
+            out,
+            "plans with an empty list {}, empty lists {}, of highest rank 1 {}, series on these {}",
+            self.plans_with_empty_lists, self.empty_lists, self.empty_lists_of_rank_1, self.series_on_empty_lists
+        )
+    }
+
+    fn write_steps(&self, out: &mut fmt::Formatter) -> fmt::Result {
+        writeln!(
+            out,
+            "plans with the hop step {}, at all reflectors {}, suspect lists of these {}, series on these {}",
+            self.plans_with_steps, self.plans_with_all_steps, self.suspect_lists_with_steps, self.series_with_steps
+        )?;
+        writeln!(out, "comparisons by the hop step {}, of equal distances {}", self.by_step, self.ties_by_step)
     }
 }

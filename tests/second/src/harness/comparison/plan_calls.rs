@@ -5,13 +5,13 @@ use super::call::{Answer, Call};
 use super::compare::{Comparison, Mismatch, Outcome};
 use super::convert_calls;
 use super::empty_lists;
+use super::hop_step;
 use super::preferences::Preferences;
 use super::reliance_calls;
 use super::series::{self, Promise};
 use crate::harness::plans::generate;
 use crate::harness::random::Random;
-use crate::oracle::mark::Mark;
-use crate::oracle::plan::{self, Plan, MOST_PARENTS};
+use crate::oracle::plan::{self, Plan};
 use crate::oracle::rules::Case;
 
 /// So many routers are few: every comparison, every reliance and its explanation is
@@ -45,6 +45,7 @@ fn loose_calls(random: &mut Random) -> [Call; 7] {
     let mut number = |bound: usize| arguments::mostly_below(random, bound);
     let list = number(2);
     let (router, first, second) = (number(4), number(4), number(4));
+    let routes = [first, second].map(|egress| arguments::handed(random, egress));
     let mut buffer = || {
         let length = random.below(140);
         random.bytes(length)
@@ -54,7 +55,7 @@ fn loose_calls(random: &mut Random) -> [Call; 7] {
     let limit = random.word();
     [
         Call::List { list },
-        Call::Compare { router, first, second },
+        Call::Compare { router, routes },
         Call::Relies { list, router, other: first },
         Call::Explain { list, router, other: first },
         Call::Verdict { list, buffers },
@@ -64,21 +65,17 @@ fn loose_calls(random: &mut Random) -> [Call; 7] {
 }
 
 fn sound(comparison: &mut Comparison, random: &mut Random, bytes: &[u8], plan: &Plan) -> Outcome {
-    comparison.counts.sound_plans += 1;
-    comparison.counts.wide_plans += u64::from(plan.mark == Mark::Rrp2);
-    comparison.counts.plans_with_far_distances += u64::from(plan.has_distances_past(Mark::Rrp1));
-    comparison.counts.plans_with_cuts += u64::from(plan.has_cuts());
-    comparison.counts.plans_with_skips += u64::from(!plan.skipping.is_empty());
-    comparison.counts.plans_with_most_parents += u64::from(plan.most_parents() == MOST_PARENTS);
-    comparison.counts.plans_with_empty_lists += u64::from(!plan.empty_lists().is_empty());
+    comparison.counts.count_plan(plan);
     if plan.n <= FEW {
-        let preferences = Preferences::ask(comparison, bytes, plan.n)?;
+        let preferences = Preferences::ask(comparison, random, bytes, plan)?;
         comparison.go_by(bytes, preferences);
     }
     comparisons(comparison, random, bytes, plan)?;
     past_the_lists(comparison, random, bytes, plan)?;
     reliance_calls::compare(comparison, random, bytes, plan)?;
     let verdicts = verdicts_of_lists(comparison, random, bytes, plan)?;
+    let list = random.below(plan.lists.len());
+    hop_step::compare_with_all(comparison, random, bytes, list)?;
     for _ in 0..3 {
         let list = random.below(plan.lists.len());
         list_calls(comparison, random, bytes, list, plan)?;
@@ -107,26 +104,24 @@ fn all_series(
     Ok(())
 }
 
+/// Comparisons at any router, at some with the hop step, and of numbers past n; each route is
+/// told by its egress router or passed on.
 fn comparisons(comparison: &mut Comparison, random: &mut Random, bytes: &[u8], plan: &Plan) -> Outcome {
-    for _ in 0..8 {
-        let mut number = || random.below(plan.n);
-        let (router, first, second) = (number(), number(), number());
-        comparison.call(bytes, &Call::Compare { router, first, second })?;
+    let n = plan.n;
+    let mut asked: Vec<[usize; 3]> = (0..8).map(|_| [n; 3].map(|n| random.below(n))).collect();
+    asked.extend((0..3).map(|_| [n; 3].map(|n| arguments::mostly_below(random, n))));
+    let (router, strange) = (random.below(n), arguments::past(random, n));
+    let mut with_a_strange_one = [router; 3];
+    with_a_strange_one[random.below(3)] = strange;
+    asked.extend([[router; 3], with_a_strange_one]);
+    let stepping: Vec<usize> = plan.stepping.iter().copied().collect();
+    for _ in 0..stepping.len().min(6) {
+        asked.push([random.pick(&stepping), random.below(n), random.below(n)]);
     }
-    for _ in 0..3 {
-        let mut number = || arguments::mostly_below(random, plan.n);
-        let (router, first, second) = (number(), number(), number());
-        comparison.call(bytes, &Call::Compare { router, first, second })?;
-    }
-    let router = random.below(plan.n);
-    comparison.call(bytes, &Call::Compare { router, first: router, second: router })?;
-    let strange = arguments::past(random, plan.n);
-    let call = match random.below(3) {
-        0 => Call::Compare { router: strange, first: router, second: router },
-        1 => Call::Compare { router, first: strange, second: router },
-        _ => Call::Compare { router, first: router, second: strange },
-    };
-    comparison.call(bytes, &call).map(|_| ())
+    asked.into_iter().try_for_each(|[router, first, second]| {
+        let routes = [first, second].map(|egress| arguments::handed(random, egress));
+        comparison.compare_routes(bytes, plan, router, routes).map(|_| ())
+    })
 }
 
 /// List numbers at and past the number of lists, in every call.
@@ -165,7 +160,8 @@ fn verdicts_of_lists(
         comparison.call(bytes, &Call::List { list })?;
         let buffers = arguments::verdict_buffers(random, plan.n);
         let answer = comparison.call(bytes, &Call::Verdict { list, buffers })?;
-        comparison.counts.count_verdict(&answer);
+        comparison.counts.count_verdict(plan, &answer);
+        hop_step::hold_verdict(bytes, plan, &answer)?;
         if plan.lists[list].listed.is_empty() {
             empty_lists::hold_verdict(bytes, plan, &answer)?;
             comparison.counts.empty_lists += 1;

@@ -7,6 +7,7 @@ use super::compare::{hex, Comparison, Mismatch, Outcome};
 use super::empty_lists;
 use super::plan_calls::FEW;
 use crate::harness::random::Random;
+use crate::interface::Handed;
 use crate::oracle::plan::{Plan, Router};
 
 type Pair = (Router, Router);
@@ -54,7 +55,7 @@ fn explain(list: usize, (router, other): Pair) -> Call {
 }
 
 /// Both calls, for an empty list held to what is stated of it; and, where a margin is given,
-/// the comparison of the two routes.
+/// the comparison of the two routes, of which the own client's is told by itself.
 fn both_calls(comparison: &mut Comparison, bytes: &[u8], plan: &Plan, list: usize, pair: Pair) -> Outcome {
     let relied = comparison.call(bytes, &relies(list, pair))?;
     let explained = comparison.call(bytes, &explain(list, pair))?;
@@ -64,7 +65,10 @@ fn both_calls(comparison: &mut Comparison, bytes: &[u8], plan: &Plan, list: usiz
         empty_lists::hold_explanation(bytes, plan, pair, &explained)?;
     }
     let Some((offer, own, margin)) = explained.better_than_own() else { return Ok(()) };
-    let compared = comparison.call(bytes, &Call::Compare { router: pair.0, first: offer, second: own })?;
+    // A listed reflector tells its own route, any other passes one on.
+    let is_told = plan.lists[list].listed.contains(&pair.1);
+    let offer = Handed { egress: offer, direct: is_told.into() };
+    let compared = comparison.call(bytes, &Call::Compare { router: pair.0, routes: [offer, Handed::told(own)] })?;
     if compared.refusal == 0 && compared.compared() == (1, Some(margin)) {
         return Ok(());
     }

@@ -71,6 +71,7 @@ pub fn compare(
     comparison.counts.series += 1;
     comparison.counts.series_with_cuts += u64::from(plan.has_cuts());
     comparison.counts.series_with_skips += u64::from(!plan.skipping.is_empty());
+    comparison.counts.series_with_steps += u64::from(!plan.stepping.is_empty());
     comparison.counts.series_on_empty_lists += u64::from(plan.lists[list].listed.is_empty());
     comparison.counts.acts_in_series += series.acts;
     Ok(())

@@ -9,11 +9,11 @@ use super::sheet_slips;
 use super::slips::Slip;
 use crate::harness::plans::draft::Bodies;
 use crate::interface::{
-    Acts, Checker, CompareFields, ExplainFields, Lent, ListFields, RunFields, SizeFields, VerdictBuffers,
+    Acts, Checker, CompareFields, ExplainFields, Handed, Lent, ListFields, RunFields, SizeFields, VerdictBuffers,
     VerdictFields,
 };
 use crate::oracle::mark::Mark;
-use crate::oracle::plan::{self, FIRST_BODY};
+use crate::oracle::plan;
 use crate::oracle::rules::Right;
 use crate::oracle::tables::NONE;
 use crate::oracle::Oracle;
@@ -53,14 +53,6 @@ fn with_ways_to_itself(plan: &[u8]) -> Vec<u8> {
     bodies.bytes()
 }
 
-/// A plan refused with 4, with role 3 for each router of role 4.
-fn with_role_3_for_4(plan: &[u8]) -> Vec<u8> {
-    let (mut plan, n) = (plan.to_vec(), usize::from(plan[4]));
-    let roles = plan[FIRST_BODY..][..5 * n].iter_mut().step_by(5);
-    roles.filter(|role| **role == 4).for_each(|role| *role = 3);
-    plan
-}
-
 /// Whether a plan that is refused with 13 has no such list, by its number of lists.
 fn is_past_the_lists(plan: &[u8], list: usize) -> bool {
     Bodies::of(plan).lists.first().is_some_and(|&count| list >= usize::from(count))
@@ -81,8 +73,6 @@ impl Checker for Careless {
             Slip::LongPlanAccepted if Mark::of(plan).is_some_and(|mark| plan.len() > mark.longest_plan()) => 3,
             Slip::NoWayRefused if refusal == 0 && plan::read(plan).is_ok_and(|plan| plan.has_cuts()) => 6,
             Slip::NoWayToItselfAccepted if refusal == 6 => self.inner.check(&with_ways_to_itself(plan)),
-            Slip::Role3Refused if refusal == 0 && plan::read(plan).is_ok_and(|plan| !plan.skipping.is_empty()) => 4,
-            Slip::Role4Accepted if refusal == 4 => self.inner.check(&with_role_3_for_4(plan)),
             Slip::Parents(slip) => parent_slips::check(slip, plan, refusal),
             _ => refusal,
         }
@@ -111,8 +101,8 @@ impl Checker for Careless {
         refusal
     }
 
-    fn compare(&mut self, plan: &[u8], router: usize, pair: (usize, usize), fields: &mut CompareFields) -> u8 {
-        compare_slips::compare(self.slip, &mut self.inner, plan, [router, pair.0, pair.1], fields)
+    fn compare(&mut self, plan: &[u8], router: usize, routes: [Handed; 2], fields: &mut CompareFields) -> u8 {
+        compare_slips::compare(self.slip, &mut self.inner, plan, (router, routes), fields)
     }
 
     fn relies(&mut self, plan: &[u8], list: usize, pair: (usize, usize), relies: &mut u8) -> u8 {

@@ -1,33 +1,30 @@
-//! The slips of checkers in the comparison of two egress routers.
+//! The slips of checkers in the comparison of two routes.
 
+use super::hop_slips;
 use super::slips::Slip;
-use crate::interface::{Checker, CompareFields, Compared};
+use crate::interface::{Checker, CompareFields, Compared, Handed};
 use crate::oracle::plan::{self, Plan};
 use crate::oracle::rules::Right;
 use crate::oracle::Oracle;
 
-/// The call with one slip, for a router, a first and a second egress router.
-pub fn compare(
-    slip: Slip,
-    inner: &mut Oracle<Right>,
-    bytes: &[u8],
-    asked: [usize; 3],
-    fields: &mut CompareFields,
-) -> u8 {
-    let [router, first, second] = match slip {
-        Slip::FirstAndSecondExchanged => [asked[0], asked[2], asked[1]],
-        Slip::ComparedNumbersCutToAByte => asked.map(|number| number % 256),
-        _ => asked,
-    };
+/// The router and the two routes of a comparison.
+type Asked = (usize, [Handed; 2]);
+
+/// The call with one slip.
+pub fn compare(slip: Slip, inner: &mut Oracle<Right>, bytes: &[u8], asked: Asked, fields: &mut CompareFields) -> u8 {
+    let (router, routes) = misasked(slip, asked);
     let before = fields.margin.value;
-    let refusal = inner.compare(bytes, router, (first, second), fields);
+    let refusal = inner.compare(bytes, router, routes, fields);
     if refusal != 0 {
         clear(slip, fields);
         return refusal;
     }
     let plan = plan::read(bytes).expect("a plan that is not refused");
     let answer = (fields.better.value, (fields.has_margin.value == 1).then_some(fields.margin.value));
-    fields.put(misjudged(slip, &plan, [router, first, second], answer));
+    fields.put(match slip {
+        Slip::Hop(slip) => hop_slips::misjudged(slip, &plan, router, routes, answer),
+        _ => misjudged(slip, &plan, [router, routes[0].egress, routes[1].egress], answer),
+    });
     match slip {
         Slip::MarginLeftWhereThereIsNone if fields.has_margin.value == 0 => fields.margin.value = before,
         Slip::MarginOfFourBytes => fields.margin.value = before >> 32 << 32 | fields.margin.value & 0xFFFF_FFFF,
@@ -36,6 +33,18 @@ pub fn compare(
         _ => (),
     }
     refusal
+}
+
+/// What a checker with this slip takes for what it is asked.
+fn misasked(slip: Slip, (router, routes): Asked) -> Asked {
+    match slip {
+        Slip::FirstAndSecondExchanged => (router, [routes[1], routes[0]]),
+        Slip::ComparedNumbersCutToAByte => {
+            (router % 256, routes.map(|route| Handed { egress: route.egress % 256, ..route }))
+        }
+        Slip::Hop(slip) => (router, hop_slips::misread_flags(slip, routes)),
+        _ => (router, routes),
+    }
 }
 
 /// A result variable cleared beside a refusal.

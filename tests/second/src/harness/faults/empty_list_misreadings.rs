@@ -2,7 +2,7 @@
 //! it.
 
 use crate::oracle::plan::Router;
-use crate::oracle::rules::{Case, Right, Route, Rules, Table};
+use crate::oracle::rules::{Candidate, Case, Right, Route, Rules, Table};
 use std::collections::BTreeSet;
 
 /// A misreading of a list that names nobody.
@@ -40,11 +40,14 @@ fn neighbours(case: Case, router: Router, reflectors: bool) -> BTreeSet<Router> 
 }
 
 impl Rules for MisreadEmptyList {
-    fn offer(&self, case: Case, reflector: Router, relying: Router) -> Option<Router> {
+    fn offer(&self, case: Case, reflector: Router, relying: Router) -> Option<Candidate> {
         match self.0 {
             _ if !case.listed.is_empty() => Right.offer(case, reflector, relying),
-            EmptyListMisreading::ReflectorOffersItself => Some(reflector),
-            EmptyListMisreading::ReflectorOffersAClient => neighbours(case, reflector, false).first().copied(),
+            EmptyListMisreading::ReflectorOffersItself => Some(Candidate::told(reflector)),
+            EmptyListMisreading::ReflectorOffersAClient => {
+                let client = neighbours(case, reflector, false).first().copied();
+                client.map(Candidate::passed_on)
+            }
             _ => None,
         }
     }

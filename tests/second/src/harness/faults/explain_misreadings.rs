@@ -1,11 +1,12 @@
 //! Checkers that explain reliances wrongly, while their other calls are right, to
 //! see that the comparison finds it.
 
+use super::hop_misreadings::{HopMisreading, MisreadHop};
 use super::misreadings::{Misread, Misreading};
 use crate::harness::comparison::plan_calls::FEW;
 use crate::interface::{Explained, Reason, Rule};
 use crate::oracle::plan::Router;
-use crate::oracle::rules::{Case, Right, Rules};
+use crate::oracle::rules::{Candidate, Case, Right, Rules};
 
 /// A misreading of what an explanation is.
 #[derive(Clone, Copy, Debug, PartialEq, Eq)]
@@ -14,6 +15,7 @@ pub enum ExplainMisreading {
     Before(Reason, Reason),
     /// Reliances are explained by misread rules, and answered by the right ones.
     By(Misreading),
+    ByHopStep(HopMisreading),
     PeerClientSaidOfAParent,
     ParentSaidOfAPeerClient,
     BestClientAndBetterOfferExchanged,
@@ -30,15 +32,18 @@ pub enum ExplainMisreading {
     NotBetterSaidOfNoWay,
     NotBetterSaidWithNoOwn,
     YesSaidOfNoOffer,
+    /// Where the hop step puts a nearer offer behind the own best client.
+    NoOfferSaidOfTheStep,
+    NoWaySaidOfTheStep,
     /// On plans with more routers than are few.
     YesWithManyRouters,
     MarginTurnedWithManyRouters,
 }
 
-use ExplainMisreading::{Before, By};
+use ExplainMisreading::{Before, By, ByHopStep};
 
 /// Every two reasons that can apply at once are there in the wrong order.
-pub const EXPLAIN_MISREADINGS: [ExplainMisreading; 53] = [
+pub const EXPLAIN_MISREADINGS: [ExplainMisreading; 67] = [
     Before(Reason::NotNeighbours, Reason::SameRouter),
     Before(Reason::FirstListed, Reason::SameRouter),
     Before(Reason::UnlistedClient, Reason::SameRouter),
@@ -74,6 +79,18 @@ pub const EXPLAIN_MISREADINGS: [ExplainMisreading; 53] = [
     By(Misreading::OfferWithoutAWayCounts),
     By(Misreading::ClientAsksForAWayToReflectors),
     By(Misreading::ClientAsksForAWayToClients),
+    ByHopStep(HopMisreading::StepAtRole1),
+    ByHopStep(HopMisreading::StepAtRole3),
+    ByHopStep(HopMisreading::NoStepAtRole4),
+    ByHopStep(HopMisreading::NoStepAtRole5),
+    ByHopStep(HopMisreading::StepAfterTheDistance),
+    ByHopStep(HopMisreading::PassedOnBeatsDirect),
+    ByHopStep(HopMisreading::UnlistedOfferAsDirect),
+    ByHopStep(HopMisreading::ListedOfferAsPassedOn),
+    ByHopStep(HopMisreading::PassedOnOfferNeverCounts),
+    ByHopStep(HopMisreading::OwnClientAsPassedOn),
+    ByHopStep(HopMisreading::SharedClientAsPassedOn),
+    ByHopStep(HopMisreading::StepOfTheOneThatOffers),
     ExplainMisreading::PeerClientSaidOfAParent,
     ExplainMisreading::ParentSaidOfAPeerClient,
     ExplainMisreading::BestClientAndBetterOfferExchanged,
@@ -90,6 +107,8 @@ pub const EXPLAIN_MISREADINGS: [ExplainMisreading; 53] = [
     ExplainMisreading::NotBetterSaidOfNoWay,
     ExplainMisreading::NotBetterSaidWithNoOwn,
     ExplainMisreading::YesSaidOfNoOffer,
+    ExplainMisreading::NoOfferSaidOfTheStep,
+    ExplainMisreading::NoWaySaidOfTheStep,
     ExplainMisreading::YesWithManyRouters,
     ExplainMisreading::MarginTurnedWithManyRouters,
 ];
@@ -98,8 +117,10 @@ pub struct MisreadExplanation(pub ExplainMisreading);
 
 impl Rules for MisreadExplanation {
     fn explanation(&self, case: Case, router: Router, other: Router) -> Explained {
-        if let By(misreading) = self.0 {
-            return Misread(misreading).explanation(case, router, other);
+        match self.0 {
+            By(misreading) => return Misread(misreading).explanation(case, router, other),
+            ByHopStep(misreading) => return MisreadHop(misreading).explanation(case, router, other),
+            _ => (),
         }
         match Right.explanation(case, router, other) {
             Explained::Yes(Rule::BetterOffer { offer, own }) => self.of_offer(case, other, offer, own),
@@ -147,6 +168,7 @@ impl MisreadExplanation {
     /// What is said where there is no reliance.
     fn of_none(&self, case: Case, router: Router, other: Router, reason: Reason) -> Explained {
         let applies = |reason: Reason| Right.applies(reason, case, router, other);
+        let by_step = || is_put_behind_by_the_step(case, router, other);
         Explained::No(match (self.0, reason) {
             (Before(later, first), _) if first == reason && applies(later) => later,
             (ExplainMisreading::NoOfferSaidOfNoWay, Reason::NoWay) => Reason::NoOffer,
@@ -160,10 +182,18 @@ impl MisreadExplanation {
             (ExplainMisreading::YesSaidOfNoOffer, Reason::NoOffer) => {
                 return Explained::Yes(Rule::BetterOffer { offer: other, own: None });
             }
+            (ExplainMisreading::NoOfferSaidOfTheStep, Reason::NotBetter) if by_step() => Reason::NoOffer,
+            (ExplainMisreading::NoWaySaidOfTheStep, Reason::NotBetter) if by_step() => Reason::NoWay,
             (ExplainMisreading::YesWithManyRouters, Reason::NotTheBestClient) if case.plan.n > FEW => {
                 return Explained::Yes(Rule::OwnBestClient);
             }
             _ => reason,
         })
     }
+}
+
+/// Whether an offer that is not better would be, had its egress router told it.
+fn is_put_behind_by_the_step(case: Case, router: Router, other: Router) -> bool {
+    let offer = Right.offer(case, other, router).map(|offer| Candidate::told(offer.egress));
+    offer.is_some_and(|offer| Right.counts(case.plan, router, offer, Right.best_client(case, router)))
 }

@@ -1,7 +1,7 @@
 //! Checkers that, in one call, take a plan for another, as a slip has it.
 
 use crate::interface::{
-    Acts, Checker, CompareFields, ExplainFields, Lent, ListFields, RunFields, SizeFields, VerdictBuffers,
+    Acts, Checker, CompareFields, ExplainFields, Handed, Lent, ListFields, RunFields, SizeFields, VerdictBuffers,
     VerdictFields,
 };
 use crate::oracle::rules::Right;
@@ -71,9 +71,9 @@ impl<F: Fn(&[u8]) -> Option<Vec<u8>>> Checker for Misreader<F> {
         inner.list(plan, list, fields)
     }
 
-    fn compare(&mut self, plan: &[u8], router: usize, pair: (usize, usize), fields: &mut CompareFields) -> u8 {
+    fn compare(&mut self, plan: &[u8], router: usize, routes: [Handed; 2], fields: &mut CompareFields) -> u8 {
         let (inner, plan) = self.read(PlanCall::Compare, plan);
-        inner.compare(plan, router, pair, fields)
+        inner.compare(plan, router, routes, fields)
     }
 
     fn relies(&mut self, plan: &[u8], list: usize, pair: (usize, usize), relies: &mut u8) -> u8 {

@@ -1,7 +1,7 @@
 //! Checkers that misread one rule each, to see that the comparison finds it.
 
 use crate::oracle::plan::{Plan, Router};
-use crate::oracle::rules::{beats, Case, Right, Route, Rules, Table, Value};
+use crate::oracle::rules::{beats, Candidate, Case, Right, Route, Rules, Table, Value};
 use std::collections::BTreeSet;
 
 /// A rule misread.
@@ -93,17 +93,19 @@ impl Rules for Misread {
         }
     }
 
-    fn is_better(&self, plan: &Plan, at: Router, first: Router, second: Router) -> bool {
-        let ways = [first, second].map(|egress| plan.has_way(at, egress));
+    fn is_better(&self, plan: &Plan, at: Router, first: Candidate, second: Candidate) -> bool {
+        let routes = [first, second];
+        let ways = routes.map(|route| plan.has_way(at, route.egress));
+        let by_distance = self.after_hop_step(plan, at, routes.to_vec()) == routes;
         match self.0 {
-            Misreading::ScaledDifferences if ways == [true, true] => {
-                let scaled = self.margin(plan, at, first, second).map(|margin| margin / 10);
-                (scaled, first) < (Some(0), second)
+            Misreading::ScaledDifferences if ways == [true, true] && by_distance => {
+                let scaled = self.margin(plan, at, first.egress, second.egress).map(|margin| margin / 10);
+                (scaled, first.egress) < (Some(0), second.egress)
             }
-            Misreading::LowerNumberWinsWithoutAWay if ways == [false, false] => first < second,
+            Misreading::LowerNumberWinsWithoutAWay if ways == [false, false] => first.egress < second.egress,
             Misreading::NoneBeatsAWay if ways[0] != ways[1] => ways[1],
             Misreading::AWayDoesNotBeatNone if ways[0] != ways[1] => false,
-            _ => beats(self.value(plan, at, first), self.value(plan, at, second)),
+            _ => beats(self, plan, at, first, second),
         }
     }
 
@@ -115,24 +117,29 @@ impl Rules for Misread {
         }
     }
 
-    fn offer(&self, case: Case, reflector: Router, relying: Router) -> Option<Router> {
-        match self.0 {
+    fn offer(&self, case: Case, reflector: Router, relying: Router) -> Option<Candidate> {
+        let client = match self.0 {
             Misreading::RelyingOneJudgesBestClient if !case.is_listed(reflector) => {
                 self.best_client_valued_at(case, reflector, relying)
             }
             Misreading::ListedReflectorOffersClient => self.best_client(case, reflector),
-            _ if case.is_listed(reflector) => Some(reflector),
+            _ if case.is_listed(reflector) => return Some(Candidate::told(reflector)),
             _ => self.best_client(case, reflector),
-        }
+        };
+        client.map(Candidate::passed_on)
     }
 
-    fn counts(&self, plan: &Plan, at: Router, offer: Router, own: Option<Router>) -> bool {
-        let better = own.is_none_or(|own| match self.0 {
-            Misreading::TieIsNoReliance => plan.distances[at][offer] < plan.distances[at][own],
-            Misreading::SharedClientOutdoesItself => offer == own || self.is_better(plan, at, offer, own),
-            _ => self.is_better(plan, at, offer, own),
+    fn counts(&self, plan: &Plan, at: Router, offer: Candidate, own: Option<Router>) -> bool {
+        let better = own.is_none_or(|own| {
+            let [to_offer, to_own] = [offer.egress, own].map(|egress| plan.distances[at][egress]);
+            let is_better = self.is_better(plan, at, offer, Candidate::told(own));
+            match self.0 {
+                Misreading::TieIsNoReliance => is_better && to_offer < to_own,
+                Misreading::SharedClientOutdoesItself => offer.egress == own || is_better,
+                _ => is_better,
+            }
         });
-        better && (self.is(Misreading::OfferWithoutAWayCounts) || self.value(plan, at, offer).is_some())
+        better && (self.is(Misreading::OfferWithoutAWayCounts) || self.has_way(plan, at, offer.egress))
     }
 
     fn relied_on_by_client(&self, case: Case, router: Router) -> BTreeSet<Router> {
@@ -163,18 +170,27 @@ impl Rules for Misread {
         }
     }
 
-    fn value_received(&self, plan: &Plan, at: Router, route: Route) -> Option<(Value, bool, Router)> {
-        let value = match self.value(plan, at, route.egress) {
-            None if self.is(Misreading::WayOfTheSenderCounts) => (plan.n, route.egress),
-            value => value?,
-        };
+    fn hears(&self, plan: &Plan, at: Router, route: Route) -> bool {
+        let has_way = self.has_way(plan, at, route.egress);
         match self.0 {
-            Misreading::LowestSenderBeforeEgress => Some((value, false, route.sender)),
-            Misreading::HighestSender => Some((value, route.sender != route.egress, plan.n - route.sender)),
-            Misreading::WayToTheSenderAsked if !plan.has_way(at, route.sender) => None,
-            Misreading::WayOfTheSenderCounts if !plan.has_way(route.sender, route.egress) => None,
-            Misreading::WayBackAsked if !plan.has_way(route.egress, at) => None,
-            _ => Some((value, route.sender != route.egress, route.sender)),
+            Misreading::WayToTheSenderAsked => has_way && plan.has_way(at, route.sender),
+            Misreading::WayOfTheSenderCounts => plan.has_way(route.sender, route.egress),
+            Misreading::WayBackAsked => has_way && plan.has_way(route.egress, at),
+            _ => has_way,
+        }
+    }
+
+    /// Of routes without a way, where they are heard, that of the lowest egress router.
+    fn choice(&self, case: Case, at: Router, heard: &[Route]) -> Option<Router> {
+        let best = self.best(case.plan, at, heard.iter().map(|&route| route.into()).collect());
+        best.or(heard.iter().map(|route| route.egress).min())
+    }
+
+    fn sender(&self, egress: Router, senders: &BTreeSet<Router>) -> Option<Router> {
+        match self.0 {
+            Misreading::LowestSenderBeforeEgress => senders.first().copied(),
+            Misreading::HighestSender => senders.get(&egress).or(senders.last()).copied(),
+            _ => Right.sender(egress, senders),
         }
     }
 }

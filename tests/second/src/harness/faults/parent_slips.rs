@@ -1,7 +1,7 @@
 //! The slips of checkers in refusal 13: what they count, and when they check it.
 
 use crate::harness::plans::draft::Bodies;
-use crate::oracle::plan::{self, Router, CLIENT, REFLECTOR, SKIPPING};
+use crate::oracle::plan::{self, Router, CLIENT, REFLECTOR, SKIPPING, STEPPING};
 
 #[derive(Clone, Copy, Debug, PartialEq, Eq)]
 pub enum ParentSlip {
@@ -15,6 +15,8 @@ pub enum ParentSlip {
     HigherNumbersCounted,
     Role1Counted,
     Role3Counted,
+    HopStepNotCounted,
+    HopStepCounted,
     FirstClientCounted,
     LastClientNotCounted,
     BeforeFour,
@@ -23,7 +25,7 @@ pub enum ParentSlip {
     AfterSeven,
 }
 
-pub const PARENT_SLIPS: [ParentSlip; 16] = [
+pub const PARENT_SLIPS: [ParentSlip; 18] = [
     ParentSlip::FiveAllowed,
     ParentSlip::SixAllowed,
     ParentSlip::FourRefused,
@@ -34,6 +36,8 @@ pub const PARENT_SLIPS: [ParentSlip; 16] = [
     ParentSlip::HigherNumbersCounted,
     ParentSlip::Role1Counted,
     ParentSlip::Role3Counted,
+    ParentSlip::HopStepNotCounted,
+    ParentSlip::HopStepCounted,
     ParentSlip::FirstClientCounted,
     ParentSlip::LastClientNotCounted,
     ParentSlip::BeforeFour,
@@ -96,6 +100,8 @@ fn counts(slip: ParentSlip, roles: &[u8], router: Router, other: Router) -> bool
         ParentSlip::HigherNumbersCounted => other > router,
         ParentSlip::Role1Counted => roles[other] == REFLECTOR,
         ParentSlip::Role3Counted => roles[other] == SKIPPING,
+        ParentSlip::HopStepNotCounted => roles[other] < STEPPING,
+        ParentSlip::HopStepCounted => roles[other] >= STEPPING,
         ParentSlip::FirstClientCounted => !roles[..router].contains(&CLIENT),
         ParentSlip::LastClientNotCounted => roles[router + 1..].contains(&CLIENT),
         _ => true,

@@ -2,7 +2,7 @@
 //! it.
 
 use crate::oracle::plan::{Plan, Router};
-use crate::oracle::rules::{Case, Right, Rules, Table};
+use crate::oracle::rules::{Candidate, Case, Right, Rules, Table};
 use std::collections::BTreeSet;
 
 /// A misreading of reflectors that skip their own clients.
@@ -85,11 +85,11 @@ impl Rules for MisreadSkip {
         }
     }
 
-    fn offer(&self, case: Case, reflector: Router, relying: Router) -> Option<Router> {
+    fn offer(&self, case: Case, reflector: Router, relying: Router) -> Option<Candidate> {
         match self.0 {
             SkipMisreading::OffersNothing if case.plan.skips(reflector) => None,
             _ if case.is_listed(reflector) => Right.offer(case, reflector, relying),
-            _ => self.best_client(case, reflector),
+            _ => self.best_client(case, reflector).map(Candidate::passed_on),
         }
     }
 

@@ -3,6 +3,7 @@
 
 use super::convert_slips::ConvertSlip;
 use super::empty_list_slips::EmptyListSlip;
+use super::hop_slips::HopSlip;
 use super::parent_slips::ParentSlip;
 
 /// A slip in a call that reads the rules rightly.
@@ -74,11 +75,10 @@ pub enum Slip {
     LongPlanAccepted,
     NoWayRefused,
     NoWayToItselfAccepted,
-    Role3Refused,
-    Role4Accepted,
     Parents(ParentSlip),
     Convert(ConvertSlip),
     EmptyList(EmptyListSlip),
+    Hop(HopSlip),
     EightBeforeThirteen,
     EntryWithoutAWayRefused,
     TransposedDistances,
@@ -111,8 +111,9 @@ pub enum Slip {
     ByteAfterTheDistances,
 }
 
-/// All but those in the check of a client's parents, in the converter and for an empty list.
-pub const SLIPS: [Slip; 98] = [
+/// All but those in the check of a client's parents, in the converter, for an empty list and
+/// with the hop step.
+pub const SLIPS: [Slip; 96] = [
     Slip::FirstActOnly,
     Slip::ActLeavesTable,
     Slip::ExhaustedAtTheLimit,
@@ -179,8 +180,6 @@ pub const SLIPS: [Slip; 98] = [
     Slip::LongPlanAccepted,
     Slip::NoWayRefused,
     Slip::NoWayToItselfAccepted,
-    Slip::Role3Refused,
-    Slip::Role4Accepted,
     Slip::EightBeforeThirteen,
     Slip::EntryWithoutAWayRefused,
     Slip::TransposedDistances,

@@ -1,12 +1,12 @@
 //! Programs `margin` that are wrong in one way each, to see that the inputs tell each from
 //! the right one.
 
-use crate::oracle::margin_line;
+use crate::oracle::{margin_line, plan};
 
 /// A program that is wrong in one way.
 pub type Program = fn(&[u8]) -> String;
 
-pub const WRONG_PROGRAMS: [(&str, Program); 14] = [
+pub const WRONG_PROGRAMS: [(&str, Program); 17] = [
     ("the sign left out", |input| margin_line(input).replace('-', "")),
     ("a plus sign", |input| of_margins(input, |margin| format!("{margin:+}\n"))),
     ("the sign turned", |input| of_margins(input, |margin| format!("{}\n", -margin))),
@@ -21,6 +21,9 @@ pub const WRONG_PROGRAMS: [(&str, Program); 14] = [
     ("router and first exchanged", |input| exchanged(input, 0, 1)),
     ("first and second exchanged", |input| exchanged(input, 1, 2)),
     ("the plan first", plan_first),
+    ("zero at a reflector with the hop step", |input| at_the_step(input, "0\n")),
+    ("none at a reflector with the hop step", |input| at_the_step(input, "none\n")),
+    ("the hop step refused", |input| at_the_step(input, "refused 4\n")),
 ];
 
 /// The line, with another text for a margin.
@@ -57,4 +60,13 @@ fn plan_first(input: &[u8]) -> String {
         input.rotate_right(3);
     }
     margin_line(&input)
+}
+
+/// Another line at a reflector with the hop step, where the right one is a margin.
+fn at_the_step(input: &[u8], line: &str) -> String {
+    let steps = match input {
+        [router, _, _, plan @ ..] => plan::read(plan).is_ok_and(|plan| plan.steps((*router).into())),
+        _ => false,
+    };
+    of_margins(input, |margin| if steps { line.to_string() } else { format!("{margin}\n") })
 }

@@ -4,7 +4,7 @@ use super::draft::{distance_bytes, Bodies, Draft, NO_WAY};
 use super::topology::ordered;
 use crate::harness::random::Random;
 use crate::oracle::mark::{Mark, MARKS};
-use crate::oracle::plan::{CLIENT, FIRST_BODY, MOST_PARENTS, REFLECTOR, SKIPPING};
+use crate::oracle::plan::{CLIENT, FIRST_BODY, MOST_PARENTS, REFLECTOR, SKIPPING, STEPPING, STEPPING_AND_SKIPPING};
 use std::collections::BTreeSet;
 
 /// The refusal numbers that damage is aimed at.
@@ -198,7 +198,7 @@ fn routers(random: &mut Random, bodies: &mut Bodies) {
     let n = usize::from(bodies.n);
     let routers = &mut bodies.routers;
     if n == 1 || random.chance(50) {
-        routers[5 * random.below(n)] = random.pick(&[0, 4, 5, 129, 130, 131, 255]);
+        routers[5 * random.below(n)] = random.pick(&[0, 6, 7, 129, 130, 131, 132, 133, 255]);
         return;
     }
     // An identifier equal to the one before it, or the two the wrong way round.
@@ -251,7 +251,7 @@ fn parents(random: &mut Random, bodies: &mut Bodies) {
     let mut sessions: BTreeSet<(usize, usize)> = pairs.collect();
     for &parent in parents {
         if bodies.routers[5 * parent] == CLIENT {
-            bodies.routers[5 * parent] = random.pick(&[REFLECTOR, SKIPPING]);
+            bodies.routers[5 * parent] = random.pick(&[REFLECTOR, SKIPPING, STEPPING, STEPPING_AND_SKIPPING]);
         }
         sessions.insert(ordered(client, parent));
     }

@@ -1,7 +1,7 @@
 //! Plans before they become bytes.
 
 use crate::oracle::mark::Mark;
-use crate::oracle::plan::{Router, CLIENT, FIRST_BODY, REFLECTOR, SKIPPING};
+use crate::oracle::plan::{Router, FIRST_BODY};
 use std::collections::BTreeSet;
 use std::iter;
 
@@ -12,9 +12,8 @@ pub const NO_WAY: u32 = u32::MAX;
 #[derive(Clone)]
 pub struct Draft {
     pub mark: Mark,
-    pub reflector: Vec<bool>,
-    /// Those of the reflectors that skip their own clients.
-    pub skips: BTreeSet<Router>,
+    /// The role of each router.
+    pub roles: Vec<u8>,
     pub identifiers: Vec<u32>,
     pub sessions: BTreeSet<(Router, Router)>,
     pub distances: Vec<Vec<u32>>,
@@ -39,21 +38,14 @@ impl Draft {
     }
 
     pub fn bodies(&self) -> Bodies {
-        let role = |router: Router| match (self.reflector[router], self.skips.contains(&router)) {
-            (false, _) => CLIENT,
-            (true, false) => REFLECTOR,
-            (true, true) => SKIPPING,
-        };
-        let routers = self.identifiers.iter().enumerate();
+        let routers = self.roles.iter().zip(&self.identifiers);
         let numbers = |list: &BTreeSet<Router>| list.iter().map(|&router| router as u8).collect::<Vec<u8>>();
         let lists = self.lists.iter().flat_map(|list| [vec![list.len() as u8], numbers(list)].concat());
         let distances = self.distances.iter().flatten();
         Bodies {
             mark: self.mark,
-            n: self.reflector.len() as u8,
-            routers: routers
-                .flat_map(|(router, id)| [vec![role(router)], id.to_le_bytes().to_vec()].concat())
-                .collect(),
+            n: self.roles.len() as u8,
+            routers: routers.flat_map(|(&role, id)| [vec![role], id.to_le_bytes().to_vec()].concat()).collect(),
             sessions: self.sessions.iter().flat_map(|&(one, other)| [one as u8, other as u8]).collect(),
             distances: distances.flat_map(|&distance| distance_bytes(distance, self.mark)).collect(),
             lists: [self.lists.len() as u8].into_iter().chain(lists).collect(),

@@ -4,11 +4,16 @@
 use super::cuts;
 use super::damage::{self, AIMED_AT};
 use super::draft::Draft;
-use super::topology::{all_pairs, crowd, ordered, skipping, topology, Topology};
+use super::topology::{all_pairs, crowd, drawn_roles, ordered, plain_roles, topology, with_step, Topology};
 use super::widths;
 use crate::harness::random::Random;
 use crate::oracle::mark::Mark;
-use crate::oracle::plan::{Router, MOST_LISTS, MOST_PARENTS, MOST_ROUTERS};
+use crate::oracle::plan::{
+    self, EgressList, Router, CLIENT, MOST_LISTS, MOST_PARENTS, MOST_ROUTERS, REFLECTOR, SKIPPING,
+    STEPPING_AND_SKIPPING,
+};
+use crate::oracle::rules::{Case, Right};
+use crate::oracle::verdict::{self, Outcome};
 use std::collections::BTreeSet;
 
 /// The plan of the given number, and the source of what is drawn for it next.
@@ -64,12 +69,30 @@ fn of_topology(random: &mut Random, topology: Topology) -> Draft {
     let mut distances = distances(random, mark, &topology);
     cuts::cut(random, mark, &topology, &mut distances);
     let (reflector, sessions) = topology;
-    let skips = skipping(random, &reflector);
+    let roles = drawn_roles(random, &reflector);
     // A reflector that skips its clients shows at those that are not listed.
-    let nearly_all = if skips.is_empty() { 70 } else { 30 };
+    let nearly_all = if roles.iter().any(|role| [SKIPPING, STEPPING_AND_SKIPPING].contains(role)) { 30 } else { 70 };
     let lists = lists(random, &reflector, nearly_all);
     let identifiers = identifiers(random, reflector.len());
-    Draft { mark, identifiers, reflector, skips, sessions, distances, lists }
+    let mut draft = Draft { mark, identifiers, roles, sessions, distances, lists };
+    if random.chance(10) {
+        step_in_a_cycle(random, &mut draft);
+    }
+    draft
+}
+
+/// Gives a router of a cycle the hop step, by which that cycle is none, if a list is suspect.
+fn step_in_a_cycle(random: &mut Random, draft: &mut Draft) {
+    let Ok(plan) = plan::read(&draft.bytes()) else { return };
+    let cycle_of =
+        |list: &EgressList| match verdict::verdict(&Right, Case { plan: &plan, listed: &list.listed }).outcome {
+            Outcome::Suspect { cycle } => Some(cycle),
+            Outcome::Stable { .. } => None,
+        };
+    if let Some(cycle) = plan.lists.iter().find_map(cycle_of) {
+        let router = random.pick(&cycle);
+        draft.roles[router] = with_step(draft.roles[router]);
+    }
 }
 
 /// The largest plan of this mark: 64 routers, all sessions, 64 full lists. Every client
@@ -83,7 +106,7 @@ pub fn largest(random: &mut Random, mark: Mark) -> Draft {
     let (reflector, sessions) = topology;
     let lists = vec![(0..n).collect(); MOST_LISTS];
     let identifiers = identifiers(random, n);
-    Draft { mark, identifiers, reflector, skips: BTreeSet::new(), sessions, distances, lists }
+    Draft { mark, identifiers, roles: plain_roles(&reflector), sessions, distances, lists }
 }
 
 /// A plan whose highest rank is 51, the highest that any plan can have, with
@@ -117,8 +140,7 @@ pub fn deepest() -> Draft {
     };
     Draft {
         mark: Mark::Rrp1,
-        reflector: (0..n).map(|router| reflectors.contains(&router)).collect(),
-        skips: BTreeSet::new(),
+        roles: (0..n).map(|router| if reflectors.contains(&router) { REFLECTOR } else { CLIENT }).collect(),
         identifiers: (1..=n as u32).map(|place| 10 * place).collect(),
         sessions,
         distances: (0..n).map(|from| (0..n).map(|to| distance(from, to)).collect()).collect(),

@@ -2,7 +2,7 @@
 
 use super::draft::{Draft, NO_WAY};
 use crate::oracle::mark::Mark;
-use crate::oracle::plan::{Router, CLIENT, SKIPPING};
+use crate::oracle::plan::{Router, REFLECTOR};
 use std::collections::BTreeSet;
 
 /// Two reflectors with a client each: `p` is the distance from 0 to 3, `q`
@@ -11,8 +11,7 @@ pub fn draft(p: u32, q: u32, lists: &[&[usize]]) -> Draft {
     let distances = [[0, 30, 10, p], [30, 0, q, 10], [30, 30, 0, 30], [30, 30, 30, 0]];
     Draft {
         mark: Mark::Rrp1,
-        reflector: vec![true, true, false, false],
-        skips: BTreeSet::new(),
+        roles: vec![1, 1, 2, 2],
         identifiers: vec![10, 20, 30, 40],
         sessions: BTreeSet::from([(0, 1), (0, 2), (1, 3)]),
         distances: distances.map(Vec::from).to_vec(),
@@ -32,8 +31,7 @@ pub fn with_cuts(list: &[usize], cuts: &[(usize, usize)]) -> Draft {
 pub fn lone_reflectors(n: usize) -> Draft {
     Draft {
         mark: Mark::Rrp1,
-        reflector: vec![true; n],
-        skips: BTreeSet::new(),
+        roles: vec![REFLECTOR; n],
         identifiers: (0..n as u32).collect(),
         sessions: BTreeSet::new(),
         distances: vec![vec![0; n]; n],
@@ -42,14 +40,14 @@ pub fn lone_reflectors(n: usize) -> Draft {
 }
 
 /// Reflector 0 with clients 2, 3 and 4, and reflector 1 with client 5; sessions
-/// between the reflectors and between clients 3 and 4. Client 2 is in no mesh.
-pub fn two_sites(skips: &[usize], lists: &[&[usize]]) -> Draft {
+/// between the reflectors, which have these roles, and between clients 3 and 4. Client 2
+/// is in no mesh.
+pub fn two_sites([of_0, of_1]: [u8; 2], lists: &[&[usize]]) -> Draft {
     let distances = [[0, 30, 5, 10, 30, 6], [4, 0, 30, 6, 30, 10]].map(Vec::from);
     let of_clients = (2..6).map(|from| (0..6).map(|to| if from == to { 0 } else { 30 }).collect());
     Draft {
         mark: Mark::Rrp1,
-        reflector: (0..6).map(|router| router < 2).collect(),
-        skips: skips.iter().copied().collect(),
+        roles: vec![of_0, of_1, 2, 2, 2, 2],
         identifiers: (1..=6).map(|place| 10 * place).collect(),
         sessions: BTreeSet::from([(0, 1), (0, 2), (0, 3), (0, 4), (1, 5), (3, 4)]),
         distances: distances.into_iter().chain(of_clients).collect(),
@@ -63,8 +61,7 @@ pub fn star(centre: Router, roles: &[u8]) -> Draft {
     let others = (0..n).filter(|&other| other != centre);
     Draft {
         mark: Mark::Rrp1,
-        reflector: roles.iter().map(|&role| role != CLIENT).collect(),
-        skips: (0..n).filter(|&router| roles[router] == SKIPPING).collect(),
+        roles: roles.to_vec(),
         identifiers: (1..=n as u32).map(|place| 10 * place).collect(),
         sessions: others.map(|other| (centre.min(other), centre.max(other))).collect(),
         distances: vec![vec![0; n]; n],

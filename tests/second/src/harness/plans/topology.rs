@@ -1,7 +1,7 @@
 //! Who is a reflector and who has a session with whom, in several shapes.
 
 use crate::harness::random::Random;
-use crate::oracle::plan::{Router, MOST_PARENTS};
+use crate::oracle::plan::{Router, CLIENT, MOST_PARENTS, REFLECTOR, SKIPPING, STEPPING, STEPPING_AND_SKIPPING};
 use std::collections::BTreeSet;
 
 /// All pairs of routers below n, the lower one first.
@@ -76,11 +76,39 @@ fn mesh_clients(random: &mut Random, (reflector, sessions): &mut Topology) {
     }
 }
 
-/// Which reflectors skip their own clients: none in two of five plans, else some
-/// or all.
-pub fn skipping(random: &mut Random, reflector: &[bool]) -> BTreeSet<Router> {
-    let share = random.pick(&[0, 0, 30, 60, 100]);
-    (0..reflector.len()).filter(|&router| reflector[router] && random.chance(share)).collect()
+/// The roles of reflectors and clients, in which no reflector skips its own clients or has
+/// the hop step.
+pub fn plain_roles(reflector: &[bool]) -> Vec<u8> {
+    reflector.iter().map(|&reflector| if reflector { REFLECTOR } else { CLIENT }).collect()
+}
+
+/// The roles of reflectors and clients. None of the reflectors skip their own clients in
+/// two of five plans, else some or all. None have the hop step in half of the plans, all in
+/// one of ten, else few or many.
+pub fn drawn_roles(random: &mut Random, reflector: &[bool]) -> Vec<u8> {
+    let skipping = random.pick(&[0, 0, 30, 60, 100]);
+    let stepping = random.pick(&[0, 0, 0, 0, 0, 15, 15, 40, 70, 100]);
+    let mut role = |reflector: bool| {
+        if !reflector {
+            return CLIENT;
+        }
+        let role = if random.chance(skipping) { SKIPPING } else { REFLECTOR };
+        if random.chance(stepping) {
+            with_step(role)
+        } else {
+            role
+        }
+    };
+    reflector.iter().map(|&reflector| role(reflector)).collect()
+}
+
+/// The same role with the hop step, if it is a reflector's.
+pub fn with_step(role: u8) -> u8 {
+    match role {
+        REFLECTOR => STEPPING,
+        SKIPPING => STEPPING_AND_SKIPPING,
+        _ => role,
+    }
 }
 
 /// Random roles; each session is there with the given chance.
