@@ -1,4 +1,4 @@
--- What a router chooses is determined by what the routers that it relies on hold, if all entries that it sees are clean.
+-- What a router chooses is determined by what the neighbours that it relies on hold, if the entries of all its neighbours are clean.
 use Prim.Native.Nat.{ℕ, _<_}
 use native.Mathlib.Omega.{arith}
 use mathlib.Core.Path.{_≡_, refl, _∙_, sym, ap}
@@ -127,6 +127,10 @@ choice-by prefer other tells n agree (via e s) g =
 unfoldable listedNeighbour : Instance → ℕ → ℕ → Bool
 listedNeighbour I w e = I .neighbour w e && I .listed e && I .way w e
 
+-- of w's neighbours every entry that w sees is clean
+abbrev pub CleanAround : Instance → ℕ → (ℕ → Route) → Type 0
+CleanAround I w view = (v : ℕ) → v < I .n → I .neighbour w v ≡ true → CleanEntry I v (view v)
+
 module _ (I : Instance) (w : ℕ) where
   -- the order of its choice where all entries that w sees are clean
   abbrev settledOrder : ℕ → ℕ → Bool
@@ -134,7 +138,7 @@ module _ (I : Instance) (w : ℕ) where
 
   -- A reflector that sees clean entries is told by its own egress exactly what its listed neighbours tell: no other reflector passes on to
   -- it a route to itself.
-  module _ (view : ℕ → Route) (role : I .reflector w ≡ true) (e : ℕ) (clean : CleanEntry I e (view e)) where
+  module _ (view : ℕ → Route) (role : I .reflector w ≡ true) (e : ℕ) (clean : I .neighbour w e ≡ true → CleanEntry I e (view e)) where
     not-itself : I .listed e ≡ false → hears I view w e e ≡ true → ⊥
     not-itself p h = go (I .reflector e) refl
       where
@@ -149,7 +153,7 @@ module _ (I : Instance) (w : ℕ) where
         go true r =
             let f : FromClient I (view e) e = reflects-client I e (view e) w e role (sym (advertises-reflector I e (view e) w p r) ∙ told) in
             let b : IsBest (nearer I e) (listedClientOf I e) (I .n) e
-            = rw (clean e (f .sender) (f .holds) p r (f .client)) at (bestClient-is I e) in
+            = rw (clean (hears-neighbour I view w e e h) e (f .sender) (f .holds) p r (f .client)) at (bestClient-is I e) in
             not-both (I .reflector e) r (client-no-reflector I e e (b .among))
 
     clean-direct : heardDirect I view w e ≡ listedNeighbour I w e
@@ -162,7 +166,7 @@ module _ (I : Instance) (w : ℕ) where
         go false p false q = cc (and-false (I .neighbour w e))
 
   -- .. and at a client who tells a route plays no part
-  order-is : (view : ℕ → Route) → ((v : ℕ) → v < I .n → CleanEntry I v (view v)) → (e f : ℕ) → e < I .n → f < I .n
+  order-is : (view : ℕ → Route) → CleanAround I w view → (e f : ℕ) → e < I .n → f < I .n
       → prefersBy I w (heardDirect I view w) e f ≡ settledOrder e f
   order-is view clean e f l m = go (I .reflector w) refl
     where
@@ -260,12 +264,12 @@ module _ (I : Instance) (w : ℕ) (unlisted : I .listed w ≡ false) where
 
 module _ (I : Instance) (w : ℕ) (t u : ℕ → Route) where
   -- determinacy, over any two views
-  pub determined : ((v : ℕ) → v < I .n → CleanEntry I v (t v)) → ((v : ℕ) → v < I .n → CleanEntry I v (u v))
-      → ((v : ℕ) → v < I .n → relies I w v ≡ true → t v ≡ u v) → choose I w t ≡ choose I w u
+  pub determined : CleanAround I w t → CleanAround I w u
+      → ((v : ℕ) → v < I .n → I .neighbour w v ≡ true → relies I w v ≡ true → t v ≡ u v) → choose I w t ≡ choose I w u
   determined clean-t clean-u agree = go (I .listed w) refl
     where
       -- what w chooses by a clean view, in the one order of all of them
-      chosen : I .listed w ≡ false → (view : ℕ → Route) → ((v : ℕ) → v < I .n → CleanEntry I v (view v))
+      chosen : I .listed w ≡ false → (view : ℕ → Route) → CleanAround I w view
           → ChoiceIs (settledOrder I w) (hears I view w) (I .n) (choose I w view)
       chosen p view clean =
           choice-by _ (settledOrder I w) (hears I view w) (I .n) (order-is I w view clean) (choose I w view) (choose-is I w view p)
@@ -278,8 +282,37 @@ module _ (I : Instance) (w : ℕ) (t u : ℕ → Route) where
       go false p =
           choice-unique (settledOrder I w) (hears I u w) (I .n) ordered (choose I w t) (choose I w u)
           (same-choice (settledOrder I w) ordered (bestClient I w) (I .n) (hears I t w) (hears I u w) (anchored I w p t) (anchored I w p u)
-          (λ v f l m h. covered I w p t u v f (clean-t v l) (agree v l) h)
-          (λ v f l m h. covered I w p u t v f (clean-u v l) (λ r. sym (agree v l r)) h)
+          (λ v f l m h. let a = hears-neighbour I t w v f h in covered I w p t u v f (clean-t v l a) (agree v l a) h)
+          (λ v f l m h. let a = hears-neighbour I u w v f h in covered I w p u t v f (clean-u v l a) (λ r. sym (agree v l a r)) h)
           (choose I w t)
           (chosen p t clean-t))
           (chosen p u clean-u)
+
+-- A router chooses by what it sees its neighbours hold, and by nothing else.
+module _ (I : Instance) (w : ℕ) (t u : ℕ → Route) (same : (v : ℕ) → v < I .n → I .neighbour w v ≡ true → t v ≡ u v) where
+  hears-same : (v e : ℕ) → v < I .n → hears I t w v e ≡ hears I u w v e
+  unfolding hears
+  hears-same v e l = go (I .neighbour w v) refl
+    where
+      go : (b : Bool) → I .neighbour w v ≡ b → hears I t w v e ≡ hears I u w v e
+      go true p = cc (same v l p)
+      go false p = cc
+
+  pub neighbours-alone : choose I w t ≡ choose I w u
+  neighbours-alone = go (I .listed w) refl
+    where
+      ordered : StrictOrder (prefersBy I w (heardDirect I u w))
+      ordered = prefersBy-order I w (heardDirect I u w)
+
+      go : (b : Bool) → I .listed w ≡ b → choose I w t ≡ choose I w u
+      go true p = choose-listed I w t p ∙ sym (choose-listed I w u p)
+      go false p =
+          choice-unique (prefersBy I w (heardDirect I u w)) (hears I u w) (I .n) ordered (choose I w t) (choose I w u)
+          (same-choice (prefersBy I w (heardDirect I u w)) ordered (bestClient I w) (I .n) (hears I t w) (hears I u w) (anchored I w p t)
+          (anchored I w p u) (λ v f l m h. inl (sym (hears-same v f l) ∙ h)) (λ v f l m h. inl (hears-same v f l ∙ h))
+          (choose I w t)
+          (choice-by _ _ (hears I t w) (I .n)
+          (λ e f l m. prefersBy-alike I w (heardDirect I t w) (heardDirect I u w) e f (hears-same e e l) (hears-same f f m))
+          (choose I w t)
+          (choose-is I w t p)))
+          (choose-is I w u p)

@@ -17,7 +17,7 @@ use Rattle.route_rules.proofs.Routes.{choose-ok, activate-own, activate-none}
 use Rattle.route_theorems.specs.Settled.{chooseAll, chosenAfter, settledTable}
 use Rattle.route_theorems.specs.Claims.{Ranked, IsTable, Steady}
 use Rattle.route_theorems.proofs.Clean.{CleanEntry, choose-clean}
-use Rattle.route_theorems.proofs.Determinacy.{determined}
+use Rattle.route_theorems.proofs.Determinacy.{CleanAround, determined}
 
 module _ (I : Instance) where
   -- a table is steady exactly if every router holds what it would choose
@@ -59,9 +59,9 @@ module _ (I : Instance) (rank : ℕ → ℕ) (R : ℕ) (r : Ranked I rank R) whe
   chosen-agree (suc k) w l h =
       chosen-at I k w l
       ∙ determined I w (held (chosenAfter I k)) (held (chosenAfter I (suc k)))
-      (λ v m. chosen-clean I k v (omega arith) m)
-      (λ v m. chosen-clean I (suc k) v (omega arith) m)
-      (λ v m p. chosen-agree k v m (omega (arith, r .falls w v l m p)))
+      (λ v m _. chosen-clean I k v (omega arith) m)
+      (λ v m _. chosen-clean I (suc k) v (omega arith) m)
+      (λ v m _ p. chosen-agree k v m (omega (arith, r .falls w v l m p)))
       ∙ sym (chosen-at I (suc k) w l)
 
   pub settled-length : IsTable I (settledTable I R)
@@ -76,11 +76,17 @@ module _ (I : Instance) (rank : ℕ → ℕ) (R : ℕ) (r : Ranked I rank R) whe
   unfolding settledTable
   settled-holds w l = sym (chosen-at I (R + 2) w l) ∙ sym (chosen-agree (R + 2) w l (omega (arith, r .highest w l)))
 
-  -- who sees clean entries, and the settled ones at the routers that it relies on, chooses its settled entry
+  -- who sees clean entries at its neighbours, and the settled ones at those that it relies on, chooses its settled entry
+  pub neighbours-settle : (w : ℕ) (view : ℕ → Route) → w < I .n → CleanAround I w view
+      → ((v : ℕ) → v < I .n → I .neighbour w v ≡ true → relies I w v ≡ true → view v ≡ held (settledTable I R) v)
+      → choose I w view ≡ held (settledTable I R) w
+  neighbours-settle w view l clean agree =
+      determined I w view (held (settledTable I R)) clean (λ v m _. settled-clean v m) agree ∙ settled-holds w l
+
+  -- .. as who sees this of all routers
   pub chooses-settled : (w : ℕ) (view : ℕ → Route) → w < I .n → ((v : ℕ) → v < I .n → CleanEntry I v (view v))
       → ((v : ℕ) → v < I .n → relies I w v ≡ true → view v ≡ held (settledTable I R) v) → choose I w view ≡ held (settledTable I R) w
-  chooses-settled w view l clean agree =
-      determined I w view (held (settledTable I R)) clean settled-clean agree ∙ settled-holds w l
+  chooses-settled w view l clean agree = neighbours-settle w view l (λ v m _. clean v m) (λ v m _. agree v m)
 
   pub settled-legal : tableOk I (settledTable I R) ≡ true
   unfolding tableOk

@@ -1,8 +1,13 @@
+pub mod Moments
 pub mod Clean
 pub mod Determinacy
 pub mod Existence
 pub mod Settling
 pub mod Uniqueness
+pub mod DelayedRuns
+pub mod DelayedExamples
+pub mod DelayedSharpness
+pub mod Ranking
 pub mod Sharpness
 pub mod Senders
 pub mod Nobody

@@ -1,15 +1,12 @@
 -- The bound cannot be lowered: highest rank 1, two rounds, and a client still holds what nobody has to give.
-use Prim.Native.Nat.{ℕ, _<_}
+use Prim.Native.Nat.{ℕ}
 use native.Mathlib.Omega.{arith}
 use mathlib.Core.Path.{_≡_, refl, _∙_, sym, ap}
-use mathlib.Core.Bool.{Bool, true, false, not, _&&_, _||_}
+use mathlib.Core.Bool.{Bool, true, false, _&&_, _||_}
 use mathlib.Core.List.{List, [], _∷_}
 use lib.Dec.{ltb, leb, eqb}
-use borrow.Author.Tests.{ltb-true, leb-true}
 use Rattle.base.specs.Below.{allBelow, anyBelow}
 use Rattle.base.specs.Best.{keepBest, best}
-use Rattle.base.proofs.Below.{all-at}
-use Rattle.base.proofs.Numbers.{not-both}
 use Rattle.base.specs.Tab.{tab}
 use Rattle.route_rules.specs.Instance.{Instance, Route, nothing, via}
 use Rattle.route_rules.specs.Preference.{nearer, hasStep, hops, prefers, prefersBy}
@@ -18,6 +15,7 @@ use Rattle.route_rules.specs.Activation.{reflects, advertises, hears, senderOf,
 use Rattle.route_rules.specs.Rounds.{acted, roundsFrom, rounds}
 use Rattle.route_theorems.specs.Settled.{chooseAll, chosenAfter, settledTable}
 use Rattle.route_theorems.specs.Claims.{Ranked, BoundIsSharp}
+use Rattle.route_theorems.proofs.Ranking.{ranked-by}
 
 session : ℕ → ℕ → ℕ → ℕ → Bool
 session a b w v = eqb a w && eqb b v || eqb a v && eqb b w
@@ -66,14 +64,10 @@ unfolding network settledTable chosenAfter chooseAll tab choose choice routeTo s
 settled-none = refl
 
 -- the ranks fall along every reliance of these five, and none is above 1
-fallsAt : ℕ → ℕ → Bool
-fallsAt w v = not (relies network w v) || ltb (rank v) (rank w)
-
-all-fall : allBelow (λ w. allBelow (fallsAt w) 5) 5 ≡ true
+ranked : Ranked network rank 1
 unfolding
     network
     rank
-    fallsAt
     relies
     bestClient
     offer
@@ -86,27 +80,7 @@ unfolding
     best
     keepBest
     allBelow
-all-fall = refl
-
-all-low : allBelow (λ w. leb (rank w) 1) 5 ≡ true
-unfolding rank allBelow
-all-low = refl
-
-falls : (w v : ℕ) → relies network w v ≡ true → fallsAt w v ≡ true → rank v < rank w
-unfolding fallsAt
-falls w v h k = ltb-true (rank v) (rank w) (go (relies network w v) h k)
-  where
-    go : (b : Bool) → b ≡ true → (not b || ltb (rank v) (rank w)) ≡ true → ltb (rank v) (rank w) ≡ true
-    go true p q = q
-    go false p q = not-both false p refl
-
-ranked : Ranked network rank 1
-unfolding network
-ranked =
-    record {
-      falls = λ w v l m h. falls w v h (all-at (fallsAt w) 5 (all-at (λ w. allBelow (fallsAt w) 5) 5 all-fall w l) v m);
-      highest = λ w l. leb-true (rank w) 1 (all-at (λ w. leb (rank w) 1) 5 all-low w l);
-    }
+ranked = ranked-by network rank 1 refl refl
 
 pub bound-is-sharp : BoundIsSharp
 unfolding network start
