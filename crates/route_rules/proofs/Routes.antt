@@ -18,7 +18,7 @@ use Rattle.base.proofs.Best.{StrictOrder, BestIs, IsBest, best-is, order-same, 
 use Rattle.route_rules.specs.Instance.{Instance, Route, nothing, via, isRouter}
 use Rattle.route_rules.specs.Preference.{prefersBy}
 use Rattle.route_rules.specs.Activation.{reflects, advertises, Advertising, hears, Hearing, heardDirect, senderOf, routeFrom, routeTo, choice, choose, EntryTells, held, entryOk, tableOk, activate, runActs}
-use Rattle.route_rules.proofs.Preference.{prefersBy-order}
+use Rattle.route_rules.proofs.Preference.{prefersBy-order, prefersBy-alike}
 
 pub isRouter-same : (v : ℕ) (o : Option ℕ) → isRouter v o ≡ true → o ≡ some v
 isRouter-same v none h = not-both false h refl
@@ -241,6 +241,36 @@ entry-tells I w view unlisted e s h = go (heardDirect I view w e) refl
     go true p = p ∙ sym (eq-eqb s e (c .itself p))
     go false p =
         p ∙ sym (ne-eqb s e (λ q. not-both (hears I view w e e) (ap (λ v. hears I view w v e) (sym q) ∙ c .told) p))
+
+-- What w chooses depends on what it is told alone: equal advertisements, equal choice.
+module _ (I : Instance) (w : ℕ) (f g : ℕ → Route) (same : (v : ℕ) → v < I .n → advertises I v (f v) w ≡ advertises I v (g v) w) where
+  hears-same : (v e : ℕ) → v < I .n → hears I f w v e ≡ hears I g w v e
+  unfolding hears
+  hears-same v e l = ap (λ o. I .neighbour w v && isRouter e o && I .way w e) (same v l)
+
+  choice-same : (x : Route) → ChoiceIs (prefersBy I w (heardDirect I f w)) (hears I f w) (I .n) x
+      → ChoiceIs (prefersBy I w (heardDirect I g w)) (hears I g w) (I .n) x
+  choice-same nothing c = λ v e l m. sym (hears-same v e l) ∙ c v e l m
+  choice-same (via e s) c =
+      record {
+        egress = c .egress;
+        sender = c .sender;
+        told = sym (hears-same s e (c .sender)) ∙ c .told;
+        unbeaten = λ v k l m h.
+            sym (prefersBy-alike I w (heardDirect I f w) (heardDirect I g w) k e (hears-same k k m) (hears-same e e (c .egress)))
+            ∙ c .unbeaten v k l m (hears-same v k l ∙ h);
+        itself = λ h. c .itself (hears-same e e (c .egress) ∙ h);
+        lowest = λ h v l p. c .lowest (hears-same e e (c .egress) ∙ h) v l (hears-same v e l ∙ p);
+      }
+
+  pub choose-told : choose I w f ≡ choose I w g
+  choose-told = go (I .listed w) refl
+    where
+      go : (b : Bool) → I .listed w ≡ b → choose I w f ≡ choose I w g
+      go true p = choose-listed I w f p ∙ sym (choose-listed I w g p)
+      go false p =
+          choice-unique (prefersBy I w (heardDirect I g w)) (hears I g w) (I .n) (prefersBy-order I w (heardDirect I g w))
+          (choose I w f) (choose I w g) (choice-same (choose I w f) (choose-is I w f p)) (choose-is I w g p)
 
 module _ (I : Instance) where
   -- an activation changes no entry but the router's own

@@ -1,0 +1,13 @@
+pub mod Examples
+pub mod Numbers
+pub mod Listing
+pub mod Stages
+pub mod Solutions
+pub mod GroupByGroup
+pub mod Told
+pub mod Kept
+pub mod Tables
+pub mod Solved
+pub mod Members
+pub mod SteadyTables
+pub mod Marking
