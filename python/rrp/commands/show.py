@@ -24,7 +24,7 @@ _WHOLE = {"break_long_words": False, "break_on_hyphens": False}
 _NONE_ENDS_IT = (
     "no change above makes the list stable by itself: make one of them in the plan,",
     "and show the list again for the cycle that is left; or change a session or the list,",
-    "or give one of the reflectors the hop step",
+    "or give reflectors of the cycle the hop step",
 )
 
 

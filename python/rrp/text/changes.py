@@ -35,6 +35,7 @@ from .writing import identifier_text
 _FILE = "--set"
 
 _ADVICE = "a change is a link, distance, session, list or reflector, as: link lon-rr par-a 12"
+_NAME_A_REFLECTOR = "name a reflector of the plan, as: reflector lon-rr hop-step"
 
 
 class Kind(NamedTuple):
@@ -148,7 +149,7 @@ def _change(gathering: Gathering, first: Word, statement: Statement) -> None:
         if statement.name.text in gathering.draft.lists or gathering.room_for_list(statement.name):
             gathering.draft.lists[statement.name.text] = gathering.members(statement)
     elif isinstance(statement, RouterStatement) and statement.role != CLIENT:
-        if gathering.known(statement.name):
+        if gathering.known(statement.name, _NAME_A_REFLECTOR):
             _change_reflector(gathering, statement)
     else:
         gathering.problem(first, f"{first.text} is no change", _ADVICE)
@@ -190,8 +191,8 @@ def _change_reflector(gathering: Gathering, statement: RouterStatement) -> None:
     routers, name, stated = gathering.draft.routers, statement.name, statement.identifier
     router = routers[name.text]
     if router.role == CLIENT:
-        advice = "name a reflector, as: reflector lon-rr hop-step"
-        gathering.problem(name, f"{name.text} is a client, and stays one in a change", advice)
+        message = f"{name.text} is a client, and stays one in a change"
+        gathering.problem(name, message, _NAME_A_REFLECTOR)
     elif stated not in (None, router.identifier):
         message = f"the identifier of {name.text} is {identifier_text(router.identifier)}"
         advice = "a change leaves identifiers as they are: leave it out"

@@ -64,15 +64,15 @@ class Gathering:
         """Adds a problem."""
         self.problems.append(Problem(word, message, advice))
 
-    def known(self, word: Word) -> bool:
-        """Whether a word is the name of a router; a problem if not."""
+    def known(self, word: Word, otherwise: str | None = None) -> bool:
+        """Whether a word is the name of a router; a problem if not, with what to do otherwise."""
         if word.text in self.draft.routers:
             return True
         if word.text in REFLECTOR_WORDS:
             self.problems.append(reflectors_alone(word).problem)
             return False
         near = guess(word.text, self.draft.routers, self.problems)
-        add = f"add a line for it, as: client {word.text} IDENTIFIER of REFLECTOR"
+        add = otherwise or f"add a line for it, as: client {word.text} IDENTIFIER of REFLECTOR"
         advice = f"did you mean {near}? Else {add}" if near else add
         self.problem(word, f"no router is named {word.text}", advice)
         return False
