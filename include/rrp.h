@@ -41,8 +41,8 @@ extern "C" {
 typedef char rrp_size_t_has_64_bits[sizeof(size_t) == 8 ? 1 : -1];
 
 /* What a call returns: 0, or the number of the first check that fails, which need not be the lowest that applies. The order of
- * the checks is, for a plan, 1, 2, 3, 4, 5, 13, 6, 7, 14, 8, 9, 10; for a link sheet, 2, 11, 12, 9. Check 14 is that of rrp_narrow
- * alone. */
+ * the checks is, for a plan, 1, 2, 3, 4, 5, 13, 6, 7, 14, 8, 15, 9, 10; for a link sheet, 2, 11, 12, 9. Check 14 is that of rrp_narrow
+ * alone, and check 15 that of rrp_steady. */
 enum rrp_refusal {
     /* not refused */
     RRP_OK = 0,
@@ -74,7 +74,9 @@ enum rrp_refusal {
     /* a client has sessions with five or more reflectors */
     RRP_TOO_MANY_PARENTS = 13,
     /* a distance that is not no way is above 65,534, too far for two bytes */
-    RRP_TOO_FAR_TO_NARROW = 14
+    RRP_TOO_FAR_TO_NARROW = 14,
+    /* more than 12 routers lie in groups of two or more */
+    RRP_TOO_MANY_GROUPED = 15
 };
 
 /* By which rule a router relies on another. */
@@ -120,6 +122,10 @@ enum {
     /* the most links of a sheet, four bytes each, and the most bytes that rrp_distances writes, those of 64 routers */
     RRP_MAX_LINKS = 512,
     RRP_MAX_DISTANCES = 8192,
+    /* the most routers in groups of two or more that rrp_steady takes, and bytes enough for what it writes of them: two for each of
+     * as many numbers as have so many bits */
+    RRP_MAX_GROUPED = 12,
+    RRP_MAX_STEADY = 8192,
     /* the distance, of two bytes, from a router to another that it has no way to */
     RRP_NO_WAY = 65535,
     /* no router, in a table */
@@ -182,6 +188,14 @@ uint8_t rrp_explain(const uint8_t *plan, size_t plan_len, size_t list, size_t ro
 uint8_t rrp_verdict(const uint8_t *plan, size_t plan_len, size_t list, uint8_t *labels, size_t labels_len, uint8_t *ranks,
                     size_t ranks_len, uint8_t *table, size_t table_len, uint8_t *cycle, size_t cycle_len, uint8_t *stable,
                     uint64_t *size);
+
+/* Lists the tables of the plan for a list that no activation changes. *count becomes how many they are: a stable list has one, the
+ * table of its verdict, and a suspect one may have none, one or several. Each has a number. Bit i of it is for the i-th router, lowest
+ * first, of those in groups of two or more, which are the routers that share their label of rrp_verdict with another: it is set if that
+ * router holds its best client's own route, from that client itself. No two of the tables have one number. Needs two bytes of out for
+ * each number. out[2 * i] and the byte after it become the i-th number, low byte first, the numbers rising. The table of a stable list
+ * has the number 0. Refusals 1 to 9, 13 and 15; 15 comes before 9. */
+uint8_t rrp_steady(const uint8_t *plan, size_t plan_len, size_t list, uint8_t *out, size_t out_len, uint64_t *count);
 
 /* Activates one router, in the table's 2n bytes: a router of the list keeps its own route, and any other then holds the best route
  * that a neighbour advertises to it at that moment, of those whose egress it has a way to, or none. No other router's entry

@@ -130,6 +130,19 @@ flushes() {
         [ "$("$out/flush" "$plan" 2 0)" = "list 0 names 2" ] && [ "$("$out/flush" "$plan" 2 4)" = "refused 8" ]
 }
 
+# The tables that no activation changes by the C example, its lines joined; or the refusal.
+lists_steady() {
+    local list expected
+    while IFS='|' read -r list expected; do
+        [ "$("$out/steady" examples/m3.plan "$list" | paste -sd,)" = "$expected" ] ||
+            { echo "embedding: steady $list is not: $expected"; return 1; }
+    done <<'END'
+0|1: 0 own 1 other,2: 0 other 1 own
+1|0:
+3|refused 8
+END
+}
+
 # What the other C examples say for a list of nobody: its verdict among others', why routers rely on others, a run.
 on_list_of_nobody() {
     local name=tests/verdict/nobody-listed-among-others
@@ -225,7 +238,7 @@ own_tests() {
 }
 
 mkdir -p "$out"
-rm -f "$out/verdicts" "$out/compare" "$out/why" "$out/run" "$out/distances" "$out/convert" "$out/flush" "$out/stack"
+rm -f "$out/verdicts" "$out/compare" "$out/why" "$out/run" "$out/distances" "$out/convert" "$out/flush" "$out/steady" "$out/stack"
 try "the library" rt staticlib rrp
 try "the header as C99" gcc -std=c99 -pedantic -Wall -Wextra -Werror -Iinclude -fsyntax-only -x c include/rrp.h
 try "the header as C++" g++ -std=c++11 -pedantic -Wall -Wextra -Werror -Iinclude -fsyntax-only -x c++ include/rrp.h
@@ -246,6 +259,8 @@ try "the C example of a conversion" example convert
 try "the C example's conversions" converts
 try "the C example of a flush" example flush
 try "the C example's flush" flushes
+try "the C example of steady tables" example steady
+try "the C example's steady tables" lists_steady
 try "the C examples on a list of nobody" on_list_of_nobody
 try "the C examples as documented" prints_as_documented
 try "the library's size in a program" measures_size

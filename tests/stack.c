@@ -18,12 +18,12 @@ static ucontext_t caller, callee;
 static uint8_t plan[RRP_MAX_PLAN + 1];
 static size_t length, router, other;
 static uint8_t labels[RRP_MAX_ROUTERS], ranks[RRP_MAX_ROUTERS], settled[RRP_MAX_TABLE], cycle[RRP_MAX_ROUTERS];
-static uint8_t table[RRP_MAX_TABLE], sequence[ACTIVATIONS];
+static uint8_t table[RRP_MAX_TABLE], sequence[ACTIVATIONS], numbers[RRP_MAX_STEADY];
 static uint8_t links[4 * LINKS], body[2 * RRP_MAX_ROUTERS * RRP_MAX_ROUTERS];
 static uint8_t rrp1[RRP_MAX_PLAN], rrp2[RRP_MAX_PLAN], result[RRP_MAX_PLAN];
 static uint64_t rrp1_length, rrp2_length, written;
 static uint8_t refused, better, has_margin, relied, code, has_own, stable, exhausted;
-static uint64_t routers, lists, start, count, offer, own, found, applied, rounds;
+static uint64_t routers, lists, start, count, offer, own, found, tables, applied, rounds;
 static int64_t margin;
 
 static void nothing(void) {}
@@ -41,6 +41,7 @@ static void verdict(void)
     refused = rrp_verdict(plan, length, 0, labels, sizeof labels, ranks, sizeof ranks, settled, sizeof settled, cycle, sizeof cycle,
                           &stable, &found);
 }
+static void steady(void) { refused = rrp_steady(plan, length, 0, numbers, sizeof numbers, &tables); }
 static void activate(void) { refused = rrp_activate(plan, length, 0, router, table, sizeof table); }
 static void run(void)
 {
@@ -54,9 +55,10 @@ static const struct {
     const char *name;
     void (*make)(void);
 } calls[] = {
-    { "rrp_check", check },   { "rrp_size", plan_size },      { "rrp_list", list },       { "rrp_compare", compare },
-    { "rrp_relies", relies }, { "rrp_explain", explain },     { "rrp_verdict", verdict }, { "rrp_activate", activate },
-    { "rrp_run", run },       { "rrp_distances", distances }, { "rrp_widen", widen },     { "rrp_narrow", narrow },
+    { "rrp_check", check },     { "rrp_size", plan_size },  { "rrp_list", list },           { "rrp_compare", compare },
+    { "rrp_relies", relies },   { "rrp_explain", explain }, { "rrp_verdict", verdict },     { "rrp_steady", steady },
+    { "rrp_activate", activate }, { "rrp_run", run },       { "rrp_distances", distances }, { "rrp_widen", widen },
+    { "rrp_narrow", narrow },
 };
 
 /* Ends the program if the last call was refused. */

@@ -11,12 +11,13 @@ from typing import TYPE_CHECKING
 if TYPE_CHECKING:
     from .errors import LibraryMissing, RrpError, UnknownName
     from .library import Refused
-    from .plan import Comparison, Explanation, Plan, Run, TooFarToNarrow, Verdict
+    from .plan import Comparison, Explanation, Plan, Run, TooFarToNarrow, TooManyGrouped, Verdict
+    from .steady import Steady, SteadyTable
     from .tables import Route, Table
     from .text import TextErrors
 
 #: The version of the package, which `rrp --version` writes; pyproject.toml has it too.
-__version__ = "1.4.0"
+__version__ = "1.5.0"
 
 #: The names of the package, and the modules that they are of.
 _HOMES = {
@@ -28,9 +29,12 @@ _HOMES = {
     "Route": "tables",
     "RrpError": "errors",
     "Run": "plan",
+    "Steady": "steady",
+    "SteadyTable": "steady",
     "Table": "tables",
     "TextErrors": "text",
     "TooFarToNarrow": "plan",
+    "TooManyGrouped": "plan",
     "UnknownName": "errors",
     "Verdict": "plan",
 }

@@ -22,6 +22,7 @@ COMMANDS = {
     "check": "judge a plan for each of its lists",
     "show": "name the lists, or explain the verdict for one",
     "why": "explain why a router relies on another, or does not",
+    "steady": "show the tables that no activation changes, side by side",
     "run": "activate routers one by one, and say what changes",
     "dot": "write who relies on whom as a Graphviz picture",
     "pack": "write a text plan as bytes",

@@ -11,6 +11,7 @@ from typing import NamedTuple
 
 from .output import routers_do, verdict_values, verdict_words, without_route_lines
 from .plan import Plan, Verdict
+from .rest import Rest, rest_of
 from .table_files import route_values
 from .tables import Route
 
@@ -63,13 +64,16 @@ class Effect(NamedTuple):
     """What a change does to a list. `before` is None where the list was not there. `moved` has the
     routers that settle on another route and `ranked` those of another rank; both are None where
     there is nothing to compare, as the list is not stable both times. `members` is None where the
-    list was not there."""
+    list was not there. `rest` says where the list may rest where it is suspect after the change,
+    and `rested` where it might before; None where it is stable."""
 
     before: Verdict | None
     after: Verdict
     moved: list[Moved] | None
     ranked: list[Ranked] | None
     members: Members | None = Members()
+    rest: Rest | None = None
+    rested: Rest | None = None
 
     @property
     def as_before(self) -> bool | None:
@@ -100,13 +104,21 @@ class Effect(NamedTuple):
         return "same verdict" if self.after.stable else "same cycle"
 
     def lines(self) -> list[str]:
-        """What changes beside the verdict, and who ends without a route."""
-        changes = [*self._group_lines(), *_route_lines(self.moved or []), *self._rank_lines()]
+        """Where a suspect list may rest, what changes beside the verdict, and who ends without a
+        route."""
+        changes = [*self._rest_lines(), *self._group_lines()]
+        changes += [*_route_lines(self.moved or []), *self._rank_lines()]
         if self.moved is None and self.members is not None:
             changes += self.members.lines()
         if self.label is not None and not self.after.stable:
             changes.append("routes are not compared: a suspect list has no settled table")
         return [*changes, *without_route_lines(self.after)]
+
+    def _rest_lines(self) -> Iterator[str]:
+        """Where a suspect list may rest and, if that was said otherwise before, what was."""
+        if self.rest is not None:
+            other = self.rested is not None and self.rested.place != self.rest.place
+            yield f"{self.rest.words} (before: {self.rested.place})" if other else self.rest.words
 
     def _group_lines(self) -> Iterator[str]:
         if self.before is None or self.before.stable or self.after.stable:
@@ -126,8 +138,8 @@ class Effect(NamedTuple):
         values."""
         return {
             "routers": self.after.egresses,
-            "before": None if self.before is None else verdict_values(self.before),
-            "after": verdict_values(self.after),
+            "before": None if self.before is None else verdict_values(self.before, self.rested),
+            "after": verdict_values(self.after, self.rest),
             "same_verdict": self.label is not None,
             "as_before": self.as_before,
             "routes": None if self.moved is None else _route_values(self.moved),
@@ -139,12 +151,14 @@ class Effect(NamedTuple):
 def effect_on(name: str, plan: Plan, changed: Plan) -> Effect:
     """What a change does to a list of the changed plan."""
     after = changed.verdict(name)
+    rest = rest_of(changed, after)
     if name not in plan.lists:
-        return effect(None, after, None)
-    old, new = plan.egresses(name), changed.egresses(name)
+        return effect(None, after, None)._replace(rest=rest)
+    before, old, new = plan.verdict(name), plan.egresses(name), changed.egresses(name)
     added = tuple(router for router in new if router not in old)
     taken = tuple(router for router in old if router not in new)
-    return effect(plan.verdict(name), after, Members(added, taken))
+    found = effect(before, after, Members(added, taken))
+    return found._replace(rest=rest, rested=rest_of(plan, before))
 
 
 def effect(before: Verdict | None, after: Verdict, members: Members | None = Members()) -> Effect:

@@ -23,11 +23,15 @@ NO_WAY = 65535
 NO_WAY_WIDE = 4294967295
 NONE = 255
 
+#: No list has more steady tables: their numbers have a bit for each of at most 12 routers.
+MOST_STEADY = 4096
+
 #: The refusals that the tool asks for by name.
 BAD_TABLE = 10
 TOO_FAR = 12
 TOO_MANY_PARENTS = 13
 TOO_FAR_TO_NARROW = 14
+TOO_MANY_GROUPED = 15
 
 #: Why a call is refused, by number, in the words of docs/CALLS.md.
 REFUSALS = {
@@ -49,6 +53,7 @@ REFUSALS = {
     "65,534",
     13: "a client has sessions with five or more reflectors",
     14: "a distance that is not no way is above 65,534, too far for two bytes",
+    15: "more than 12 routers lie in groups of two or more",
 }
 
 
@@ -121,18 +126,13 @@ PROTOTYPES = {
     "rrp_verdict": (*_BYTES, _SIZE, *_BYTES, *_BYTES, *_BYTES, *_BYTES, _FLAG_OUT, _LONG_OUT),
     "rrp_activate": (*_BYTES, _SIZE, _SIZE, *_BYTES),
     "rrp_run": (*_BYTES, _SIZE, *_BYTES, _LONG, *_BYTES, _LONG_OUT, _LONG_OUT, _FLAG_OUT),
+    "rrp_steady": (*_BYTES, _SIZE, *_BYTES, _LONG_OUT),
     "rrp_distances": (_SIZE, *_BYTES, *_BYTES),
     "rrp_widen": (*_BYTES, *_BYTES, _LONG_OUT),
     "rrp_narrow": (*_BYTES, *_BYTES, _LONG_OUT),
 }
 
 _BUILD = "build it with ./build at the root of the repository"
-
-#: A plan of one router, of role 4. A library from before the hop step refuses it, and is not to be
-#: called as this one is.
-_ROLE_4 = bytes.fromhex(
-    "52525031 01 04 01 1a00 0500 02 1f00 0000 03 1f00 0200 04 2100 0200 04 00000000 0000 01 00"
-)
 
 
 def places() -> list[str]:
@@ -173,8 +173,6 @@ def _open(path: str) -> ctypes.CDLL:
             raise LibraryMissing(f"{path} has no {name}: {_BUILD}")
         function.argtypes = arguments
         function.restype = ctypes.c_uint8
-    if loaded.rrp_check(_ROLE_4, len(_ROLE_4)):
-        raise LibraryMissing(f"{path} is older than this tool: {_BUILD}")
     return loaded
 
 
@@ -289,6 +287,14 @@ def run(
     lent = sequence, len(sequence), most, held, len(table)
     _raise_if(library().rrp_run(plan, len(plan), number, *lent, applied, rounds, exhausted))
     return Ran(held.raw[: len(table)], applied.value, rounds.value, bool(exhausted.value))
+
+
+def steady(plan: bytes, egresses: int) -> tuple[int, ...]:
+    """The numbers of the tables of a list that no activation changes, rising (rrp_steady)."""
+    out, count = ctypes.create_string_buffer(2 * MOST_STEADY), ctypes.c_uint64()
+    _raise_if(library().rrp_steady(plan, len(plan), *_sizes(egresses), out, len(out), count))
+    written = out.raw[: 2 * count.value]
+    return tuple(low + 256 * high for low, high in zip(written[::2], written[1::2]))
 
 
 def distances(routers: int, links: bytes) -> bytes:

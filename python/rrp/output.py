@@ -4,11 +4,13 @@ from __future__ import annotations
 
 import sys
 from argparse import Namespace
-from collections.abc import Iterable, Sequence
+from collections.abc import Iterable, Mapping, Sequence
+from shlex import join
 
 from .encoding import CLIENT, WIDE, has_step
 from .errors import RrpError
 from .plan import Plan, Verdict
+from .rest import NO_PROMISE, Rest, any_table
 
 #: Who is in a list of nobody.
 NOBODY_LISTED = "no router is listed"
@@ -86,9 +88,26 @@ def verdict_words(verdict: Verdict) -> str:
     return f"suspect: {cycle_words(verdict.cycle)}"
 
 
-def verdict_lines(verdict: Verdict) -> list[str]:
-    """A verdict in a few words and, in lines of their own, who ends without a route."""
-    return [verdict_words(verdict), *without_route_lines(verdict)]
+def verdict_lines(verdict: Verdict, rest: Rest | None = None) -> list[str]:
+    """A verdict in a few words and, in lines of their own, where a suspect list may rest, if that
+    is given, and who ends without a route."""
+    where = [] if rest is None else [rest.words]
+    return [verdict_words(verdict), *where, *without_route_lines(verdict)]
+
+
+def rest_lines(path: str, rests: Mapping[str, Rest | None]) -> list[str]:
+    """What is said once of suspect lists, by name, that have a table to rest in: that this is no
+    promise, and how to see the tables of the first such list."""
+    if not any_table(rests.values()):
+        return []
+    name, rest = next((name, rest) for name, rest in rests.items() if any_table([rest]))
+    what = "table" if len(rest.numbers) == 1 else "tables"
+    return [NO_PROMISE, f"to see the {what} of {name}: {list_command('steady', path, name)}"]
+
+
+def list_command(command: str, path: str, name: str) -> str:
+    """A command on a list of a plan, as a shell takes it."""
+    return join(["rrp", command, path, *["--"] * name.startswith("-"), name])
 
 
 def without_route_lines(verdict: Verdict) -> list[str]:
@@ -117,14 +136,15 @@ def cycle_words(cycle: Sequence[str]) -> str:
     return " -> ".join([*cycle, *cycle[:1]])
 
 
-def list_values(verdict: Verdict) -> dict[str, object]:
-    """A list, its routers and its verdict, as plain values."""
-    return {"list": verdict.name, "routers": verdict.egresses, **verdict_values(verdict)}
+def list_values(verdict: Verdict, rest: Rest | None) -> dict[str, object]:
+    """A list, its routers, its verdict and where it may rest if it is suspect, as plain values."""
+    return {"list": verdict.name, "routers": verdict.egresses, **verdict_values(verdict, rest)}
 
 
-def verdict_values(verdict: Verdict) -> dict[str, object]:
-    """A verdict as plain values."""
+def verdict_values(verdict: Verdict, rest: Rest | None = None) -> dict[str, object]:
+    """A verdict and, if that is given, where a suspect list may rest, as plain values."""
     if verdict.stable:
         ranks = {"highest_rank": verdict.highest, "rounds": verdict.rounds}
         return {"stable": True, **ranks, "without_route": verdict.without_route}
-    return {"stable": False, "cycle": verdict.cycle, "groups": verdict.groups}
+    where = {} if rest is None else {"steady_numbers": rest.numbers}
+    return {"stable": False, "cycle": verdict.cycle, "groups": verdict.groups, **where}

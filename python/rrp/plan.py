@@ -15,11 +15,14 @@ from __future__ import annotations
 import os
 from collections.abc import Callable, Iterable, Sequence
 from functools import cached_property
-from typing import NamedTuple, Union
+from typing import TYPE_CHECKING, NamedTuple, Union
 
 from . import encoding, library
 from .errors import RrpError, cut_names, unknown
 from .tables import Route, Table
+
+if TYPE_CHECKING:
+    from .steady import Steady
 
 #: A router or a list, by name or by number.
 Which = Union[str, int]
@@ -39,6 +42,12 @@ REASONS = {
     8: "no way to the offer",
     9: "offer not better",
 }
+
+#: What to do where the tables of a list that no activation changes are not worked out.
+_INSTEAD = (
+    "rrp run PLAN LIST shows single runs, of which none promises anything of another; or end a",
+    "cycle and ask again: rrp show PLAN LIST has changes that end one",
+)
 
 #: What to do with a plan that is too far for RRP1.
 _KEEP = (
@@ -75,6 +84,12 @@ class Verdict(NamedTuple):
         """Whether nobody is in the list, as where a prefix is gone everywhere. Such a list is
         stable, and its routers settle on nothing."""
         return not self.egresses
+
+    @property
+    def grouped(self) -> tuple[str, ...]:
+        """The routers in groups of two or more, in the order of their numbers."""
+        inside = {router for group in self.groups for router in group}
+        return tuple(router for router in self.labels if router in inside)
 
     @property
     def without_route(self) -> tuple[str, ...] | None:
@@ -142,6 +157,27 @@ class TooFarToNarrow(library.Refused):
     def as_json(self) -> list[dict[str, object]]:
         """The failure as plain values."""
         return [{"message": f"{super().__str__()}; {self.detail}", "advice": " ".join(_KEEP)}]
+
+
+class TooManyGrouped(library.Refused):
+    """Which tables of a list no activation changes is not worked out, as more than 12 routers lie
+    in groups of two or more: those in `grouped`."""
+
+    def __init__(self, source: str, name: str, grouped: Sequence[str]) -> None:
+        super().__init__(library.TOO_MANY_GROUPED, source)
+        self.name, self.grouped = name, tuple(grouped)
+
+    @property
+    def detail(self) -> str:
+        """How many such routers there are, for which list."""
+        return cut_names(f"the list {self.name} has {len(self.grouped)} such routers")
+
+    def __str__(self) -> str:
+        return "\n    ".join([super().__str__(), self.detail, *_INSTEAD])
+
+    def as_json(self) -> list[dict[str, object]]:
+        """The failure as plain values."""
+        return [{"message": f"{super().__str__()}; {self.detail}", "advice": " ".join(_INSTEAD)}]
 
 
 class Plan:
@@ -365,6 +401,28 @@ class Plan:
     def verdicts(self) -> tuple[Verdict, ...]:
         """The verdicts for all lists, in order."""
         return tuple(self.verdict(number) for number in range(len(self.lists)))
+
+    def steady_numbers(self, egress_list: Which) -> tuple[int, ...]:
+        """The numbers of all tables of a list that no activation changes, rising. Bit i of a number
+        is set exactly if the i-th of the routers in groups of two or more, lowest first, holds its
+        best client's own route. Raises `TooManyGrouped` where more than 12 routers lie in such
+        groups."""
+        number = self.list_number(egress_list)
+        try:
+            return library.steady(self.data, number)
+        except library.Refused as refused:
+            if refused.number != library.TOO_MANY_GROUPED:
+                raise
+        verdict = self.verdict(number)
+        raise TooManyGrouped(self.source, verdict.name, verdict.grouped)
+
+    def steady(self, egress_list: Which) -> Steady:
+        """All tables of a list that no activation changes, with their numbers. That there are some
+        is no promise that the routers of a suspect list get to one. Raises `TooManyGrouped` where
+        more than 12 routers lie in groups of two or more."""
+        from .steady import steady_tables
+
+        return steady_tables(self, egress_list)
 
     # Routing tables
 

@@ -14,7 +14,7 @@ PAGE = read(f"{ROOT}/docs/CALLS.md")
 HEADER = read(f"{ROOT}/include/rrp.h")
 
 #: The orders of the checks, of a plan and of a sheet of links.
-ORDERS = ([1, 2, 3, 4, 5, 13, 6, 7, 14, 8, 9, 10], [2, 11, 12, 9])
+ORDERS = ([1, 2, 3, 4, 5, 13, 6, 7, 14, 8, 15, 9, 10], [2, 11, 12, 9])
 
 
 def rows(section: str) -> list[tuple[str, str, str]]:
@@ -59,7 +59,7 @@ class Refusals(unittest.TestCase):
     """The table of refusals."""
 
     def test_every_number_has_a_row(self) -> None:
-        self.assertEqual([int(number) for number, _, _ in rows("Refusals")], list(range(1, 15)))
+        self.assertEqual([int(number) for number, _, _ in rows("Refusals")], list(range(1, 16)))
 
     def test_the_header_has_the_sentences(self) -> None:
         none = ("0", "RRP_OK", "not refused")
@@ -76,7 +76,7 @@ class Calls(unittest.TestCase):
     def test_every_function_has_a_section(self) -> None:
         declared = re.findall(r"^uint8_t (rrp_\w+)\(", HEADER, re.M)
         self.assertEqual(sorted(sections()), sorted(declared))
-        self.assertGreaterEqual(len(declared), 12)
+        self.assertGreaterEqual(len(declared), 13)
 
     def test_the_header_has_the_refusals(self) -> None:
         for name, numbers in sections().items():

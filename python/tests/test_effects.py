@@ -25,6 +25,9 @@ LEFT_OUT = f"{TESTS}/plans/left-out.rrp"
 #: What is said of a list that is suspect with the same cycle before a change and after it.
 NOT_COMPARED = "routes are not compared: a suspect list has no settled table"
 
+#: What is said of a list without a table to rest in.
+NEVER = "rests in no table: its routers never come to rest"
+
 
 def varied(plan: Plan, draw: random.Random) -> Plan:
     """The plan with a few other distances, a session less, a reflector of another role, or another
@@ -186,7 +189,7 @@ class Command(unittest.TestCase):
             self.assertEqual(list(transit["members"].values()), members)
             found = effect_on("transit", *self.plans(change))
             self.assertEqual(found.label, "same cycle")
-            self.assertEqual(found.lines(), [*lines, NOT_COMPARED])
+            self.assertEqual(found.lines(), [NEVER, *lines, NOT_COMPARED])
 
     def test_members_are_told_where_no_routes_are_compared(self) -> None:
         found = effect_on("transit", *self.plans("list transit lon-a par-b"))

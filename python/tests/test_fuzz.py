@@ -106,8 +106,10 @@ class Fuzz(unittest.TestCase):
                 data = random_input(self.inputs, self.draw)
                 with open(path, "wb") as file:
                     file.write(data)
-                command = self.draw.choice(["check", "check", "show", "pack", "unpack", "convert"])
-                out = [] if command in ("check", "show") else ["-o", f"{folder}/output"]
+                others = ["show", "steady", "pack", "unpack", "convert"]
+                command = self.draw.choice(["check", "check", *others])
+                words = {"check": [], "show": [], "steady": ["0"]}
+                out = words.get(command, ["-o", f"{folder}/output"])
                 self.sound(rrp(command, path, *out), data)
 
     def test_changes(self) -> None:

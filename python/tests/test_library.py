@@ -57,7 +57,7 @@ class Declarations(unittest.TestCase):
         numbers.update(wide)
         limits = ("MAX_ROUTERS", "MAX_LISTS", "MAX_LINKS", "MAX_PLAN", "NO_WAY", "NO_WAY_WIDE")
         refusals = ("BAD_TABLE", "TOO_FAR", "TOO_MANY_PARENTS", "TOO_FAR_TO_NARROW")
-        for name in (*limits, "NONE", *refusals):
+        for name in (*limits, "NONE", *refusals, "TOO_MANY_GROUPED"):
             self.assertEqual(getattr(library, name), int(numbers[name]), name)
 
 
@@ -96,7 +96,6 @@ class Calls(unittest.TestCase):
         self.assertEqual([library.verdict(plan, number) for number in (0, 2)], [nothing] * 2)
 
     def test_roles(self) -> None:
-        self.assertEqual(library._ROLE_4[26], 4)
         for role in range(256):
             plan = self.plan[:26] + bytes([role]) + self.plan[27:]
             self.assertEqual(library.refusal(plan), 0 if 1 <= role <= 5 else 4, role)
@@ -138,6 +137,8 @@ class Calls(unittest.TestCase):
             (8, lambda: library.relies(self.plan, 0, 4, 0)),
             (8, lambda: library.compare(self.plan, 0, 1, 4, True, True)),
             (8, lambda: library.verdict(self.plan, 2)),
+            (8, lambda: library.steady(self.plan, 2)),
+            (5, lambda: library.steady(self.plan[:46] + b"\1" + self.plan[47:], 0)),
             (9, lambda: library.activate(self.plan, 0, 0, b"")),
             (10, lambda: library.activate(self.plan, 0, 0, bytes(8))),
             (2, lambda: library.distances(65, b"")),
@@ -149,6 +150,38 @@ class Calls(unittest.TestCase):
             with self.assertRaises(library.Refused) as caught:
                 call()
             self.assertEqual(caught.exception.number, number)
+
+
+class Steady(unittest.TestCase):
+    """The raw call for steady tables, on the bundled plan."""
+
+    def setUp(self) -> None:
+        with open(f"{EXAMPLES}/m3.plan", "rb") as file:
+            self.plan = file.read()
+
+    def raw(self, plan: bytes, egresses: int, length: int) -> tuple[int, int, bytes]:
+        """What the call returns, the count, and all bytes of a buffer of so many and two more."""
+        marked, count = b"\x77" * (length + 2), ctypes.c_uint64(99)
+        out = ctypes.create_string_buffer(marked, len(marked))
+        refused = library.library().rrp_steady(plan, len(plan), egresses, out, length, count)
+        return refused, count.value, out.raw
+
+    def test_numbers(self) -> None:
+        self.assertEqual(library.steady(self.plan, 0), (1, 2))
+        self.assertEqual(library.steady(self.plan, 1), (0,))
+        for role, numbers in ((3, (1, 2)), (4, (0,)), (5, (0,))):
+            plan = self.plan[:26] + bytes([role]) + self.plan[27:]
+            self.assertEqual(library.steady(plan, 0), numbers, role)
+
+    def test_bytes(self) -> None:
+        self.assertEqual(self.raw(self.plan, 0, 4), (0, 2, b"\1\0\2\0\x77\x77"))
+        self.assertEqual(self.raw(self.plan, 0, 5), (0, 2, b"\1\0\2\0\x77\x77\x77"))
+        self.assertEqual(self.raw(self.plan, 1, 3), (0, 1, b"\0\0\x77\x77\x77"))
+
+    def test_refused(self) -> None:
+        for number, egresses, length in ((9, 0, 3), (9, 0, 0), (9, 1, 1), (8, 2, 4), (8, 2, 0)):
+            refused = self.raw(self.plan, egresses, length)
+            self.assertEqual(refused, (number, 99, b"\x77" * (length + 2)))
 
 
 class Conversions(unittest.TestCase):
@@ -233,10 +266,10 @@ class Missing(unittest.TestCase):
         self.assertIn("has no rrp_check", self.report([], RRP_LIBRARY=_ctypes.__file__))
 
     def test_older(self) -> None:
-        role_6 = library._ROLE_4[:26] + b"\6" + library._ROLE_4[27:]
-        with mock.patch.object(library, "_ROLE_4", role_6):
+        later = {**library.PROTOTYPES, "rrp_later": ()}
+        with mock.patch.object(library, "PROTOTYPES", later):
             said = self.report(library.places(), **dict(os.environ))
-        self.assertIn("librrp.so is older than this tool: build it with ", said)
+        self.assertIn("librrp.so has no rrp_later: build it with ", said)
 
 
 if __name__ == "__main__":

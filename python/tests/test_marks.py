@@ -288,6 +288,8 @@ class BothAlike(InFolder):
             ["show", "l0"],
             ["show", "l1"],
             ["why", "l0", "r0", "r1"],
+            ["steady", "l0"],
+            ["steady", "l1", "--json"],
             ["run", "l0"],
             ["run", "l1", "--json"],
             ["dot", "l0"],

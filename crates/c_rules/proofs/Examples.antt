@@ -38,7 +38,13 @@ use Rattle.call_verdict.specs.Verdict.{sizeOf}
 use Rattle.call_verdict.specs.Verdict.{labelsAfter, ranksAfter, tableAfter, cycleAfter}
 use Rattle.call_run.specs.Run.{runApplied, runRounds, runExhausted, runTable}
 use Rattle.call_convert.specs.Convert.{convertBuffer}
-use Rattle.c_rules.specs.Examples.{twoRouters, ExportExamples, ConvertExportExamples}
+use Rattle.steady_rules.specs.Numbers.{numbersWhere}
+use Rattle.steady_rules.specs.Equations.{solves, carried, completed, solutions}
+use Rattle.steady_rules.specs.OwnRoutes.{overruled, keepsOwn}
+use Rattle.steady_rules.specs.Steady.{steadyNumbers}
+use Rattle.call_rules.specs.Refusals.{steadyChecks, steadyRefusal}
+use Rattle.call_steady.specs.Steady.{numberBytes, numbersAfter}
+use Rattle.c_rules.specs.Examples.{twoRouters, ExportExamples, ConvertExportExamples, SteadyExportExamples}
 
 pub export-examples : ExportExamples
 unfolding
@@ -108,4 +114,19 @@ convert-export-examples =
       narrowed = λ r o s e. (e .numbered, e .sized, e .bytes);
       refusedWiden = λ r o s e. (e .numbered, e .sized, e .bytes);
       refusedNarrow = λ r o s e. (e .numbered, e .sized, e .bytes);
+    }
+
+pub steady-export-examples : SteadyExportExamples
+unfolding
+    fourRouters smallPlan M3Plan steadyChecks steadyRefusal numberBytes numbersAfter numbersWhere solves carried completed solutions overruled keepsOwn steadyNumbers
+    together grouped closing listedClientOf bestClient offer betterOffer relies nearer hasStep hops prefers
+    pairs inSession named refuse bodyChecks planChecks planRefusal
+    markOk headerOk routerCountOk kindsOk placesOk sizesOk contentsOk routerOk routersOk sessionOk sessionsOk
+    parentCount fewParents parentsOk count distancesOk joined
+    listPlace memberOk listAtOk listOk eachListOk listsOk allBelow anyBelow keepBest best seek highest tab
+steady-export-examples =
+    record {
+      twoTables = λ r o c e. (e .numbered, e .counted, e .bytes);
+      stableList = λ r o c e. (e .numbered, e .counted, e .bytes);
+      refusedSteady = λ r o c e. (e .numbered, e .counted, e .bytes);
     }

@@ -11,7 +11,7 @@ use Rattle.plan_examples.specs.Plans.{M3Plan, M3WithNobody, nobodyBetween}
 use Rattle.plan_rules.specs.ConvertedExamples.{withNarrow, withWide}
 use Rattle.links_rules.specs.Distances.{DistancesCall}
 use Rattle.call_run.specs.Activate.{Activates}
-use Rattle.c_rules.specs.Exports.{SizeExport, ListExport, CompareExport, ReliesExport, ExplainExport, VerdictExport, RunExport}
+use Rattle.c_rules.specs.Exports.{SizeExport, ListExport, CompareExport, ReliesExport, ExplainExport, VerdictExport, SteadyExport, RunExport}
 use Rattle.c_rules.specs.Exports.{WidenExport, NarrowExport}
 
 -- two clients without a session; no way from 0 to 1, and back it is 7
@@ -191,3 +191,14 @@ pub record ConvertExportExamples : Type 0 where
       → (r ≡ 9) × (size .after ≡ size .before) × (out ≡ replicate 56 9)
   pub refusedNarrow : (r : ℕ) (out : List ℕ) (size : Lent ℕ) → NarrowExport (withWide 255 255 0 0 5 0 0 0) r (from fiftyEight out) size
       → (r ≡ 14) × (size .after ≡ size .before) × (out ≡ fiftyEight)
+
+pub record SteadyExportExamples : Type 0 where
+  -- list 2,3: tables 1 and 2, two bytes each, low byte first
+  pub twoTables : (r : ℕ) (out : List ℕ) (count : Lent ℕ) → SteadyExport M3Plan 0 r (from five out) count
+      → (r ≡ 0) × (count .after ≡ 2) × (out ≡ 1 ∷ 0 ∷ 2 ∷ 0 ∷ 9 ∷ [])
+  -- list 3, which is stable: 0 alone
+  pub stableList : (r : ℕ) (out : List ℕ) (count : Lent ℕ) → SteadyExport M3Plan 1 r (from five out) count
+      → (r ≡ 0) × (count .after ≡ 1) × (out ≡ 0 ∷ 0 ∷ 9 ∷ 9 ∷ 9 ∷ [])
+  -- the buffer is a byte short: number 9, and the variable and the buffer are left as they were
+  pub refusedSteady : (r : ℕ) (out : List ℕ) (count : Lent ℕ) → SteadyExport M3Plan 0 r (from (replicate 3 9) out) count
+      → (r ≡ 9) × (count .after ≡ count .before) × (out ≡ replicate 3 9)

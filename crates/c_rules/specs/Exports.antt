@@ -17,13 +17,15 @@ use Rattle.route_rules.specs.Instance.{Instance}
 use Rattle.net_rules.specs.FromPlan.{instanceOf}
 use Rattle.plan_rules.specs.Refused.{unlessRefused}
 use Rattle.plan_rules.specs.Converted.{converted, widenRefusal, narrowRefusal}
-use Rattle.call_rules.specs.Refusals.{egressListRefusal, compareRefusal, reliesRefusal, verdictRefusal, runRefusal}
+use Rattle.steady_rules.specs.Steady.{steadyCount}
+use Rattle.call_rules.specs.Refusals.{egressListRefusal, compareRefusal, reliesRefusal, verdictRefusal, steadyRefusal, runRefusal}
 use Rattle.call_compare.specs.Compare.{whichBetter, hasMargin, marginNumber}
 use Rattle.route_explain_rules.specs.declared.explanation.Values.{Values}
 use Rattle.route_explain_rules.specs.Explained.{explained}
 use Rattle.route_explain_rules.specs.Values.{valuesOf}
 use Rattle.net_verdict.specs.Assessed.{isStable}
 use Rattle.call_verdict.specs.Verdict.{sizeOf, labelsAfter, ranksAfter, tableAfter, cycleAfter}
+use Rattle.call_steady.specs.Steady.{numbersAfter}
 use Rattle.call_run.specs.Run.{runApplied, runRounds, runExhausted, runTable}
 use Rattle.call_convert.specs.Convert.{convertBuffer}
 
@@ -97,6 +99,15 @@ abbrev pub VerdictExport : (plan : List ℕ) (k r : ℕ) (labels ranks table sho
 VerdictExport plan k r labels ranks table shown =
     VerdictWritten (verdictRefusal plan k (labels .before) (ranks .before) (table .before) (shown .before))
     (instanceOf plan k) r labels ranks table shown
+
+-- rrp_steady: how many tables are listed, and every byte of the buffer. `number` is the call's refusal.
+pub record SteadyWritten (number : ℕ) (I : Instance) (r : ℕ) (out : Lent (List ℕ)) (count : Lent ℕ) : Type 0 where
+  pub numbered : r ≡ number
+  pub bytes : out .after ≡ numbersAfter number I (out .before)
+  pub counted : VariableHolds number count (steadyCount I)
+
+abbrev pub SteadyExport : (plan : List ℕ) (k r : ℕ) (out : Lent (List ℕ)) (count : Lent ℕ) → Type 0
+SteadyExport plan k r out = SteadyWritten (steadyRefusal plan k (out .before)) (instanceOf plan k) r out
 
 -- rrp_run: the activations applied, the whole rounds in them, and 1 if the sequence is longer than the limit, else 0.
 -- `number` is the call's refusal.

@@ -8,7 +8,10 @@ use Rattle.base.specs.Seek.{flag}
 use Rattle.call_verdict.specs.declared.verdict.VerdictAnswer.{VerdictAnswer}
 use Rattle.call_verdict.specs.declared.verdict.VerdictAnswer.the-variants as verdicts
 use Rattle.call_run.specs.declared.run.RunAnswer.{RunAnswer}
-use Rattle.call_rules.specs.Refusals.{verdictRefusal, runRefusal}
+use Rattle.call_steady.specs.declared.steady.SteadyAnswer.{SteadyAnswer}
+use Rattle.call_steady.specs.declared.steady.SteadyAnswer.the-variants as tables
+use Rattle.call_steady.specs.Steady.{steadyAnswer, refusalOf, countOf, SteadyCall}
+use Rattle.call_rules.specs.Refusals.{verdictRefusal, steadyRefusal, runRefusal}
 use Rattle.net_rules.specs.FromPlan.{instanceOf}
 use Rattle.net_verdict.specs.declared.Assessment.{Assessment}
 use Rattle.net_verdict.specs.declared.Assessment.the-variants as assessments
@@ -17,7 +20,7 @@ use Rattle.call_verdict.specs.Verdict.{answerOf, verdictAnswer, verdictNumber, 
 use Rattle.call_run.specs.Run.{Runs}
 use Rattle.plan_rules.proofs.Refused.{when-refused, when-given}
 use Rattle.call_verdict.proofs.Judging.{kept}
-use Rattle.c_rules.specs.Exports.{VerdictExport, RunExport}
+use Rattle.c_rules.specs.Exports.{VerdictExport, SteadyExport, RunExport}
 use Rattle.c_rules.proofs.Written.{wrote, written, refused-by}
 
 abbrev verdictRefuses : VerdictAnswer → ℕ
@@ -64,6 +67,31 @@ module _ (plan : List ℕ) (k : ℕ) (r : VerdictAnswer) (labels ranks table sho
         cycled = call .cycled;
         judged = ap flag (sym is ∙ call .stable ∙ when-given _ _ _ n) ∙ sym (when-given _ _ _ n);
         sized = written _ _ _ _ _ n (sym long ∙ call .size);
+      }
+
+abbrev steadyRefuses : SteadyAnswer → ℕ
+steadyRefuses (tables.Refused number) = 1
+steadyRefuses (tables.Listed count) = 0
+
+module _ (plan : List ℕ) (k : ℕ) (r : SteadyAnswer) (out : Lent (List ℕ)) (call : SteadyCall plan k r out) (count : ℕ) where
+  pub steady-refused : (number : ℕ) → r ≡ tables.Refused number → SteadyExport plan k number out (kept count)
+  unfolding steadyAnswer
+  steady-refused number is =
+      let n : steadyRefusal plan k (out .before) ≡ 0 → ⊥
+      = refused-by steadyRefuses _ r _ _ (call .answer) (ap steadyRefuses is) refl in
+      record {
+        numbered = sym (ap refusalOf is) ∙ call .numbered;
+        bytes = call .written;
+        counted = sym (when-refused _ _ _ n);
+      }
+
+  pub steady-given : (listed : ℕ) → r ≡ tables.Listed listed → SteadyExport plan k 0 out (wrote count listed)
+  steady-given listed is =
+      let n : steadyRefusal plan k (out .before) ≡ 0 = sym (call .numbered) ∙ ap refusalOf is in
+      record {
+        numbered = sym n;
+        bytes = call .written;
+        counted = written _ _ _ _ _ n (sym (ap countOf is) ∙ call .counted);
       }
 
 module _ (plan : List ℕ) (k : ℕ) (acts : List ℕ) (limit : ℕ) (table : Lent (List ℕ)) (r : RunAnswer)

@@ -1,9 +1,10 @@
-// The answers of the verdict and of a run, put into the variables that a C caller lends. Each function returns the call's refusal number,
+// The answers of the verdict, of the list of steady tables and of a run, put into the variables that a C caller lends. Each function returns the call's refusal number,
 // and if that is not 0 it has written nothing.
 
+use checker::steady::SteadyAnswer;
 use checker::verdict::VerdictAnswer;
 ghost use Rattle.base.specs.Lent.{lent};
-ghost use Rattle.c_rules.specs.Exports.{VerdictExport, RunExport};
+ghost use Rattle.c_rules.specs.Exports.{VerdictExport, SteadyExport, RunExport};
 
 pub fn verdict(
     plan: &[u8],
@@ -31,6 +32,21 @@ pub fn verdict(
         VerdictAnswer::Suspect(length) => {
             *stable = 0;
             *size = length as u64;
+            return 0;
+        }
+    }
+}
+
+pub fn steady(plan: &[u8], list: usize, out: &mut [u8], count: &mut u64) -> u8
+    ensures { λ r. ⌜ SteadyExport (now (plan .entry)) list r (lent out) (lent count) ⌝ }
+{
+    let answer = checker::steady::steady(plan, list, out);
+    match answer {
+        SteadyAnswer::Refused(number) => {
+            return number;
+        }
+        SteadyAnswer::Listed(tables) => {
+            *count = tables as u64;
             return 0;
         }
     }

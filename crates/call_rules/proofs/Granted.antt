@@ -22,9 +22,10 @@ use Rattle.net_rules.specs.Decoded.{decoded}
 use Rattle.net_rules.specs.FromPlan.{instanceOf}
 use Rattle.net_rules.specs.Opened.{Opened}
 use Rattle.net_tables.specs.TableBytes.{TableIn}
-use Rattle.call_rules.specs.Refusals.{sequenceOk, askedChecks, egressListRefusal, compareRefusal, reliesRefusal, routerRefusal, sequenceRefusal, buffersOk, verdictRefusal, tableChecks}
+use Rattle.steady_rules.specs.Steady.{groupedRouters, steadyCount}
+use Rattle.call_rules.specs.Refusals.{sequenceOk, askedChecks, egressListRefusal, compareRefusal, reliesRefusal, routerRefusal, sequenceRefusal, buffersOk, verdictRefusal, steadyRefusal, tableChecks}
 use Rattle.call_rules.specs.InOrder.{InOrder}
-use Rattle.call_rules.proofs.InOrder.{asked-in-order, list-in-order, compare-in-order, relies-in-order, verdict-in-order}
+use Rattle.call_rules.proofs.InOrder.{asked-in-order, list-in-order, compare-in-order, relies-in-order, verdict-in-order, steady-in-order}
 
 pub few-routers : (plan : List ℕ) → planRefusal plan ≡ 0 → routerCount plan ≤ 64
 few-routers plan h = passed plan h .count .most
@@ -54,13 +55,15 @@ module _ (plan : List ℕ) (ok : Bool) where
   more-passed {x} b h z = ap (λ y. refuse y 8 0) (sym h) ∙ asked-passed (refuse x 8 0) z ∙ more x
 
 -- a call that is not refused passes every row
-record Granted (plan : List ℕ) (ok long : Bool) : Type 0 where
+record Granted (plan : List ℕ) (ok few long : Bool) : Type 0 where
   planOk : planRefusal plan ≡ 0
   callOk : ok ≡ true
+  fewOk : few ≡ true
   longOk : long ≡ true
 
-granted : {plan : List ℕ} {ok long rule : Bool} {number : ℕ} → InOrder plan ok long rule number → number ≡ 0 → Granted plan ok long
-granted {plan} {ok} {long} r z = record { planOk = p; callOk = a; longOk = b }
+granted : {plan : List ℕ} {ok few long rule : Bool} {number : ℕ} → InOrder plan ok few long rule number → number ≡ 0
+    → Granted plan ok few long
+granted {plan} {ok} {few} {long} r z = record { planOk = p; callOk = a; fewOk = f; longOk = b }
   where
     p : planRefusal plan ≡ 0
     p = ⊎-elim (λ e. e) (λ ne. sym (r .plan-rows ne) ∙ z) (eq-or-ne (planRefusal plan) 0)
@@ -68,8 +71,11 @@ granted {plan} {ok} {long} r z = record { planOk = p; callOk = a; longOk = b }
     a : ok ≡ true
     a = ⊎-elim (λ e. e) (λ (e : ok ≡ false). absurd (omega (arith, r .row-8 p e))) (true-or-false ok)
 
+    f : few ≡ true
+    f = ⊎-elim (λ e. e) (λ (e : few ≡ false). absurd (omega (arith, r .row-15 p a e))) (true-or-false few)
+
     b : long ≡ true
-    b = ⊎-elim (λ e. e) (λ (e : long ≡ false). absurd (omega (arith, r .row-9 p a e))) (true-or-false long)
+    b = ⊎-elim (λ e. e) (λ (e : long ≡ false). absurd (omega (arith, r .row-9 p a f e))) (true-or-false long)
 
 pub record ListAsked (plan : List ℕ) (k : ℕ) : Type 0 where
   pub planOk : planRefusal plan ≡ 0
@@ -157,6 +163,17 @@ verdict-asked plan k labels ranks table cycle h =
       tableLong = q .0 .1;
       cycleLong = q .1;
     }
+
+pub record SteadyAsked (plan : List ℕ) (k : ℕ) (out : List ℕ) : Type 0 where
+  pub planOk : planRefusal plan ≡ 0
+  pub list : k < listCount plan
+  pub few : groupedRouters (instanceOf plan k) ≤ 12
+  pub long : 2 * steadyCount (instanceOf plan k) ≤ length out
+
+pub steady-asked : (plan : List ℕ) (k : ℕ) (out : List ℕ) → steadyRefusal plan k out ≡ 0 → SteadyAsked plan k out
+steady-asked plan k out h =
+    let g = granted (steady-in-order plan k out) h in
+    record { planOk = g .planOk; list = ltb-true _ _ (g .callOk); few = leb-true _ _ (g .fewOk); long = leb-true _ _ (g .longOk) }
 
 pub table-asked : (I : Instance) (table : List ℕ) → tableChecks I table ≡ 0 → TableIn I table
 unfolding tableChecks

@@ -20,16 +20,17 @@ use Rattle.route_rules.specs.Rounds.{ActsBelow}
 use Rattle.route_rules.specs.Activation.{entryOk, tableOk, held}
 use Rattle.net_rules.specs.FromPlan.{instanceOf}
 use Rattle.net_tables.specs.TableBytes.{readRoute, tableOf, tableRule}
+use Rattle.steady_rules.specs.Steady.{groupedRouters, steadyCount}
 use Rattle.net_tables.proofs.TableBytes.{entry-other, entry-itself, entry-none, entry-far, entry-near, table-held}
-use Rattle.call_rules.specs.Refusals.{hasList, hasRouter, sequenceOk, buffersOk}
+use Rattle.call_rules.specs.Refusals.{hasList, hasRouter, sequenceOk, buffersOk, fewGrouped, numbersLong}
 use Rattle.call_rules.specs.InOrder.{InOrder}
 use Rattle.call_rules.specs.RowsExactly.{RowsExactly, BuffersLong, egressAt, senderAt, TableFacts, CallRows}
-use Rattle.call_rules.proofs.InOrder.{list-in-order, compare-in-order, relies-in-order, verdict-in-order, activate-in-order, run-in-order}
+use Rattle.call_rules.proofs.InOrder.{list-in-order, compare-in-order, relies-in-order, verdict-in-order, steady-in-order, activate-in-order, run-in-order}
 
 -- no row of a plan's own has the number of a call's
-plan-no-call : (plan : List ℕ) → 8 ≤ planRefusal plan → planRefusal plan ≤ 10 → ⊥
+plan-no-call : (plan : List ℕ) → 8 ≤ planRefusal plan → (planRefusal plan ≡ 13 → ⊥) → ⊥
 plan-no-call plan a b =
-    ⊎-elim (λ (h : planRefusal plan ≤ 7). omega arith) (λ (h : planRefusal plan ≡ 13). omega arith) (refusal-numbers plan)
+    ⊎-elim (λ (h : planRefusal plan ≤ 7). omega arith) (λ (h : planRefusal plan ≡ 13). b h) (refusal-numbers plan)
 
 -- a test that is passed exactly if its facts hold
 pub record Tested (facts : Type 0) (test : Bool) : Type 0 where
@@ -42,69 +43,86 @@ failed {test = test} t h f = not-both test (t .holds f) h
 fails : {facts : Type 0} {test : Bool} → Tested facts test → (facts → ⊥) → test ≡ false
 fails {test = test} t h = ⊎-elim (λ (e : test ≡ true). absurd (h (t .shown e))) (λ e. e) (true-or-false test)
 
-module _ (plan : List ℕ) (ok long rule : Bool) (number : ℕ) (order : InOrder plan ok long rule number) where
-  -- what decided: the plan, one of the three rows, or none
+module _ (plan : List ℕ) (ok few long rule : Bool) (number : ℕ) (order : InOrder plan ok few long rule number) where
+  -- what decided: the plan, one of the four rows, or none
   by-cases : {A : Type 0} → ((planRefusal plan ≡ 0 → ⊥) → number ≡ planRefusal plan → A)
       → (planRefusal plan ≡ 0 → ok ≡ false → number ≡ 8 → A)
-      → (planRefusal plan ≡ 0 → ok ≡ true → long ≡ false → number ≡ 9 → A)
-      → (planRefusal plan ≡ 0 → ok ≡ true → long ≡ true → rule ≡ false → number ≡ 10 → A)
-      → (planRefusal plan ≡ 0 → ok ≡ true → long ≡ true → rule ≡ true → number ≡ 0 → A)
+      → (planRefusal plan ≡ 0 → ok ≡ true → few ≡ false → number ≡ 15 → A)
+      → (planRefusal plan ≡ 0 → ok ≡ true → few ≡ true → long ≡ false → number ≡ 9 → A)
+      → (planRefusal plan ≡ 0 → ok ≡ true → few ≡ true → long ≡ true → rule ≡ false → number ≡ 10 → A)
+      → (planRefusal plan ≡ 0 → ok ≡ true → few ≡ true → long ≡ true → rule ≡ true → number ≡ 0 → A)
       → A
-  by-cases {A} plan-row row-8 row-9 row-10 none =
+  by-cases {A} plan-row row-8 row-15 row-9 row-10 none =
       ⊎-elim
       (λ (p : planRefusal plan ≡ 0).
       ⊎-elim
       (λ (a : ok ≡ true).
       ⊎-elim
+      (λ (f : few ≡ true).
+      ⊎-elim
       (λ (b : long ≡ true).
-      ⊎-elim (λ (c : rule ≡ true). none p a b c (order .none p a b c)) (λ (c : rule ≡ false). row-10 p a b c (order .row-10 p a b c))
-      (true-or-false rule))
-      (λ (b : long ≡ false). row-9 p a b (order .row-9 p a b))
+      ⊎-elim (λ (c : rule ≡ true). none p a f b c (order .none p a f b c))
+      (λ (c : rule ≡ false). row-10 p a f b c (order .row-10 p a f b c)) (true-or-false rule))
+      (λ (b : long ≡ false). row-9 p a f b (order .row-9 p a f b))
       (true-or-false long))
+      (λ (f : few ≡ false). row-15 p a f (order .row-15 p a f))
+      (true-or-false few))
       (λ (a : ok ≡ false). row-8 p a (order .row-8 p a))
       (true-or-false ok))
       (λ (ne : planRefusal plan ≡ 0 → ⊥). plan-row ne (order .plan-rows ne))
       (eq-or-ne (planRefusal plan) 0)
 
-  module _ {Asked Long Rule : Type 0} (asked : Tested Asked ok) (enough : Tested Long long)
+  module _ {Asked Few Long Rule : Type 0} (asked : Tested Asked ok) (fewer : Tested Few few) (enough : Tested Long long)
       (obeyed : planRefusal plan ≡ 0 → Tested Rule rule) where
     eight : number ≡ 8 → Passed plan × (Asked → ⊥)
     eight h =
-        by-cases (λ ne e. absurd (plan-no-call plan (omega (arith, h, e)) (omega (arith, h, e)))) (λ p a e. (passed plan p, failed asked a))
-        (λ p a b e. absurd (omega (arith, h, e))) (λ p a b c e. absurd (omega (arith, h, e))) (λ p a b c e. absurd (omega (arith, h, e)))
+        by-cases (λ ne e. absurd (plan-no-call plan (omega (arith, h, e)) (λ z. omega (arith, h, e, z)))) (λ p a e. (passed plan p, failed asked a))
+        (λ p a f e. absurd (omega (arith, h, e))) (λ p a f b e. absurd (omega (arith, h, e))) (λ p a f b c e. absurd (omega (arith, h, e)))
+        (λ p a f b c e. absurd (omega (arith, h, e)))
 
-    nine : number ≡ 9 → Passed plan × Asked × (Long → ⊥)
+    fifteen : number ≡ 15 → Passed plan × Asked × (Few → ⊥)
+    fifteen h =
+        by-cases (λ ne e. absurd (plan-no-call plan (omega (arith, h, e)) (λ z. omega (arith, h, e, z)))) (λ p a e. absurd (omega (arith, h, e)))
+        (λ p a f e. (passed plan p, asked .shown a, failed fewer f)) (λ p a f b e. absurd (omega (arith, h, e)))
+        (λ p a f b c e. absurd (omega (arith, h, e))) (λ p a f b c e. absurd (omega (arith, h, e)))
+
+    nine : number ≡ 9 → Passed plan × Asked × Few × (Long → ⊥)
     nine h =
-        by-cases (λ ne e. absurd (plan-no-call plan (omega (arith, h, e)) (omega (arith, h, e)))) (λ p a e. absurd (omega (arith, h, e)))
-        (λ p a b e. (passed plan p, asked .shown a, failed enough b)) (λ p a b c e. absurd (omega (arith, h, e)))
-        (λ p a b c e. absurd (omega (arith, h, e)))
+        by-cases (λ ne e. absurd (plan-no-call plan (omega (arith, h, e)) (λ z. omega (arith, h, e, z)))) (λ p a e. absurd (omega (arith, h, e)))
+        (λ p a f e. absurd (omega (arith, h, e))) (λ p a f b e. (passed plan p, asked .shown a, fewer .shown f, failed enough b))
+        (λ p a f b c e. absurd (omega (arith, h, e))) (λ p a f b c e. absurd (omega (arith, h, e)))
 
-    ten : number ≡ 10 → Passed plan × Asked × Long × (Rule → ⊥)
+    ten : number ≡ 10 → Passed plan × Asked × Few × Long × (Rule → ⊥)
     ten h =
-        by-cases (λ ne e. absurd (plan-no-call plan (omega (arith, h, e)) (omega (arith, h, e)))) (λ p a e. absurd (omega (arith, h, e)))
-        (λ p a b e. absurd (omega (arith, h, e))) (λ p a b c e. (passed plan p, asked .shown a, enough .shown b, failed (obeyed p) c))
-        (λ p a b c e. absurd (omega (arith, h, e)))
+        by-cases (λ ne e. absurd (plan-no-call plan (omega (arith, h, e)) (λ z. omega (arith, h, e, z)))) (λ p a e. absurd (omega (arith, h, e)))
+        (λ p a f e. absurd (omega (arith, h, e))) (λ p a f b e. absurd (omega (arith, h, e)))
+        (λ p a f b c e. (passed plan p, asked .shown a, fewer .shown f, enough .shown b, failed (obeyed p) c))
+        (λ p a f b c e. absurd (omega (arith, h, e)))
 
-    none : number ≡ 0 → Passed plan × Asked × Long × Rule
+    none : number ≡ 0 → Passed plan × Asked × Few × Long × Rule
     none h =
-        by-cases (λ ne e. absurd (ne (sym e ∙ h))) (λ p a e. absurd (omega (arith, h, e))) (λ p a b e. absurd (omega (arith, h, e)))
-        (λ p a b c e. absurd (omega (arith, h, e))) (λ p a b c e. (passed plan p, asked .shown a, enough .shown b, obeyed p .shown c))
+        by-cases (λ ne e. absurd (ne (sym e ∙ h))) (λ p a e. absurd (omega (arith, h, e))) (λ p a f e. absurd (omega (arith, h, e)))
+        (λ p a f b e. absurd (omega (arith, h, e))) (λ p a f b c e. absurd (omega (arith, h, e)))
+        (λ p a f b c e. (passed plan p, asked .shown a, fewer .shown f, enough .shown b, obeyed p .shown c))
 
-    exactly : RowsExactly plan Asked Long Rule number
+    exactly : RowsExactly plan Asked Few Long Rule number
     exactly =
         record {
           planRows = λ ne. order .plan-rows (λ z. ne (passed plan z));
           eight = (eight, λ h. order .row-8 (accepted plan (h .0)) (fails asked (h .1)));
-          nine = (nine, λ h. order .row-9 (accepted plan (h .0)) (asked .holds (h .1)) (fails enough (h .2)));
+          fifteen = (fifteen, λ h. order .row-15 (accepted plan (h .0)) (asked .holds (h .1)) (fails fewer (h .2)));
+          nine = (nine, λ h. order .row-9 (accepted plan (h .0)) (asked .holds (h .1)) (fewer .holds (h .2)) (fails enough (h .3)));
           ten = (
             ten,
             λ h.
-                let p = accepted plan (h .0) in order .row-10 p (asked .holds (h .1)) (enough .holds (h .2)) (fails (obeyed p) (h .3)),
+                let p = accepted plan (h .0) in
+                order .row-10 p (asked .holds (h .1)) (fewer .holds (h .2)) (enough .holds (h .3)) (fails (obeyed p) (h .4)),
           );
           none = (
             none,
             λ h.
-                let p = accepted plan (h .0) in order .none p (asked .holds (h .1)) (enough .holds (h .2)) (obeyed p .holds (h .3)),
+                let p = accepted plan (h .0) in
+                order .none p (asked .holds (h .1)) (fewer .holds (h .2)) (enough .holds (h .3)) (obeyed p .holds (h .4)),
           );
         }
 
@@ -156,7 +174,7 @@ module _ (I : Instance) (few : I .n ≤ 64) (table : List ℕ) where
   unfolding tableOk
   entry-of h v l = sym (ap (entryOk I v) (held-entry v l)) ∙ all-at _ (I .n) h v l
 
-  table-tested : Tested (TableFacts I table) (tableRule I table)
+  pub table-tested : Tested (TableFacts I table) (tableRule I table)
   unfolding tableOk
   table-tested =
       record {
@@ -219,6 +237,12 @@ module _ (plan : List ℕ) where
             (le-leb n _ (h .cycleLong));
       }
 
+  few-tested : (k : ℕ) → Tested (groupedRouters (instanceOf plan k) ≤ 12) (fewGrouped (instanceOf plan k))
+  few-tested k = record { shown = leb-true _ _; holds = le-leb _ _ }
+
+  numbers-tested : (k : ℕ) (out : List ℕ) → Tested (2 * steadyCount (instanceOf plan k) ≤ length out) (numbersLong (instanceOf plan k) out)
+  numbers-tested k out = record { shown = leb-true _ _; holds = le-leb _ _ }
+
   long-tested : (table : List ℕ) → Tested (2 * n ≤ length table) (leb (2 * n) (length table))
   long-tested table = record { shown = leb-true _ _; holds = le-leb _ _ }
 
@@ -228,14 +252,16 @@ module _ (plan : List ℕ) where
   pub call-rows : CallRows plan
   call-rows =
       record {
-        list = λ k. exactly plan _ _ _ _ (list-in-order plan k) (list-tested k) unasked (λ _. unasked);
-        compare = λ w e f. exactly plan _ _ _ _ (compare-in-order plan w e f) (routers-tested w e f) unasked (λ _. unasked);
-        relies = λ k w v. exactly plan _ _ _ _ (relies-in-order plan k w v) (relies-tested k w v) unasked (λ _. unasked);
+        list = λ k. exactly plan _ _ _ _ _ (list-in-order plan k) (list-tested k) unasked unasked (λ _. unasked);
+        compare = λ w e f. exactly plan _ _ _ _ _ (compare-in-order plan w e f) (routers-tested w e f) unasked unasked (λ _. unasked);
+        relies = λ k w v. exactly plan _ _ _ _ _ (relies-in-order plan k w v) (relies-tested k w v) unasked unasked (λ _. unasked);
         verdict = λ k labels ranks table cycle.
-            exactly plan _ _ _ _ (verdict-in-order plan k labels ranks table cycle) (list-tested k) (buffers-tested labels ranks table cycle)
+            exactly plan _ _ _ _ _ (verdict-in-order plan k labels ranks table cycle) (list-tested k) unasked (buffers-tested labels ranks table cycle)
             (λ _. unasked);
+        steady = λ k out.
+            exactly plan _ _ _ _ _ (steady-in-order plan k out) (list-tested k) (few-tested k) (numbers-tested k out) (λ _. unasked);
         activate = λ k w table.
-            exactly plan _ _ _ _ (activate-in-order plan k table w) (router-tested k w) (long-tested table) (rule-tested k table);
+            exactly plan _ _ _ _ _ (activate-in-order plan k table w) (router-tested k w) unasked (long-tested table) (rule-tested k table);
         run = λ k acts table.
-            exactly plan _ _ _ _ (run-in-order plan k table acts) (sequence-tested k acts) (long-tested table) (rule-tested k table);
+            exactly plan _ _ _ _ _ (run-in-order plan k table acts) (sequence-tested k acts) unasked (long-tested table) (rule-tested k table);
       }

@@ -1,10 +1,13 @@
--- Examples that tell rows 8 to 10 of the refusal table from a misreading of them, on the plan of three routers and two lists that
--- crate plan_examples gives in literal bytes. Beside each stands what a misreading gives.
-use Prim.Native.Nat.{ℕ}
+-- Examples that tell rows 8, 15, 9 and 10 of the refusal table from a misreading of them, on the plan of three routers and two lists that
+-- crate plan_examples gives in literal bytes; row 15 over networks. Beside each stands what a misreading gives.
+use Prim.Native.Nat.{ℕ, _%_, min, max}
 use mathlib.Core.Path.{_≡_}
+use mathlib.Core.Bool.{true, false, not, cond, _&&_, _||_}
 use mathlib.Core.List.{List, [], _∷_}
+use lib.Dec.{ltb, eqb}
 use Rattle.plan_examples.specs.Plans.{threeRouters}
-use Rattle.call_rules.specs.Refusals.{egressListRefusal, compareRefusal, reliesRefusal, verdictRefusal, activateRefusal, runRefusal}
+use Rattle.route_rules.specs.Instance.{Instance}
+use Rattle.call_rules.specs.Refusals.{egressListRefusal, compareRefusal, reliesRefusal, verdictRefusal, fewGrouped, steadyRefusal, activateRefusal, runRefusal}
 
 -- tables for list 0: one that obeys its rule, one in which 2 holds a route from 0, which is not its neighbour, and one of 5 bytes
 unfoldable pub lent : List ℕ
@@ -22,6 +25,21 @@ three = 9 ∷ 9 ∷ 9 ∷ []
 
 unfoldable pub two : List ℕ
 two = 9 ∷ 9 ∷ []
+
+-- n routers: listed clients 0 and 1, and reflectors from 2 on, in sessions with one another and with the client of their parity; each is
+-- nearer to the other client. So all the reflectors are one group.
+unfoldable pub crossed : (n : ℕ) → Instance
+crossed n =
+    record {
+      n = n;
+      reflector = λ v. ltb 1 v;
+      skips = λ v. false;
+      hop = λ v. false;
+      neighbour = λ w v. not (eqb w v) && (ltb 1 (min w v) || (ltb 1 (max w v) && eqb (w % 2) (v % 2)));
+      dist = λ w e. cond (eqb (w % 2) e) 10 6;
+      way = λ w e. true;
+      listed = λ v. ltb v 2;
+    }
 
 pub record RefusalsExamples : Type 0 where
   -- row 8: "the list asked for is m or more"
@@ -45,6 +63,14 @@ pub record RefusalsExamples : Type 0 where
   pub ranksShort : verdictRefusal threeRouters 0 three two lent three ≡ 9
   pub tableShort : verdictRefusal threeRouters 0 three three short three ≡ 9  -- n for the table: 0
   pub cycleShort : verdictRefusal threeRouters 0 three three lent two ≡ 9
+  -- row 15: "more than 12 routers lie in such groups"
+  pub twelveGrouped : fewGrouped (crossed 14) ≡ true  -- 12 or more: false; of all routers: false
+  pub thirteenGrouped : fewGrouped (crossed 15) ≡ false
+  -- row 9: "The call needs two bytes for each number listed": here one
+  pub steadyLong : steadyRefusal threeRouters 1 two ≡ 0  -- n bytes: 9
+  pub steadyShort : steadyRefusal threeRouters 1 (9 ∷ []) ≡ 9  -- a byte a number, or no need of it: 0
+  -- "after 8"
+  pub steadyListAtM : steadyRefusal threeRouters 2 [] ≡ 8  -- the last: 9
   -- "An act or a run needs 2n bytes of table"
   pub activatedInFive : activateRefusal threeRouters 0 0 short ≡ 9  -- n bytes: 0
   -- row 10: "a held-route table breaks its rule"

@@ -7,10 +7,12 @@ use mathlib.Core.Bool.{Bool, true, false}
 use mathlib.Core.List.{List}
 use Rattle.plan_rules.specs.Refusal.{planRefusal}
 
--- `number` is the refusal of a call: whether its list and routers are `ok`, its buffers `long` enough, and its table obeys its `rule`
-pub record InOrder (plan : List ℕ) (ok long rule : Bool) (number : ℕ) : Type 0 where
+-- `number` is the refusal of a call: whether its list and routers are `ok`, the routers in groups of two or more `few` enough, its buffers
+-- `long` enough, and its table obeys its `rule`. Row 15 comes "after 8 and before 9".
+pub record InOrder (plan : List ℕ) (ok few long rule : Bool) (number : ℕ) : Type 0 where
   pub plan-rows : (planRefusal plan ≡ 0 → ⊥) → number ≡ planRefusal plan
   pub row-8 : planRefusal plan ≡ 0 → ok ≡ false → number ≡ 8
-  pub row-9 : planRefusal plan ≡ 0 → ok ≡ true → long ≡ false → number ≡ 9
-  pub row-10 : planRefusal plan ≡ 0 → ok ≡ true → long ≡ true → rule ≡ false → number ≡ 10
-  pub none : planRefusal plan ≡ 0 → ok ≡ true → long ≡ true → rule ≡ true → number ≡ 0
+  pub row-15 : planRefusal plan ≡ 0 → ok ≡ true → few ≡ false → number ≡ 15
+  pub row-9 : planRefusal plan ≡ 0 → ok ≡ true → few ≡ true → long ≡ false → number ≡ 9
+  pub row-10 : planRefusal plan ≡ 0 → ok ≡ true → few ≡ true → long ≡ true → rule ≡ false → number ≡ 10
+  pub none : planRefusal plan ≡ 0 → ok ≡ true → few ≡ true → long ≡ true → rule ≡ true → number ≡ 0

@@ -1,4 +1,4 @@
--- Document 01, "Refusal table, in order of checking", rows 8 to 10: what each call is refused for beyond its plan.
+-- Document 01, "Refusal table, in order of checking", rows 8 to 10, and 15 of document 02: what each call is refused for beyond its plan.
 use Prim.Native.Nat.{ℕ, _*_}
 use mathlib.Core.List.{List}
 use mathlib.Core.Bool.{Bool, _&&_}
@@ -11,6 +11,7 @@ use Rattle.plan_rules.specs.Refusal.{refuse, planChecks}
 use Rattle.route_rules.specs.Instance.{Instance}
 use Rattle.net_rules.specs.FromPlan.{instanceOf}
 use Rattle.net_tables.specs.TableBytes.{tableRule}
+use Rattle.steady_rules.specs.Steady.{groupedRouters, steadyCount}
 
 -- Row 8: "the list asked for is m or more, or a router asked for, or named in a sequence of acts, is n or more".
 abbrev pub hasList : List ℕ → ℕ → Bool
@@ -53,6 +54,20 @@ buffersOk n labels ranks table cycle =
 unfoldable pub verdictRefusal : List ℕ → ℕ → List ℕ → List ℕ → List ℕ → List ℕ → ℕ
 verdictRefusal plan k labels ranks table cycle =
     askedChecks plan (hasList plan k) (refuse (buffersOk (routerCount plan) labels ranks table cycle) 9 0)
+
+-- Row 15 (document 02): "It refuses with 15 if more than 12 routers lie in such groups, after 8 and before 9": groups of two or more.
+abbrev pub fewGrouped : Instance → Bool
+fewGrouped I = leb (groupedRouters I) 12
+
+-- Row 9: "The call needs two bytes for each number listed".
+abbrev pub numbersLong : Instance → List ℕ → Bool
+numbersLong I out = leb (2 * steadyCount I) (length out)
+
+unfoldable pub steadyChecks : Instance → List ℕ → ℕ
+steadyChecks I out = refuse (fewGrouped I) 15 (refuse (numbersLong I out) 9 0)
+
+unfoldable pub steadyRefusal : List ℕ → ℕ → List ℕ → ℕ
+steadyRefusal plan k out = askedChecks plan (hasList plan k) (steadyChecks (instanceOf plan k) out)
 
 -- Row 9: "An act or a run needs 2n bytes of table." Row 10: "a held-route table breaks its rule".
 abbrev pub tableLong : Instance → List ℕ → Bool

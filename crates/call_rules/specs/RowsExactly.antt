@@ -1,4 +1,4 @@
--- Document 01, "Refusal table": rows 8, 9 and 10 are "given exactly if" what they ask for fails, and by document 02 "the first check in
+-- Document 01, "Refusal table": rows 8, 15, 9 and 10 are "given exactly if" what they ask for fails, and by document 02 "the first check in
 -- order that fails now decides": in plain facts and in both directions, as `RowExactly` of crate `plan_rules` is of the plan's own rows.
 use Prim.Native.Nat.{ℕ, _+_, _*_, _≤_, _<_}
 use mathlib.Core.Path.{_≡_}
@@ -13,16 +13,18 @@ use Rattle.plan_rules.specs.Refusal.{planRefusal}
 use Rattle.route_rules.specs.Instance.{Instance}
 use Rattle.route_rules.specs.Rounds.{ActsBelow}
 use Rattle.net_rules.specs.FromPlan.{instanceOf}
-use Rattle.call_rules.specs.Refusals.{egressListRefusal, compareRefusal, reliesRefusal, verdictRefusal, activateRefusal, runRefusal}
+use Rattle.steady_rules.specs.Steady.{groupedRouters, steadyCount}
+use Rattle.call_rules.specs.Refusals.{egressListRefusal, compareRefusal, reliesRefusal, verdictRefusal, steadyRefusal, activateRefusal, runRefusal}
 
--- `number` is the refusal of a call on the plan: row 8 asks that `Asked` holds, row 9 that `Long` does, row 10 that `Rule` does. `Unit` is
--- for a row that does not stand for the call: nothing fails it.
-pub record RowsExactly (plan : List ℕ) (Asked Long Rule : Type 0) (number : ℕ) : Type 0 where
+-- `number` is the refusal of a call on the plan: row 8 asks that `Asked` holds, row 15 that `Few` does, row 9 that `Long` does, row 10 that
+-- `Rule` does. `Unit` is for a row that does not stand for the call: nothing fails it.
+pub record RowsExactly (plan : List ℕ) (Asked Few Long Rule : Type 0) (number : ℕ) : Type 0 where
   pub planRows : (Passed plan → ⊥) → number ≡ planRefusal plan
   pub eight : (number ≡ 8) ↔ (Passed plan × (Asked → ⊥))
-  pub nine : (number ≡ 9) ↔ (Passed plan × Asked × (Long → ⊥))
-  pub ten : (number ≡ 10) ↔ (Passed plan × Asked × Long × (Rule → ⊥))
-  pub none : (number ≡ 0) ↔ (Passed plan × Asked × Long × Rule)
+  pub fifteen : (number ≡ 15) ↔ (Passed plan × Asked × (Few → ⊥))
+  pub nine : (number ≡ 9) ↔ (Passed plan × Asked × Few × (Long → ⊥))
+  pub ten : (number ≡ 10) ↔ (Passed plan × Asked × Few × Long × (Rule → ⊥))
+  pub none : (number ≡ 0) ↔ (Passed plan × Asked × Few × Long × Rule)
 
 -- row 9: "The verdict call needs n bytes for labels, n for ranks, 2n for the settled table, n for the ring."
 pub record BuffersLong (n : ℕ) (labels ranks table cycle : List ℕ) : Type 0 where
@@ -44,22 +46,28 @@ pub record TableFacts (I : Instance) (table : List ℕ) : Type 0 where
   pub unlisted : (v : ℕ) → v < I .n → I .listed v ≡ false
       → ((egressAt table v ≡ 255) × (senderAt table v ≡ 255)) ⊎ ((egressAt table v < I .n) × (I .neighbour v (senderAt table v) ≡ true))
 
--- "Checks 8, 9 and 10 stand only for calls that take such things": what each call is asked for. Row 8 is "the list asked for is m or more,
--- or a router asked for, or named in a sequence of acts, is n or more". The theorem `call-rows` says that these hold. The call that
--- explains is refused as the one that answers a reliance.
+-- "Checks 8, 9 and 10 stand only for calls that take such things", and 15 for the one that lists steady tables: what each call is asked
+-- for. Row 8 is "the list asked for is m or more, or a router asked for, or named in a sequence of acts, is n or more". The theorem
+-- `call-rows` says that these hold. The call that explains is refused as the one that answers a reliance.
 pub record CallRows (plan : List ℕ) : Type 0 where
-  pub list : (k : ℕ) → RowsExactly plan (k < listCount plan) Unit Unit (egressListRefusal plan k)
+  pub list : (k : ℕ) → RowsExactly plan (k < listCount plan) Unit Unit Unit (egressListRefusal plan k)
   pub compare : (w e f : ℕ)
-      → RowsExactly plan ((w < routerCount plan) × (e < routerCount plan) × (f < routerCount plan)) Unit Unit (compareRefusal plan w e f)
+      → RowsExactly plan ((w < routerCount plan) × (e < routerCount plan) × (f < routerCount plan)) Unit Unit Unit
+      (compareRefusal plan w e f)
   pub relies : (k w v : ℕ)
-      → RowsExactly plan ((k < listCount plan) × (w < routerCount plan) × (v < routerCount plan)) Unit Unit (reliesRefusal plan k w v)
+      → RowsExactly plan ((k < listCount plan) × (w < routerCount plan) × (v < routerCount plan)) Unit Unit Unit
+      (reliesRefusal plan k w v)
   pub verdict : (k : ℕ) (labels ranks table cycle : List ℕ)
-      → RowsExactly plan (k < listCount plan) (BuffersLong (routerCount plan) labels ranks table cycle) Unit
+      → RowsExactly plan (k < listCount plan) Unit (BuffersLong (routerCount plan) labels ranks table cycle) Unit
       (verdictRefusal plan k labels ranks table cycle)
+  -- "It refuses with 15 if more than 12 routers lie in such groups"; "The call needs two bytes for each number listed"
+  pub steady : (k : ℕ) (out : List ℕ)
+      → RowsExactly plan (k < listCount plan) (groupedRouters (instanceOf plan k) ≤ 12)
+      (2 * steadyCount (instanceOf plan k) ≤ length out) Unit (steadyRefusal plan k out)
   -- "An act or a run needs 2n bytes of table"
   pub activate : (k w : ℕ) (table : List ℕ)
-      → RowsExactly plan ((k < listCount plan) × (w < routerCount plan)) (2 * routerCount plan ≤ length table)
+      → RowsExactly plan ((k < listCount plan) × (w < routerCount plan)) Unit (2 * routerCount plan ≤ length table)
       (TableFacts (instanceOf plan k) table) (activateRefusal plan k w table)
   pub run : (k : ℕ) (acts table : List ℕ)
-      → RowsExactly plan ((k < listCount plan) × ActsBelow (routerCount plan) acts) (2 * routerCount plan ≤ length table)
+      → RowsExactly plan ((k < listCount plan) × ActsBelow (routerCount plan) acts) Unit (2 * routerCount plan ≤ length table)
       (TableFacts (instanceOf plan k) table) (runRefusal plan k acts table)

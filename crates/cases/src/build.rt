@@ -87,6 +87,17 @@ pub fn put_zeros(plan: &mut [u8], start: usize, count: usize) -> usize {
     at
 }
 
+// Writes distances so many times over, and then a 0.
+pub fn put_again(plan: &mut [u8], start: usize, times: usize, distances: &[usize]) -> usize {
+    let mut at = start;
+    let mut i = 0;
+    while i < times {
+        at = put_distances(plan, at, distances);
+        i += 1;
+    }
+    put_two(plan, at, 0)
+}
+
 // Writes the pairs of `lead` with each router after it, up to `last`.
 fn put_pairs_with(plan: &mut [u8], start: usize, lead: usize, last: usize) -> usize {
     let mut at = start;

@@ -6,6 +6,7 @@ use checker::compare::CompareAnswer;
 use checker::compare::Margin;
 use checker::compare::Preferred;
 use checker::relies::ReliesAnswer;
+use checker::steady::SteadyAnswer;
 use checker::verdict::VerdictAnswer;
 ghost use Prim.Native.Nat.{_≤_};
 
@@ -144,4 +145,23 @@ pub fn verdict(plan: &[u8], list: usize, labels: usize, ranks: usize, table: usi
         &mut [7u8; 10][0..third],
         &mut [7u8; 10][0..fourth],
     );
+}
+
+fn steady_answer(answer: SteadyAnswer) {
+    match answer {
+        SteadyAnswer::Refused(number) => text::number(wide(number)),
+        SteadyAnswer::Listed(count) => text::named_number(b"listed", count),
+    }
+}
+
+// How many steady tables there are, and what the call left in the buffer.
+fn steady_in(plan: &[u8], list: usize, out: &mut [u8]) {
+    steady_answer(checker::steady::steady(plan, list, out));
+    left(b"numbers", out);
+}
+
+// The same with a buffer of this length, at most 10, each byte 7 before.
+pub fn steady(plan: &[u8], list: usize, length: usize) {
+    let size = at_most_10(length);
+    steady_in(plan, list, &mut [7u8; 10][0..size]);
 }

@@ -71,6 +71,7 @@ fn every(plan: &[u8], table: &mut [u8]) {
     calls::activate(plan, 0, 0, table);
     calls::run(plan, 0, &[0], 1, table);
     calls::verdict(plan, 0, 5, 5, 10, 5);
+    calls::steady(plan, 0, 5);
 }
 
 // A call, by the first letter of its word.
@@ -84,6 +85,7 @@ fn call(word: u8, numbers: &[usize], plan: &[u8], table: &mut [u8]) {
         b'c' => calls::check(plan),
         b'e' => every(plan, table),
         b'l' => calls::egress_list(plan, first),
+        b'n' => calls::steady(plan, first, second),
         b'r' => calls::relies(plan, first, second, third),
         b's' => sequence(numbers, plan, table),
         b't' => text::number(plan.len()),

@@ -3,13 +3,13 @@
 use crate::build;
 use crate::script;
 
-// The kind of the body that a word sets: `roles` and `peers` 1, `sessions` and `mesh` 2, `distances` and `zeros` 3, `lists` and
-// `full` 4.
+// The kind of the body that a word sets: `roles` and `peers` 1, `sessions` and `mesh` 2, `distances`, `zeros` and `again` 3, `lists`
+// and `full` 4.
 fn kind(word: u8) -> u8 {
     match word {
         b'r' | b'p' => 1,
         b's' | b'm' => 2,
-        b'd' | b'z' => 3,
+        b'd' | b'z' | b'a' => 3,
         _ => 4,
     }
 }
@@ -37,6 +37,7 @@ fn body(word: u8, numbers: &[usize], plan: &mut [u8], start: usize) -> usize {
         b'm' => build::put_all_pairs(plan, start, n),
         b'd' => build::put_distances(plan, start, numbers),
         b'z' => build::put_zeros(plan, start, n),
+        b'a' => build::put_again(plan, start, n, script::from_second(numbers)),
         b'f' => build::put_full_lists(plan, start, n, script::number(numbers, 1, 0)),
         _ => build::put_all(plan, start, numbers),
     }

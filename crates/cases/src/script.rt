@@ -8,7 +8,7 @@ pub const SPACE: u8 = 32;
 pub const LINE_END: u8 = 10;
 
 // The most numbers that a word has.
-pub const ROOM: usize = 32;
+pub const ROOM: usize = 64;
 
 // The first place from `start` on whose byte is at most `top`, or the end. A space ends a word, and so does the line's end.
 pub fn until(text: &[u8], start: usize, top: u8) -> usize

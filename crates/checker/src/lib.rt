@@ -10,5 +10,6 @@ pub use call_query::relies;
 pub use call_query::size;
 pub use call_run::activate;
 pub use call_run::run;
+pub use call_steady::steady;
 pub use call_verdict::verdict;
 pub use route_explain_rules::explanation;

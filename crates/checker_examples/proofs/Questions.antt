@@ -7,7 +7,7 @@ use lib.IntN.{pos}
 use Rattle.base.specs.Below.{allBelow, anyBelow}
 use Rattle.base.specs.Best.{keepBest, best}
 use Rattle.base.specs.Seek.{seek, highest, count}
-use Rattle.base.specs.Tab.{tab}
+use Rattle.base.specs.Tab.{tab, joined}
 use Rattle.plan_contents.specs.Header.{markOk, headerOk, routerCountOk}
 use Rattle.plan_contents.specs.Contents.{kindsOk, placesOk, sizesOk, contentsOk}
 use Rattle.plan_rules.specs.Routers.{routerOk, routersOk}
@@ -28,7 +28,7 @@ use Rattle.graph_ranks.specs.Rank.{rankOver, ranksByChains, rank}
 use Rattle.graph_cycle.specs.Cycle.{start, next, walk, metAgainAt, metFirstAt, repeatedPart, cycleIn, cycle}
 use Rattle.route_theorems.specs.Settled.{chooseAll, chosenAfter, settledTable}
 use Rattle.net_tables.specs.TableBytes.{readRoute, tableOf, tableBytes, activateBytes, runBytes}
-use Rattle.call_rules.specs.Refusals.{sequenceOk, egressListRefusal, compareRefusal, reliesRefusal, buffersOk, verdictRefusal, tableChecks, activateRefusal, runRefusal}
+use Rattle.call_rules.specs.Refusals.{sequenceOk, egressListRefusal, compareRefusal, reliesRefusal, buffersOk, verdictRefusal, steadyChecks, steadyRefusal, tableChecks, activateRefusal, runRefusal}
 use Rattle.route_explain_rules.specs.Explained.{againstOwn, byOffer, onReflector, onClient, explained}
 use Rattle.route_explain_rules.specs.Values.{bare, valuesOf}
 use Rattle.route_explain_rules.specs.declared.explanation.Explanation.the-variants as explanations
@@ -40,10 +40,15 @@ use Rattle.call_compare.specs.Compare.{whichBetter, hasMargin, marginNumber, pr
 use Rattle.call_query.specs.Relies.{relied}
 use Rattle.net_verdict.specs.Assessed.{labelsLeft, ranksLeft, tableLeft, cycleLeft, isStable, labelsOf, ranksOf, highestOf, settledBytes, cycleOf, found}
 use Rattle.call_verdict.specs.Verdict.{verdictAnswer, labelsAfter, ranksAfter, tableAfter, cycleAfter}
+use Rattle.steady_rules.specs.Numbers.{numbersWhere}
+use Rattle.steady_rules.specs.Equations.{solves, carried, completed, solutions}
+use Rattle.steady_rules.specs.OwnRoutes.{overruled, keepsOwn}
+use Rattle.steady_rules.specs.Steady.{steadyNumbers}
+use Rattle.call_steady.specs.Steady.{numberBytes, steadyAnswer, numbersAfter}
 use Rattle.call_run.specs.Activate.{activateTable}
 use Rattle.call_run.specs.Run.{runApplied, runRounds, runExhausted, runTable}
-use Rattle.checker_examples.specs.Questions.{Question, checkAsked, sizeAsked, listAsked, compareToldAsked, reliesAsked, explainAsked, verdictAsked, activateAsked, runAsked}
-use Rattle.checker_examples.specs.Questions.{Answer, checkIs, sizeIs, listIs, compareIs, reliesIs, explainIs, verdictIs, activateIs, runIs}
+use Rattle.checker_examples.specs.Questions.{Question, checkAsked, sizeAsked, listAsked, compareToldAsked, reliesAsked, explainAsked, verdictAsked, steadyAsked, activateAsked, runAsked}
+use Rattle.checker_examples.specs.Questions.{Answer, checkIs, sizeIs, listIs, compareIs, reliesIs, explainIs, verdictIs, steadyIs, activateIs, runIs}
 
 -- the answer, by those definitions
 unfoldable pub answerTo : List ℕ → Question → Answer
@@ -68,6 +73,9 @@ answerTo plan (verdictAsked k labels ranks table cycle) =
     verdictIs (verdictAnswer number (instanceOf plan k)) (labelsAfter number (instanceOf plan k) labels) (ranksAfter number (instanceOf plan k) ranks)
     (tableAfter number (instanceOf plan k) table)
     (cycleAfter number (instanceOf plan k) cycle)
+answerTo plan (steadyAsked k numbers) =
+    let number = steadyRefusal plan k numbers in
+    steadyIs (steadyAnswer number (instanceOf plan k)) (numbersAfter number (instanceOf plan k) numbers)
 answerTo plan (activateAsked k w table) = activateIs (activateRefusal plan k w table) (activateTable plan k w table)
 answerTo plan (runAsked k acts limit table) =
     let number = runRefusal plan k acts table in
@@ -81,6 +89,8 @@ unfolding
     planRefusal egressListRefusal compareRefusal reliesRefusal verdictRefusal activateRefusal runRefusal
     sizeRouters sizeLists egressListStart egressListSize whichBetter hasMargin marginNumber preferredOf compared relied
     isStable labelsOf ranksOf highestOf settledBytes cycleOf found verdictAnswer labelsAfter ranksAfter tableAfter cycleAfter labelsLeft ranksLeft tableLeft cycleLeft
+    steadyRefusal steadyChecks steadyAnswer numberBytes numbersAfter joined
+    numbersWhere solves carried completed solutions overruled keepsOwn steadyNumbers
     activateTable runApplied runRounds runExhausted runTable
     buffersOk tableChecks sequenceOk readRoute tableOf tableBytes activateBytes runBytes chooseAll chosenAfter settledTable
     start next walk metAgainAt metFirstAt repeatedPart cycleIn cycle rankOver ranksByChains rank together label stable grouped closing acted roundsFrom rounds

@@ -22,6 +22,8 @@ use Rattle.call_query.specs.Relies.{Relied}
 use Rattle.call_explain.specs.Explain.{explainNumber, Explains}
 use Rattle.call_verdict.specs.declared.verdict.VerdictAnswer.{VerdictAnswer}
 use Rattle.call_verdict.specs.Verdict.{VerdictCall}
+use Rattle.call_steady.specs.declared.steady.SteadyAnswer.{SteadyAnswer}
+use Rattle.call_steady.specs.Steady.{SteadyCall}
 use Rattle.call_run.specs.Activate.{Activates}
 use Rattle.call_run.specs.declared.run.RunAnswer.{RunAnswer}
 use Rattle.call_run.specs.Run.{Runs}
@@ -35,6 +37,7 @@ pub data Question : Type 0 where
   reliesAsked : (list router other : ℕ) → Question
   explainAsked : (list router other : ℕ) → Question
   verdictAsked : (list : ℕ) (labels ranks table cycle : List ℕ) → Question
+  steadyAsked : (list : ℕ) (numbers : List ℕ) → Question
   activateAsked : (list router : ℕ) (table : List ℕ) → Question
   runAsked : (list : ℕ) (sequence : List ℕ) (limit : ℕ) (table : List ℕ) → Question
 
@@ -51,6 +54,7 @@ pub data Answer : Type 0 where
   reliesIs : (answer : ReliesAnswer) → Answer
   explainIs : (answer : Explanation) (refusal : ℕ) (values : Values) → Answer
   verdictIs : (answer : VerdictAnswer) (labels ranks table cycle : List ℕ) → Answer
+  steadyIs : (answer : SteadyAnswer) (numbers : List ℕ) → Answer
   activateIs : (refusal : ℕ) (table : List ℕ) → Answer
   runIs : (refusal applied rounds : ℕ) (exhausted : Bool) (table : List ℕ) → Answer
 
@@ -68,6 +72,8 @@ pub data Admitted (plan : List ℕ) : Question → Answer → Type 0 where
   verdict : (k : ℕ) (r : VerdictAnswer) (labels ranks table cycle : Lent (List ℕ)) → VerdictCall plan k r labels ranks table cycle
       → Admitted plan (verdictAsked k (labels .before) (ranks .before) (table .before) (cycle .before))
       (verdictIs r (labels .after) (ranks .after) (table .after) (cycle .after))
+  steady : (k : ℕ) (r : SteadyAnswer) (numbers : Lent (List ℕ)) → SteadyCall plan k r numbers
+      → Admitted plan (steadyAsked k (numbers .before)) (steadyIs r (numbers .after))
   activate : (k w : ℕ) (table : List ℕ) (r : ℕ) (after : List ℕ) → Activates plan k w table r after
       → Admitted plan (activateAsked k w table) (activateIs r after)
   run : (k : ℕ) (acts : List ℕ) (limit : ℕ) (table : List ℕ) (r : RunAnswer) (after : List ℕ) → Runs plan k acts limit table r after

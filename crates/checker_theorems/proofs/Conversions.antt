@@ -1,8 +1,8 @@
 -- Two plans of one network, list by list: the calls answer alike on both.
-use Prim.Native.Nat.{ℕ, zero, suc, _<_, min}
+use Prim.Native.Nat.{ℕ, zero, suc, _*_, _<_, min}
 use mathlib.Core.Path.{_≡_, refl, _∙_, sym, ap, ap₂}
 use mathlib.Core.Bool.{Bool, true, false, cond, _&&_}
-use mathlib.Core.List.{List}
+use mathlib.Core.List.{List, _++_}
 use mathlib.Core.Logic.{inl, inr}
 use lib.Dec.{ltb}
 use lib.ListN.{length, take, drop}
@@ -27,12 +27,13 @@ use Rattle.route_rules.specs.Reliance.{relies}
 use Rattle.route_rules.specs.Rounds.{rounds}
 use Rattle.route_explain_rules.specs.Explained.{explained}
 use Rattle.route_explain_rules.specs.declared.explanation.Explanation.the-variants as explanations
+use Rattle.steady_rules.specs.Steady.{steadyNumbers, steadyCount}
 use Rattle.net_rules.specs.FromPlan.{instanceOf}
 use Rattle.net_rules.proofs.FromConverted.{converted-instance}
 use Rattle.net_tables.specs.TableBytes.{activateBytes, runBytes}
 use Rattle.net_verdict.specs.Assessed.{found, labelsLeft, ranksLeft, tableLeft, cycleLeft}
-use Rattle.call_rules.specs.Refusals.{sequenceOk, askedChecks, egressListRefusal, compareRefusal, reliesRefusal, verdictRefusal, buffersOk, tableChecks, activateRefusal, runRefusal}
-use Rattle.call_rules.proofs.Granted.{list-asked, relies-asked, verdict-asked}
+use Rattle.call_rules.specs.Refusals.{sequenceOk, askedChecks, egressListRefusal, compareRefusal, reliesRefusal, verdictRefusal, buffersOk, steadyChecks, steadyRefusal, tableChecks, activateRefusal, runRefusal}
+use Rattle.call_rules.proofs.Granted.{list-asked, relies-asked, verdict-asked, steady-asked}
 use Rattle.call_query.specs.declared.size.SizeAnswer.{SizeAnswer}
 use Rattle.call_query.specs.declared.relies.ReliesAnswer.the-variants as reliances
 use Rattle.call_query.specs.declared.relies.ReliesAnswer.the-variants.{Yes, No}
@@ -46,6 +47,9 @@ use Rattle.call_convert.specs.Convert.{convertLength, convertBuffer, Converts, 
 use Rattle.call_verdict.specs.declared.verdict.VerdictAnswer.{VerdictAnswer}
 use Rattle.call_verdict.specs.declared.verdict.VerdictAnswer.the-variants as verdicts
 use Rattle.call_verdict.specs.Verdict.{answerOf, verdictAnswer, labelsAfter, ranksAfter, tableAfter, cycleAfter, VerdictCall}
+use Rattle.call_steady.specs.declared.steady.SteadyAnswer.{SteadyAnswer}
+use Rattle.call_steady.specs.declared.steady.SteadyAnswer.the-variants as steadies
+use Rattle.call_steady.specs.Steady.{numberBytes, steadyAnswer, numbersAfter, SteadyCall}
 use Rattle.call_run.specs.declared.run.RunAnswer.{RunAnswer}
 use Rattle.call_run.specs.Activate.{activateTable}
 use Rattle.call_run.specs.Run.{runApplied, runRounds, runExhausted, runTable, Runs}
@@ -96,6 +100,10 @@ module _ (plan result : List ℕ) (ok : planRefusal plan ≡ 0) (ok′ : planRef
   verdict-refusal : (k : ℕ) (a b c d : List ℕ) → verdictRefusal result k a b c d ≡ verdictRefusal plan k a b c d
   unfolding verdictRefusal
   verdict-refusal k a b c d = asked-same (λ n m. ltb k m) _ _ (λ h. ap (λ n. refuse (buffersOk n a b c d) 9 0) count)
+
+  steady-refusal : (k : ℕ) (out : List ℕ) → steadyRefusal result k out ≡ steadyRefusal plan k out
+  unfolding steadyRefusal
+  steady-refusal k out = asked-same (λ n m. ltb k m) _ _ (λ h. ap (λ I. steadyChecks I out) (network k (ltb-true k _ h)))
 
   activate-refusal : (k w : ℕ) (table : List ℕ) → activateRefusal result k w table ≡ activateRefusal plan k w table
   unfolding activateRefusal
@@ -163,6 +171,18 @@ module _ (plan result : List ℕ) (ok : planRefusal plan ≡ 0) (ok′ : planRef
         s′ .cycled ∙ by-network k _ _ (λ x. shown) (λ I. cycleLeft I shown) same list ∙ sym (s .cycled),
       )
 
+  same-steady : (k : ℕ) (out : List ℕ) (r r′ : SteadyAnswer) (after after′ : List ℕ) → SteadyCall plan k r (left out after)
+      → SteadyCall result k r′ (left out after′) → (r′ ≡ r) × (after′ ≡ after)
+  unfolding steadyAnswer numbersAfter
+  same-steady k out r r′ after after′ s s′ =
+      let same = steady-refusal k out in
+      let list : steadyRefusal plan k out ≡ 0 → k < listCount plan = λ z. steady-asked plan k out z .list in (
+        s′ .answer ∙ by-network k _ _ steadies.Refused (λ I. steadies.Listed (steadyCount I)) same list ∙ sym (s .answer),
+        s′ .written
+            ∙ by-network k _ _ (λ x. out) (λ I. numberBytes (steadyNumbers I) ++ drop (2 * steadyCount I) out) same list
+            ∙ sym (s .written),
+      )
+
   pub same-calls : SameCalls plan result
   unfolding relied compared activateTable
   same-calls =
@@ -187,6 +207,7 @@ module _ (plan result : List ℕ) (ok : planRefusal plan ≡ 0) (ok′ : planRef
             ∙ by-network k _ _ explanations.Refused (λ I. explained I w v) (relies-refusal k w v) (relies-list k w v)
             ∙ sym (s .answer);
         verdict = same-verdict;
+        steady = same-steady;
         activate =
             λ k w table r r′ after after′ s s′. (
               s′ .number ∙ activate-refusal k w table ∙ sym (s .number),

@@ -68,7 +68,7 @@ module _ (plan : List ℕ) (k w v e c : ℕ) (m : ℤ) (explains : Explains plan
       let r = lt-ltb _ _ (asked .router) in
       let o = lt-ltb _ _ offer-known in
       let b = lt-ltb _ _ own-known in
-      compare-in-order plan w e c .none (asked .planOk) (rw (r, o, b)) refl refl
+      compare-in-order plan w e c .none (asked .planOk) (rw (r, o, b)) refl refl refl
 
   -- a comparison reads no list
   better-there : better (instanceOf plan 0) w e (instanceOf plan k .listed v) c true ≡ true

@@ -27,12 +27,12 @@ use Rattle.graph_ranks.specs.Rank.{rank}
 use Rattle.graph_cycle.specs.Cycle.{IsCycle}
 use Rattle.route_rules.specs.Instance.{Instance}
 use Rattle.route_rules.specs.Preference.{hasStep}
-use Rattle.route_rules.specs.Reliance.{bestClient}
+use Rattle.route_rules.specs.Reliance.{bestClient, reliance}
 use Rattle.route_theorems.specs.HopStep as network
 use Rattle.route_theorems.proofs.HopStep.{in-cycle, all-have-step}
 use Rattle.net_rules.specs.FromPlan.{instanceOf, RoleOf}
 use Rattle.net_rules.proofs.FromPlan.{trusted}
-use Rattle.net_verdict.specs.Assessed.{reliance, isStable, highestOf, labelsOf, cycleOf, found, labelsLeft, cycleLeft}
+use Rattle.net_verdict.specs.Assessed.{isStable, highestOf, labelsOf, cycleOf, found, labelsLeft, cycleLeft}
 use Rattle.call_rules.specs.Refusals.{buffersOk, verdictRefusal, tableChecks}
 use Rattle.call_verdict.specs.declared.verdict.VerdictAnswer.{VerdictAnswer}
 use Rattle.call_verdict.specs.declared.verdict.VerdictAnswer.the-variants.{Suspect}
@@ -59,6 +59,17 @@ module _ (I : Instance) where
 front-byte : (bytes rest : List ℕ) {buffer : List ℕ} → buffer ≡ bytes ++ rest → (j : ℕ) → j < length bytes
     → getD buffer j 0 ≡ getD bytes j 0
 front-byte bytes rest e j l = ap (λ b. getD b j 0) e ∙ List·getD-append bytes rest 0 j l
+
+-- a label that the verdict call writes
+pub label-byte : (plan : List ℕ) (k : ℕ) (r : VerdictAnswer) (labels ranks table shown : Lent (List ℕ))
+    → VerdictCall plan k r labels ranks table shown
+    → verdictRefusal plan k (labels .before) (ranks .before) (table .before) (shown .before) ≡ 0
+    → (w : ℕ) → w < routerCount plan → getD (labels .after) w 0 ≡ labelIn plan k w
+unfolding labelsAfter labelsLeft labelsOf
+label-byte plan k r labels ranks table shown call given w l =
+    front-byte (tab (labelIn plan k) (routerCount plan)) (drop (routerCount plan) (labels .before)) (call .labelled ∙ when-given _ _ _ given) w
+    (omega (arith, length-tab (labelIn plan k) (routerCount plan)))
+    ∙ getD-tab (labelIn plan k) (routerCount plan) 0 w l
 
 module _ (plan : List ℕ) (k : ℕ) (h : HasList plan k) where
   abbrev I : Instance
@@ -124,7 +135,7 @@ module _ (plan : List ℕ) (k : ℕ) (h : HasList plan k) where
       go (suc i) l = beside (suc i) 0 l (omega arith) (λ e. is .distinct 0 (suc i) (omega arith) l (sym e))
 
   -- two routers with one label
-  same-label : (w v : ℕ) → w < routerCount plan → v < routerCount plan → (w ≡ v → ⊥) → labelIn plan k w ≡ labelIn plan k v
+  pub same-label : (w v : ℕ) → w < routerCount plan → v < routerCount plan → (w ≡ v → ⊥) → labelIn plan k w ≡ labelIn plan k v
       → MayCycle plan k w
   same-label w v l m d e =
       ⊎-elim
@@ -143,12 +154,8 @@ module _ (plan : List ℕ) (k : ℕ) (h : HasList plan k) where
     given : verdictRefusal plan k (labels .before) (ranks .before) (table .before) (shown .before) ≡ 0
     given = no-refusal plan k (h .planOk) (h .listOk) (labels .before) (ranks .before) (table .before) (shown .before) room
 
-    label-byte : (w : ℕ) → w < routerCount plan → getD (labels .after) w 0 ≡ labelIn plan k w
-    unfolding labelsAfter labelsLeft labelsOf
-    label-byte w l =
-        front-byte (tab (labelIn plan k) (routerCount plan)) (drop (routerCount plan) (labels .before)) (call .labelled ∙ when-given _ _ _ given) w
-        (omega (arith, length-tab (labelIn plan k) (routerCount plan)))
-        ∙ getD-tab (labelIn plan k) (routerCount plan) 0 w l
+    label : (w : ℕ) → w < routerCount plan → getD (labels .after) w 0 ≡ labelIn plan k w
+    label = label-byte plan k r labels ranks table shown call given
 
     suspect : (count : ℕ) → r ≡ Suspect count → isStable I ≡ false
     suspect count e = go (isStable I) refl
@@ -183,8 +190,8 @@ module _ (plan : List ℕ) (k : ℕ) (h : HasList plan k) where
         record {
           cycled = λ count e j l. no-step _ (in-shown count e j l);
           inCycle = in-shown;
-          labelled = λ w l p. label-byte w l ∙ sym (alone w (labelIn plan k w) l p (verdict-means plan k .labelShares w l));
-          sameLabel = λ w v l m d e. same-label w v l m d (sym (label-byte w l) ∙ e ∙ label-byte v m);
+          labelled = λ w l p. label w l ∙ sym (alone w (labelIn plan k w) l p (verdict-means plan k .labelShares w l));
+          sameLabel = λ w v l m d e. same-label w v l m d (sym (label w l) ∙ e ∙ label v m);
         }
 
 pub step-breaks-cycles : EveryStepBreaksCycles

@@ -3,6 +3,7 @@ pub mod Series
 pub mod StableVerdict
 pub mod Nobody
 pub mod HopStep
+pub mod SteadyListed
 pub mod Comparisons
 pub mod Conversions
 pub mod Explanations
@@ -11,4 +12,5 @@ pub mod CallsExamples
 pub mod LeftOfExample
 pub mod NobodyExamples
 pub mod HopStepExamples
+pub mod SteadyListedExamples
 pub mod RefusedCalls

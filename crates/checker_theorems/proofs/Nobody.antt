@@ -27,7 +27,7 @@ use Rattle.plan_rules.proofs.Passed.{passed}
 use Rattle.graph_groups.specs.Closure.{Chain, step, more}
 use Rattle.graph_groups.specs.Groups.{stable}
 use Rattle.route_rules.specs.Instance.{Instance, nothing}
-use Rattle.route_rules.specs.Reliance.{relies}
+use Rattle.route_rules.specs.Reliance.{relies, reliance}
 use Rattle.route_rules.specs.Activation.{entryOk, tableOk}
 use Rattle.route_theorems.specs.Nobody.{hasParent, EndsWithNothing, NobodyListed}
 use Rattle.route_theorems.proofs.Nobody.{parent-relied, nobody-listed}
@@ -36,7 +36,7 @@ use Rattle.route_explain_rules.specs.declared.explanation.Explanation.{Explanat
 use Rattle.net_rules.specs.FromPlan.{named, instanceOf}
 use Rattle.net_tables.specs.TableBytes.{readRoute, tableOf, tableBytes}
 use Rattle.net_tables.proofs.TableBytes.{entry-none, entry-far, entry-near, table-held}
-use Rattle.net_verdict.specs.Assessed.{reliance, isStable, highestOf, settledBytes}
+use Rattle.net_verdict.specs.Assessed.{isStable, highestOf, settledBytes}
 use Rattle.call_rules.specs.Refusals.{egressListRefusal, reliesRefusal, buffersOk, tableChecks}
 use Rattle.call_rules.proofs.Granted.{list-asked}
 use Rattle.call_rules.proofs.InOrder.{list-in-order, relies-in-order}
@@ -166,7 +166,7 @@ module _ (plan : List ℕ) (k : ℕ) (h : ListsNobody plan k) where
     explains-so : (r : Explanation) → Explains plan k w v r → r ≡ explainedForNobody plan w v
     explains-so r x =
         let given : reliesRefusal plan k w v ≡ 0
-        = relies-in-order plan k w v .none (h .planOk) (rw (lt-ltb _ _ (h .listOk), lt-ltb _ _ l, lt-ltb _ _ m)) refl refl in
+        = relies-in-order plan k w v .none (h .planOk) (rw (lt-ltb _ _ (h .listOk), lt-ltb _ _ l, lt-ltb _ _ m)) refl refl refl in
         x .answer ∙ when-given _ _ _ given ∙ explained-is
 
   -- no chain of reliances is longer than one
@@ -309,7 +309,7 @@ module _ (plan : List ℕ) (k : ℕ) (h : ListsNobody plan k) where
 
 -- a list of nobody, by what is handed back for it
 part-given : (plan : List ℕ) (k : ℕ) → ListsNobody plan k → egressListRefusal plan k ≡ 0
-part-given plan k h = list-in-order plan k .none (h .planOk) (lt-ltb _ _ (h .listOk)) refl refl
+part-given plan k h = list-in-order plan k .none (h .planOk) (lt-ltb _ _ (h .listOk)) refl refl refl
 
 part-of-nobody : (plan : RefT (List ℕ)) (k : ℕ) (part : RefT (List ℕ)) → ListPartOf plan k part → ListsNobody (now plan) k
     → PartOfNobody plan k part

@@ -6,6 +6,7 @@ use Rattle.base.specs.Bytes.{bytesOn}
 use Rattle.call_query.specs.EgressList.{egressListStart, egressListSize}
 use Rattle.call_query.specs.Size.{sizeRouters, sizeLists}
 use Rattle.call_verdict.specs.Verdict.{verdictAnswer, labelsAfter, ranksAfter, tableAfter, cycleAfter}
+use Rattle.call_steady.specs.Steady.{steadyAnswer, numbersAfter}
 use Rattle.call_run.specs.Activate.{activateTable}
 use Rattle.call_run.specs.Run.{runApplied, runRounds, runExhausted, runTable}
 use Rattle.call_convert.specs.Convert.{convertLength, convertBuffer}
@@ -14,8 +15,8 @@ use Rattle.checker_theorems.specs.RefusedCalls.{RefusedCalls}
 
 pub refused-calls : RefusedCalls
 unfolding
-    egressListStart egressListSize sizeRouters sizeLists verdictAnswer labelsAfter ranksAfter tableAfter cycleAfter activateTable runApplied runRounds runExhausted runTable
-    convertLength convertBuffer
+    egressListStart egressListSize sizeRouters sizeLists verdictAnswer labelsAfter ranksAfter tableAfter cycleAfter
+    steadyAnswer numbersAfter activateTable runApplied runRounds runExhausted runTable convertLength convertBuffer
 refused-calls =
     record {
       list = λ plan k part s ne. (
@@ -40,6 +41,7 @@ refused-calls =
         s .settled ∙ when-refused _ _ _ ne,
         s .cycled ∙ when-refused _ _ _ ne,
       );
+      steady = λ plan k r out s ne. (s .answer ∙ when-refused _ _ _ ne, s .counted ∙ when-refused _ _ _ ne, s .written ∙ when-refused _ _ _ ne);
       activate = λ plan k w table r after s ne. (s .number, s .bytes ∙ when-refused _ _ _ ne);
       run = λ plan k acts limit table r after s ne. (
         s .number,

@@ -62,9 +62,9 @@ append-below n acts more a b i h =
     (lt-or-le i (length acts))
 
 -- what acts, all of routers below n, make of a buffer
-record Applied (I : Instance) (acts before after : List ℕ) : Type 0 where
-  below : ActsBelow (I .n) acts
-  is : after ≡ runBytes I before acts
+pub record Applied (I : Instance) (acts before after : List ℕ) : Type 0 where
+  pub below : ActsBelow (I .n) acts
+  pub is : after ≡ runBytes I before acts
 
 no-acts : (I : Instance) (buffer : List ℕ) → Applied I [] buffer buffer
 unfolding runBytes
@@ -119,7 +119,7 @@ module _ (plan : List ℕ) (k : ℕ) where
       (eq-or-ne (callRefusal call buffer) 0)
 
   -- the series applies its acts, as one run would
-  series-applies : (calls : List Call) (buffer : List ℕ) → ForThis plan k calls buffer
+  pub series-applies : (calls : List Call) (buffer : List ℕ) → ForThis plan k calls buffer
       → Applied (instanceOf plan k) (seriesActs calls buffer) buffer (seriesBuffer calls buffer)
   unfolding ForThis seriesActs seriesBuffer
   series-applies [] buffer this = no-acts (instanceOf plan k) buffer
@@ -143,7 +143,7 @@ module _ (I : Instance) (small : I .n ≤ 64) (acts before after : List ℕ) (lo
   applied-table = ap (λ b. tableOf b (I .n)) (a .is) ∙ run-table I before acts small (a .below) long
 
   -- a buffer whose table no act changes keeps every byte
-  applied-stays : (t : List Route) → IsTable I t → Steady I t → tableOf before (I .n) ≡ t → after ≡ before
+  pub applied-stays : (t : List Route) → IsTable I t → Steady I t → tableOf before (I .n) ≡ t → after ≡ before
   applied-stays t e steady holds =
       same-buffer (I .n) after before applied-long long
       (applied-table ∙ ap (λ u. runActs I u acts) holds ∙ steady-stays I t e steady acts ∙ sym holds)

@@ -20,10 +20,10 @@ use Rattle.graph_groups.specs.Groups.{stable}
 use Rattle.graph_ranks.specs.Rank.{rankAbove, rankOver, rank}
 use Rattle.graph_ranks.proofs.RankRule.{rank-rule}
 use Rattle.route_rules.specs.Instance.{Instance}
-use Rattle.route_rules.specs.Reliance.{relies}
+use Rattle.route_rules.specs.Reliance.{relies, reliance}
 use Rattle.route_theorems.specs.Nobody.{RankRule}
 use Rattle.net_rules.specs.FromPlan.{instanceOf}
-use Rattle.net_verdict.specs.Assessed.{reliance, isStable, highestOf, settledBytes, labelsOf, ranksOf, found, labelsLeft, ranksLeft, tableLeft, cycleLeft}
+use Rattle.net_verdict.specs.Assessed.{isStable, highestOf, settledBytes, labelsOf, ranksOf, found, labelsLeft, ranksLeft, tableLeft, cycleLeft}
 use Rattle.call_rules.specs.Refusals.{buffersOk, verdictRefusal}
 use Rattle.call_verdict.specs.declared.verdict.VerdictAnswer.{VerdictAnswer}
 use Rattle.call_verdict.specs.declared.verdict.VerdictAnswer.the-variants.{Stable}

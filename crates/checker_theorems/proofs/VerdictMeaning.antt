@@ -19,13 +19,13 @@ use Rattle.graph_ranks.proofs.RankRule.{rank-falls, rank-means}
 use Rattle.graph_cycle.specs.Cycle.{IsCycle}
 use Rattle.graph_cycle.proofs.Walking.{cycle-is}
 use Rattle.route_rules.specs.Instance.{Instance}
-use Rattle.route_rules.specs.Reliance.{relies}
+use Rattle.route_rules.specs.Reliance.{relies, reliance}
 use Rattle.route_rules.proofs.Reliance.{relies-other}
 use Rattle.route_theorems.specs.Claims.{Ranked, OneSteadyTable}
 use Rattle.route_theorems.proofs.Uniqueness.{one-steady-table}
 use Rattle.route_theorems.proofs.Senders.{settles-by-any-sender}
 use Rattle.net_rules.specs.FromPlan.{instanceOf}
-use Rattle.net_verdict.specs.Assessed.{reliance, isStable, highestOf, cycleOf}
+use Rattle.net_verdict.specs.Assessed.{isStable, highestOf, cycleOf}
 use Rattle.checker_theorems.specs.VerdictMeaning.{Shares, labelIn, rankIn, HighestBelow, VerdictMeans}
 
 module _ (I : Instance) where

@@ -23,6 +23,8 @@ use Rattle.call_convert.specs.Convert.{Widens, Narrows}
 use Rattle.call_explain.specs.Explain.{Explains}
 use Rattle.call_verdict.specs.declared.verdict.VerdictAnswer.{VerdictAnswer}
 use Rattle.call_verdict.specs.Verdict.{VerdictCall}
+use Rattle.call_steady.specs.declared.steady.SteadyAnswer.{SteadyAnswer}
+use Rattle.call_steady.specs.Steady.{SteadyCall}
 use Rattle.call_run.specs.declared.run.RunAnswer.{RunAnswer}
 use Rattle.call_run.specs.Activate.{Activates}
 use Rattle.call_run.specs.Run.{Runs}
@@ -48,6 +50,9 @@ pub record SameCalls (plan result : List ℕ) : Type 0 where
       → VerdictCall plan k r (left labels a) (left ranks b) (left table c) (left shown d)
       → VerdictCall result k r′ (left labels a′) (left ranks b′) (left table c′) (left shown d′)
       → (r′ ≡ r) × (a′ ≡ a) × (b′ ≡ b) × (c′ ≡ c) × (d′ ≡ d)
+  -- the numbers of the tables that no act changes
+  pub steady : (k : ℕ) (out : List ℕ) (r r′ : SteadyAnswer) (after after′ : List ℕ) → SteadyCall plan k r (left out after)
+      → SteadyCall result k r′ (left out after′) → (r′ ≡ r) × (after′ ≡ after)
   -- "held routes and runs", on any table
   pub activate : (k w : ℕ) (table : List ℕ) (r r′ : ℕ) (after after′ : List ℕ) → Activates plan k w table r after
       → Activates result k w table r′ after′ → (r′ ≡ r) × (after′ ≡ after)

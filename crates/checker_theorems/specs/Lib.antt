@@ -3,9 +3,11 @@ pub mod Series
 pub mod Nobody
 pub mod Comparisons
 pub mod HopStep
+pub mod SteadyListed
 pub mod Conversions
 pub mod Explanations
 pub mod CallsExamples
 pub mod NobodyExamples
 pub mod HopStepExamples
+pub mod SteadyListedExamples
 pub mod RefusedCalls

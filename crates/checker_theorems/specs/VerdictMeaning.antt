@@ -10,11 +10,11 @@ use Rattle.graph_groups.specs.Closure.{closure, Chain}
 use Rattle.graph_groups.specs.Groups.{label}
 use Rattle.graph_ranks.specs.Rank.{rank}
 use Rattle.graph_cycle.specs.Cycle.{IsCycle}
-use Rattle.route_rules.specs.Reliance.{relies}
+use Rattle.route_rules.specs.Reliance.{relies, reliance}
 use Rattle.route_theorems.specs.Claims.{OneSteadyTable}
 use Rattle.route_theorems.specs.Senders.{SettlesByAnySender}
 use Rattle.net_rules.specs.FromPlan.{instanceOf}
-use Rattle.net_verdict.specs.Assessed.{reliance, isStable, highestOf, cycleOf}
+use Rattle.net_verdict.specs.Assessed.{isStable, highestOf, cycleOf}
 
 -- "relies .. through a chain of reliances"
 abbrev pub Reaches : List ℕ → ℕ → ℕ → ℕ → Type 0

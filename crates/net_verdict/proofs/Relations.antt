@@ -23,12 +23,13 @@ use Rattle.graph_groups.proofs.Sharing.{labels-cong, stable-cong, stable-acycli
 use Rattle.graph_ranks.proofs.RankRule.{rank-cong, highest-rank-cong, rank-falls}
 use Rattle.graph_cycle.proofs.Walking.{cycle-cong}
 use Rattle.route_rules.specs.Instance.{Instance}
+use Rattle.route_rules.specs.Reliance.{reliance}
 use Rattle.route_rules.proofs.Reliance.{relies-other}
 use Rattle.route_theorems.specs.Settled.{settledTable}
 use Rattle.route_theorems.specs.Claims.{Ranked}
 use Rattle.net_tables.specs.TableBytes.{tableBytes}
 use Rattle.net_reliance.specs.RelianceRows.{RelianceRows}
-use Rattle.net_verdict.specs.Assessed.{reliance, isStable, labelsOf, ranksOf, highestOf, settledBytes, cycleOf, found, labelsLeft, ranksLeft, tableLeft, cycleLeft, Assessed}
+use Rattle.net_verdict.specs.Assessed.{isStable, labelsOf, ranksOf, highestOf, settledBytes, cycleOf, found, labelsLeft, ranksLeft, tableLeft, cycleLeft, Assessed}
 use Rattle.net_verdict.specs.declared.Assessment.the-variants.{Stable, Suspect}
 use Rattle.net_settle.specs.ByRank.{highestIn}
 

@@ -5,22 +5,17 @@ use mathlib.Core.Bool.{Bool, cond}
 use mathlib.Core.List.{List, _++_}
 use lib.ListN.{length, drop}
 use Rattle.base.specs.Lent.{Lent}
-use Rattle.base.specs.Seek.{flag}
 use Rattle.base.specs.Tab.{tab}
-use Rattle.graph_groups.specs.Closure.{Relation, closure}
+use Rattle.graph_groups.specs.Closure.{closure}
 use Rattle.graph_groups.specs.Groups.{label, stable}
 use Rattle.graph_ranks.specs.Rank.{rank, highestRank}
 use Rattle.graph_cycle.specs.Cycle.{cycle}
 use Rattle.route_rules.specs.Instance.{Instance}
-use Rattle.route_rules.specs.Reliance.{relies}
+use Rattle.route_rules.specs.Reliance.{reliance}
 use Rattle.route_theorems.specs.Settled.{settledTable}
 use Rattle.net_tables.specs.TableBytes.{tableBytes}
 use Rattle.net_verdict.specs.declared.Assessment.{Assessment}
 use Rattle.net_verdict.specs.declared.Assessment.the-variants.{Stable, Suspect}
-
--- who relies on whom, as a relation of the graph part
-abbrev pub reliance : Instance → Relation
-reliance I w v = flag (relies I w v)
 
 -- "Stable: every group has one router."
 unfoldable pub isStable : Instance → Bool

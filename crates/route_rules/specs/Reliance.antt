@@ -3,6 +3,7 @@ use Prim.Native.Nat.{ℕ}
 use mathlib.Core.Bool.{Bool, true, false, not, cond, _&&_, _||_}
 use mathlib.Core.Option.{Option, none, some}
 use Rattle.base.specs.Best.{best}
+use Rattle.base.specs.Seek.{flag}
 use Rattle.route_rules.specs.Instance.{Instance, isRouter}
 use Rattle.route_rules.specs.Preference.{nearer, prefers}
 
@@ -38,6 +39,10 @@ relies I w v =
     (cond (I .reflector w)
     (isRouter v (bestClient I w) || (I .neighbour w v && I .reflector v && betterOffer I w (I .listed v) (offer I v) (bestClient I w)))
     (I .neighbour w v && (I .reflector v || I .listed v)))
+
+-- who relies on whom, as a relation of the graph part: 0 is no
+abbrev pub reliance : Instance → ℕ → ℕ → ℕ
+reliance I w v = flag (relies I w v)
 
 -- the same network, with the given reflectors as those that skip their clients, and as those that have the hop step
 abbrev pub withRoles : Instance → (skips hop : ℕ → Bool) → Instance

@@ -7,7 +7,7 @@ ghost use Rattle.plan_rules.specs.Refusal.{planRefusal};
 ghost use Rattle.call_run.specs.Activate.{Activates};
 ghost use Rattle.links_rules.specs.Distances.{DistancesCall};
 ghost use Rattle.c_rules.specs.Exports.{SizeExport, ListExport, CompareExport, ReliesExport, ExplainExport};
-ghost use Rattle.c_rules.specs.Exports.{VerdictExport, RunExport, WidenExport, NarrowExport};
+ghost use Rattle.c_rules.specs.Exports.{VerdictExport, SteadyExport, RunExport, WidenExport, NarrowExport};
 
 #[no_mangle]
 pub extern "C" fn rrp_check(plan: &[u8]) -> u8
@@ -116,6 +116,13 @@ pub extern "C" fn rrp_verdict(
         (lent labels) (lent ranks) (lent table) (lent cycle) (lent stable) (lent size) ⌝ }
 {
     c_tables::verdict(plan, list, labels, ranks, table, cycle, stable, size)
+}
+
+#[no_mangle]
+pub extern "C" fn rrp_steady(plan: &[u8], list: usize, out: &mut [u8], count: &mut u64) -> u8
+    ensures { λ r. ⌜ SteadyExport (now (plan .entry)) list r (lent out) (lent count) ⌝ }
+{
+    c_tables::steady(plan, list, out, count)
 }
 
 #[no_mangle]

@@ -18,12 +18,13 @@ use Rattle.graph_ranks.specs.Rank.{rank}
 use Rattle.graph_ranks.proofs.RankRule.{rank-below}
 use Rattle.graph_groups.proofs.Sharing.{stable-acyclic}
 use Rattle.route_rules.specs.Instance.{Instance}
+use Rattle.route_rules.specs.Reliance.{reliance}
 use Rattle.route_rules.proofs.Reliance.{relies-other}
 use Rattle.net_rules.specs.FromPlan.{instanceOf}
 use Rattle.net_verdict.specs.declared.Assessment.{Assessment}
 use Rattle.net_verdict.specs.declared.Assessment.the-variants.{Stable, Suspect}
 use Rattle.call_rules.proofs.Granted.{few-routers}
-use Rattle.net_verdict.specs.Assessed.{reliance, isStable, highestOf, cycleOf, found, cycleLeft}
+use Rattle.net_verdict.specs.Assessed.{isStable, highestOf, cycleOf, found, cycleLeft}
 use Rattle.plan_rules.proofs.Refused.{when-refused, when-given}
 use Rattle.text_lines.specs.Text.{headLine, refusedLine, stableLine, suspectLine}
 use Rattle.text_verdict_rules.specs.Listing.{listLine, listLines, planText}

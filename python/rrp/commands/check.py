@@ -7,9 +7,10 @@ from argparse import ArgumentParser, Namespace
 from ..columns import left, widest
 from ..effects import Effect, effect_on
 from ..encoding import NARROW, WIDE, longest
-from ..output import list_values, plan_line, plan_values, verdict_lines, verdict_words
+from ..output import list_values, plan_line, plan_values, rest_lines, verdict_lines, verdict_words
 from ..output import write_json, write_notes
 from ..plan import Plan, Verdict
+from ..rest import NO_PROMISE, Rest, any_table, rest_of
 
 SET_HELP = (
     "judge a change beside what was; repeatable. The statement goes in place of what the plan has "
@@ -33,6 +34,8 @@ def arguments(parser: ArgumentParser) -> None:
         "flushed; with --strict that ends with 1 too. With --set, routers that settle on another "
         "route are named; as before says that every rank and route is the same, and same cycle "
         "that a list is suspect with the cycle that it had, its routes not compared. "
+        "Of a suspect list it is told in how many tables it may rest, which is no promise that its "
+        "routers get there; rrp steady PLAN LIST shows them. "
         "Exit status: 0 all lists are stable, after the changes if any; 1 some list is suspect, "
         "or with --strict some router ends without a route; 2 error."
     )
@@ -50,13 +53,16 @@ def run(options: Namespace) -> int:
 def _run_plain(options: Namespace) -> tuple[Verdict, ...]:
     plan = Plan.read(options.plan)
     verdicts = plan.verdicts()
+    rests = {verdict.name: rest_of(plan, verdict) for verdict in verdicts}
     if options.json:
-        lists = [list_values(verdict) for verdict in verdicts]
+        lists = [list_values(each, rests[each.name]) for each in verdicts]
         write_json({**plan_values(plan), "lists": lists, "notes": plan.notes})
     else:
         write_notes(plan.notes)
         print(plan_line(plan))
-        _print_rows([row for each in verdicts for row in _rows(each)])
+        _print_rows([row for each in verdicts for row in _rows(each, rests[each.name])])
+        for line in rest_lines(options.plan, rests):
+            print(line)
     return verdicts
 
 
@@ -85,12 +91,14 @@ def _run_changed(options: Namespace) -> tuple[Verdict, ...]:
         for line in (line for each in roles for line in each.lines()):
             print(line)
         _print_rows([row for each in effects for row in _effect_rows(each)])
+        if any_table(each.rest for each in effects):
+            print(NO_PROMISE)
     return tuple(each.after for each in effects)
 
 
-def _rows(verdict: Verdict) -> list[tuple[str, ...]]:
+def _rows(verdict: Verdict, rest: Rest | None) -> list[tuple[str, ...]]:
     """A list with its verdict, and what more there is to say of it below."""
-    first, *more = verdict_lines(verdict)
+    first, *more = verdict_lines(verdict, rest)
     return [(verdict.name, first), *(("", line) for line in more)]
 
 

@@ -9,6 +9,8 @@ from ..errors import RrpError
 from ..orders import order_words, read_order
 from ..output import NOBODY_LISTED, count_words, routers_do, write_json, write_notes
 from ..plan import Plan, Verdict
+from ..rest import Rest, rest_of
+from ..steady import number_of
 from ..table_files import NOTHING, Read, read_table, route_values, route_words, table_values
 from ..tracing import AT_REST, OPEN, REPEATS, SETTLED, Order, Step, Tracing
 
@@ -26,7 +28,8 @@ is gone everywhere, that shows how the old routes are flushed.
 A run ends when no activation changes the table; when table and place in the order are as they were
 before, so that it goes round forever under this order; or after N rounds. A round ends as soon as
 every router has been activated since the last one ended. An order that leaves routers out ends no
-round, and is gone through N times.
+round, and is gone through N times. A table that no activation changes is named by its number, by
+which rrp steady PLAN LIST shows it.
 
 Exit status: 0 the list is stable, 1 suspect, 2 error.
 """
@@ -127,7 +130,21 @@ def _outcome_lines(tracing: Tracing) -> list[str]:
     """Where the run ended, a sentence a line."""
     acts = count_words(tracing.activations, "activation")
     made = f"after {acts} ({count_words(tracing.rounds, 'round')} ended)"
-    return [*_OUTCOMES[tracing.outcome.kind](tracing, made), *_lacking_lines(tracing)]
+    lines = _OUTCOMES[tracing.outcome.kind](tracing, made)
+    return [*lines, *_never_lines(tracing), *_lacking_lines(tracing)]
+
+
+def _never_lines(tracing: Tracing) -> list[str]:
+    """That a suspect list never comes to rest, where it has no table to rest in."""
+    if not _never_rests(tracing):
+        return []
+    return ["No order brings the list to rest: every table has an activation that changes it."]
+
+
+def _never_rests(tracing: Tracing) -> bool:
+    """Whether the list has no table to rest in."""
+    rest = rest_of(tracing.plan, tracing.verdict)
+    return rest is not None and rest.numbers == ()
 
 
 def _lacking_lines(tracing: Tracing) -> list[str]:
@@ -159,10 +176,46 @@ def _settled(tracing: Tracing, made: str) -> list[str]:
 
 
 def _at_rest(tracing: Tracing, made: str) -> list[str]:
+    number = _number_at_rest(tracing)
+    which = "" if number is None else f", which is table {number}"
     return [
-        f"at rest {made}: no activation changes this table.",
-        "The list is suspect: in another order its routers may come to rest elsewhere, or never.",
+        f"at rest {made}: no activation changes this table{which}.",
+        f"The list is suspect: {_other_orders(tracing, number)}.",
     ]
+
+
+def _number_at_rest(tracing: Tracing) -> int | None:
+    """The number of the table that the run ended in, if no activation changes it; the library lists
+    it. None also where the tables of the list have none, as too many routers lie in groups."""
+    rest = rest_of(tracing.plan, tracing.verdict)
+    unnumbered = rest is not None and rest.numbers is None
+    if unnumbered or tracing.outcome.kind not in (SETTLED, AT_REST):
+        return None
+    number = number_of(tracing.plan, tracing.verdict, tracing.table)
+    if rest is not None and number not in rest.numbers:
+        raise RuntimeError(f"the list {tracing.verdict.name} rests in table {number}, not listed")
+    return number
+
+
+def _other_orders(tracing: Tracing, number: int | None) -> str:
+    """What another order may do to a suspect list that came to rest in the table of a number."""
+    if not tracing.activations:
+        return "the run starts in this table, which no order changes"
+    rest = rest_of(tracing.plan, tracing.verdict)
+    if rest.numbers == (number,):
+        return "it has no other table to rest in; that every order comes to it is not promised"
+    may = f"in another order its routers may rest {_elsewhere(rest, number)}"
+    return f"{may}; that they come to rest at all is not promised"
+
+
+def _elsewhere(rest: Rest, number: int | None) -> str:
+    """Where a list may rest but in the table of a number."""
+    if rest.numbers is None:
+        return "elsewhere"
+    others = [other for other in rest.numbers if other != number]
+    if len(others) == 1:
+        return f"in table {others[0]}"
+    return f"in one of its {len(others)} other tables"
 
 
 def _repeats(tracing: Tracing, made: str) -> list[str]:
@@ -186,7 +239,8 @@ def _open(tracing: Tracing, made: str) -> list[str]:
         ]
     if tracing.verdict.stable:
         return [f"not settled {made}: that is promised within {tracing.verdict.rounds} rounds."]
-    return [f"not settled {made}, nor does the run repeat so far: give more --rounds."]
+    more = "" if _never_rests(tracing) else ": give more --rounds"
+    return [f"not settled {made}, nor does the run repeat so far{more}."]
 
 
 _WITH_OLD_ROUTES = (
@@ -214,6 +268,7 @@ def _write_values(tracing: Tracing, options: Namespace, notes: list[str]) -> Non
             "activations": tracing.activations,
             "outcome": tracing.outcome.kind,
             "first_seen": tracing.outcome.first,
+            "steady_number": _number_at_rest(tracing),
             "sentence": " ".join(_outcome_lines(tracing)),
             "table": table_values(tracing.table),
             "notes": notes,

@@ -9,10 +9,11 @@ from textwrap import wrap
 
 from ..accounts import Account, account
 from ..columns import left, right, widest
-from ..output import list_values, plan_line, plan_values, verdict_lines, verdict_values
-from ..output import verdict_words, without_route_lines, write_json, write_notes
+from ..output import list_command, list_values, plan_line, plan_values, rest_lines, verdict_lines
+from ..output import verdict_values, verdict_words, without_route_lines, write_json, write_notes
 from ..plan import Plan, Verdict
 from ..remedies import Remedy, recommended, smallest_remedy
+from ..rest import Rest, rest_of
 from ..senders import heard_again, sender_note
 from ..table_files import NOTHING, table_values
 
@@ -34,7 +35,9 @@ def arguments(parser: ArgumentParser) -> None:
     which = "a list, by name or number; without it all are named"
     parser.add_argument("list", metavar="LIST", nargs="?", help=which)
     parser.epilog = (
-        "Routers that a stable list leaves without a route are named. A change that is shown was "
+        "Routers that a stable list leaves without a route are named. Of a suspect list it is told "
+        "in how many tables it may rest, which is no promise that its routers get there; rrp "
+        "steady PLAN LIST shows them. A change that is shown was "
         "tried, and there is no smaller one of one distance that a plan of the same mark holds: up "
         "to 65,534 in RRP1, 4,294,967,294 in RRP2. Exit "
         "status: 0 the list is stable, or all are where none is given; 1 suspect; 2 error."
@@ -58,8 +61,9 @@ def run(options: Namespace) -> int:
 def _show_lists(plan: Plan, options: Namespace) -> int:
     """The lists of the plan, each with its verdict in a word and its routers."""
     verdicts = plan.verdicts()
+    rests = {each.name: rest_of(plan, each) for each in verdicts}
     if options.json:
-        lists = [list_values(each) for each in verdicts]
+        lists = [list_values(each, rests[each.name]) for each in verdicts]
         write_json({**plan_values(plan), "lists": lists, "notes": plan.notes})
     else:
         write_notes(plan.notes)
@@ -67,20 +71,23 @@ def _show_lists(plan: Plan, options: Namespace) -> int:
         width = widest(["list", *plan.lists])
         print(f"{left('list', width)}  verdict  routers")
         for each in verdicts:
-            first, *more = _router_lines(each)
+            first, *more = _router_lines(each, rests[each.name])
             word = "stable " if each.stable else "suspect"
             print(f"{left(each.name, width)}  {word}  {first}")
             for line in more:
                 print(f"{'':{width}}  {'':7}  {line}")
-        name = ["--"] * plan.lists[0].startswith("-") + [plan.lists[0]]
-        print(f"to explain one: {join(['rrp', 'show', options.plan, *name])}")
+        print(f"to explain one: {list_command('show', options.plan, plan.lists[0])}")
+        for line in rest_lines(options.plan, rests):
+            print(line)
     return 0 if all(each.stable for each in verdicts) else 1
 
 
-def _router_lines(verdict: Verdict) -> list[str]:
-    """The routers of a list, or that nobody is in it; and who ends without a route."""
+def _router_lines(verdict: Verdict, rest: Rest | None) -> list[str]:
+    """The routers of a list, or that nobody is in it; where it may rest if it is suspect, and who
+    ends without a route if it is stable."""
     routers = [] if verdict.nobody else [", ".join(verdict.egresses)]
-    return [*routers, *without_route_lines(verdict)]
+    where = [] if rest is None else [rest.words]
+    return [*routers, *where, *without_route_lines(verdict)]
 
 
 def _show_stable(plan: Plan, verdict: Verdict, options: Namespace) -> None:
@@ -106,25 +113,29 @@ def _show_stable(plan: Plan, verdict: Verdict, options: Namespace) -> None:
 
 
 def _show_suspect(plan: Plan, verdict: Verdict, options: Namespace) -> None:
-    """The groups, and each reliance of the cycle with the smallest change that ends it."""
+    """The groups, where the list may rest, and each reliance of the cycle with the smallest change
+    that ends it."""
     pairs = zip(verdict.cycle, [*verdict.cycle[1:], verdict.cycle[0]])
     found = [
         (account(plan, verdict.name, *pair), smallest_remedy(plan, verdict.name, *pair))
         for pair in pairs
     ]
     remedies = [remedy for _, remedy in found if remedy is not None]
+    rest = rest_of(plan, verdict)
     if options.json:
         reliances = [
             {**one.values(), "change": None if remedy is None else remedy.values()}
             for one, remedy in found
         ]
-        values = {"stable": False, "groups": verdict.groups, "cycle": verdict.cycle}
         best = recommended(remedies)
         change = None if best is None else best.change.statement
-        _write(plan, verdict, {**values, "reliances": reliances, "recommended": change})
+        values = {**verdict_values(verdict, rest), "reliances": reliances, "recommended": change}
+        _write(plan, verdict, values)
         return
     for group in verdict.groups:
         print(f"routers that rely on one another: {', '.join(group)}")
+    for line in [rest.words, *rest_lines(options.plan, {verdict.name: rest})]:
+        print(line)
     for number, (one, remedy) in enumerate(found, 1):
         _print_reliance(number, one, remedy)
     _print_advice(options.plan, remedies)

@@ -209,6 +209,9 @@ pub trait Checker {
 
     fn verdict(&mut self, plan: &[u8], list: usize, lent: VerdictBuffers, fields: &mut VerdictFields) -> u8;
 
+    /// Writes the numbers of the tables that no act changes to `out`, two bytes each.
+    fn steady(&mut self, plan: &[u8], list: usize, out: &mut [u8], count: &mut Lent<u64>) -> u8;
+
     fn activate(&mut self, plan: &[u8], list: usize, router: usize, table: &mut [u8]) -> u8;
 
     fn run(&mut self, plan: &[u8], list: usize, acts: Acts, table: &mut [u8], fields: &mut RunFields) -> u8;

@@ -99,6 +99,8 @@ functions! {
         size: *mut u64,
     );
 
+    fn rrp_steady(plan: *const u8, plan_len: usize, list: usize, out: *mut u8, out_len: usize, count: *mut u64);
+
     fn rrp_activate(plan: *const u8, plan_len: usize, list: usize, router: usize, table: *mut u8, table_len: usize);
 
     fn rrp_run(
@@ -156,6 +158,11 @@ impl Library {
     /// Whether the library has the comparison that takes flags.
     pub fn compares(&self) -> bool {
         self.rrp_compare.is_some()
+    }
+
+    /// Whether the library lists the tables that no act changes.
+    pub fn lists_steady(&self) -> bool {
+        self.rrp_steady.is_some()
     }
 }
 
@@ -239,6 +246,12 @@ impl Checker for Library {
                 &mut fields.size,
             )
         }
+    }
+
+    fn steady(&mut self, plan: &[u8], list: usize, out: &mut [u8], count: &mut Lent<u64>) -> u8 {
+        let steady = self.rrp_steady.expect(MISSING);
+        // SAFETY: as above.
+        unsafe { steady(plan.as_ptr(), plan.len(), list, out.as_mut_ptr(), out.len(), &mut count.value) }
     }
 
     fn activate(&mut self, plan: &[u8], list: usize, router: usize, table: &mut [u8]) -> u8 {

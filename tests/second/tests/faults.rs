@@ -18,6 +18,8 @@ use second_checker::harness::faults::parent_slips::PARENT_SLIPS;
 use second_checker::harness::faults::role_slips::{self, role_faults};
 use second_checker::harness::faults::skip_misreadings::{MisreadSkip, SKIP_MISREADINGS};
 use second_checker::harness::faults::slips::{Slip, SLIPS};
+use second_checker::harness::faults::steady_misreadings::STEADY_MISREADINGS;
+use second_checker::harness::faults::steady_slips::{SteadySlip, STATED_SLIPS, STEADY_SLIPS};
 use second_checker::harness::faults::width_slips::{self, width_faults};
 use second_checker::harness::faults::wrong_programs::{Program, WRONG_PROGRAMS};
 use second_checker::harness::plans::questions;
@@ -31,6 +33,11 @@ const PLANS: u64 = 4000;
 
 /// The plans before this one are fixed and large, so that they are tried last, if at all.
 const FIRST_DRAWN: u64 = 5;
+
+/// The plans with groups, which come at fixed places among the others.
+fn plans_with_groups() -> impl Iterator<Item = u64> {
+    (5..PLANS).step_by(10)
+}
 
 /// The gate runs the margin program on so many inputs.
 const INPUTS: u64 = 300;
@@ -163,6 +170,29 @@ fn each_slip_for_an_empty_list_is_found() {
 #[test]
 fn each_slip_in_the_converter_is_found() {
     each_is_found(CONVERT_SLIPS, |&slip| Careless::new(Slip::Convert(slip)));
+}
+
+#[test]
+fn each_misreading_of_steady_tables_is_found() {
+    none_missed(STEADY_MISREADINGS, |&fault| {
+        let mut careless = Careless::new(Slip::Steady(SteadySlip::Misread(fault)));
+        differ(&mut Oracle::right(), &mut careless, SEED, plans_with_groups())
+    });
+}
+
+#[test]
+fn each_slip_in_the_call_for_steady_tables_is_found() {
+    none_missed(STEADY_SLIPS, |&slip| {
+        differ(&mut Oracle::right(), &mut Careless::new(Slip::Steady(slip)), SEED, plans_with_groups())
+    });
+}
+
+#[test]
+fn what_is_stated_of_steady_tables_tells_slips_in_them_beside_themselves() {
+    none_missed(STATED_SLIPS, |&slip| {
+        let [mut one, mut other] = [0, 1].map(|_| Careless::new(Slip::Steady(slip)));
+        differ(&mut one, &mut other, SEED, plans_with_groups())
+    });
 }
 
 #[test]

@@ -10,6 +10,7 @@ use crate::interface::{
 use crate::oracle::mark::Mark;
 use crate::oracle::plan;
 use crate::oracle::rules::Case;
+use crate::oracle::steady::MOST_NUMBERS;
 use std::hint::black_box;
 
 pub fn check(checker: &mut dyn Checker, plan: &[u8]) {
@@ -55,6 +56,13 @@ pub fn verdict(checker: &mut dyn Checker, plan: &[u8]) -> bool {
     assert_eq!(checker.verdict(black_box(plan), 0, lent, &mut fields), 0);
     black_box((labels, ranks, table, cycle, fields.size));
     fields.stable.value == 1
+}
+
+/// The numbers of steady tables; says how many these are.
+pub fn steady(checker: &mut dyn Checker, plan: &[u8]) -> u64 {
+    let (mut out, mut count) = ([0; 2 * MOST_NUMBERS], Lent::new(0));
+    assert_eq!(checker.steady(black_box(plan), 0, black_box(&mut out), &mut count), 0);
+    count.value
 }
 
 pub fn activate(checker: &mut dyn Checker, plan: &[u8], table: &[u8]) {

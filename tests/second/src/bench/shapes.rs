@@ -2,12 +2,15 @@
 
 use crate::harness::plans::draft::{Draft, NO_WAY};
 use crate::harness::plans::sheets::Sheet;
+use crate::harness::plans::small_plans::preferring;
 use crate::harness::plans::topology::{all_pairs, with_step};
 use crate::harness::random::Random;
 use crate::oracle::links::MOST_LINKS;
 use crate::oracle::mark::Mark;
-use crate::oracle::plan::{CLIENT, MOST_PARENTS, REFLECTOR, SKIPPING};
-use crate::oracle::verdict_lines;
+use crate::oracle::plan::{self, CLIENT, MOST_PARENTS, REFLECTOR, SKIPPING};
+use crate::oracle::rules::{Case, Right};
+use crate::oracle::steady::MOST_GROUPED;
+use crate::oracle::{verdict, verdict_lines};
 use std::collections::{BTreeMap, BTreeSet};
 
 pub const SIZES: [usize; 5] = [4, 8, 16, 32, 64];
@@ -115,8 +118,20 @@ impl Shape {
     /// Distances are drawn at random, again and again until the list is suspect.
     /// There are shapes in which none is.
     pub fn draft_suspect(&self, random: &mut Random) -> Option<Draft> {
-        let mut drafts = (0..50).map(|_| self.draft(random, false));
-        drafts.find(|draft| verdict_lines(&draft.bytes()).contains("suspect"))
+        self.draft_with(random, |draft| verdict_lines(&draft.bytes()).contains("suspect"))
+    }
+
+    /// .. and has no more routers in groups of two or more than the call for steady tables takes.
+    pub fn draft_with_groups(&self, random: &mut Random) -> Option<Draft> {
+        self.draft_with(random, |draft| {
+            let plan = plan::read(&draft.bytes()).expect("a sound plan");
+            let grouped = verdict::grouped(&Right, Case { plan: &plan, listed: &plan.lists[0].listed });
+            (1..=MOST_GROUPED).contains(&grouped.len())
+        })
+    }
+
+    fn draft_with(&self, random: &mut Random, fits: impl Fn(&Draft) -> bool) -> Option<Draft> {
+        (0..50).map(|_| self.draft(random, false)).find(fits)
     }
 
     fn role(&self, router: usize) -> u8 {
@@ -150,6 +165,25 @@ impl Shape {
             lists: vec![(self.reflectors..n).step_by(5).collect()],
         }
     }
+}
+
+/// Twelve reflectors in groups of three, in each of which all prefer the others, so that there are
+/// as many steady tables as there can be; and 36 reflectors by themselves, each of which has the
+/// client of one of the twelve and prefers one of another group.
+pub fn threes_and_others() -> Draft {
+    let shares_group = |one: usize, other: usize| one != other && one / 3 == other / 3;
+    let pairs = (0..12).flat_map(|one| (0..12).map(move |other| (one, other)));
+    let mut draft = preferring(12, &Vec::from_iter(pairs.filter(|&(one, other)| shares_group(one, other))));
+    for router in 24..60 {
+        let (own, preferred) = (router % 12, (router + 3) % 12);
+        draft.roles.push(REFLECTOR);
+        draft.identifiers.push(10 * router as u32 + 10);
+        draft.sessions.extend([(own + 12, router), (preferred, router)]);
+        draft.distances.iter_mut().for_each(|row| row.push(30));
+        let distance = |to: usize| if to == preferred + 12 { 6 } else { 10 };
+        draft.distances.push((0..=router).map(|to| if to == router { 0 } else { distance(to) }).collect());
+    }
+    draft
 }
 
 /// A ring of links both ways, and a chord from each router to the one a third

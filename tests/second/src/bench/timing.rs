@@ -3,12 +3,14 @@
 //! ratio is the median of the ratios of the turns, so that a machine that is slower for a
 //! while slows both sides.
 
-use super::calls::{activate, check, compare, convert, distances, explain, list, relies, size, verdict, Run};
-use super::shapes::{full_sheet, ring_and_chords, two_parts, Shape, SIZES};
+use super::calls::{activate, check, compare, convert, distances, explain, list, relies, size, steady, verdict, Run};
+use super::shapes::{full_sheet, ring_and_chords, threes_and_others, two_parts, Shape, SIZES};
 use super::tight::Tight;
 use super::turns::Turns;
+use crate::harness::plans::draft::Draft;
 use crate::harness::plans::generate;
 use crate::harness::plans::sheets::Sheet;
+use crate::harness::plans::small_plans::preferring_the_next;
 use crate::harness::random::Random;
 use crate::interface::Checker;
 use crate::library::Library;
@@ -45,6 +47,11 @@ impl Bench<'_> {
     /// The bench for lines of comparisons, which older builds have without flags.
     fn for_comparisons(&self) -> Self {
         Bench { other: self.other.filter(Library::compares), ..*self }
+    }
+
+    /// The bench for lines of steady tables, which older builds do not list.
+    fn for_steady(&self) -> Self {
+        Bench { other: self.other.filter(Library::lists_steady), ..*self }
     }
 
     /// Prints a line of times by checker, and of ratios.
@@ -188,6 +195,26 @@ fn time_steps(bench: &Bench, random: &mut Random) {
     }
 }
 
+/// Steady tables, and the verdicts of the same plans: the most choices of one group, the most
+/// tables with others after them, and plans of a usual shape.
+fn time_steady(bench: &Bench, random: &mut Random) {
+    time_steady_plan(bench, &preferring_the_next(12), "12 in a cycle, n = 24");
+    time_steady_plan(bench, &threes_and_others(), "12 in threes, n = 60");
+    for n in SIZES {
+        let mesh = Shape::mesh(n);
+        time_steady_plan(bench, &mesh.draft(random, true), &format!("stable, n = {n}"));
+        if let Some(draft) = mesh.draft_with_groups(random) {
+            time_steady_plan(bench, &draft, &format!("suspect, n = {n}"));
+        }
+    }
+}
+
+fn time_steady_plan(bench: &Bench, draft: &Draft, name: &str) {
+    let plan = draft.bytes();
+    bench.for_steady().line(&format!("steady, {name}"), 1, |checker| _ = steady(checker, &plan));
+    bench.line(&format!("verdict beside steady, {name}"), 1, |checker| _ = verdict(checker, &plan));
+}
+
 /// The same plans of either mark, and how many times as long those of RRP2 take.
 fn time_widths(bench: &Bench, random: &mut Random) {
     for n in [8, 64] {
@@ -235,4 +262,5 @@ pub fn bench(word: &str, other: Option<Library>) {
     time_steps(&bench, &mut random);
     time_widths(&bench, &mut random);
     time_conversions(&bench, &mut random);
+    time_steady(&bench, &mut random);
 }

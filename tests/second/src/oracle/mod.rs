@@ -1,6 +1,6 @@
 //! The second checker, written from documents 01 and 02 alone and by other
 //! algorithms than the library's: sets and sorted orders, choices step by step,
-//! depth-first search, layers, Dijkstra's search.
+//! depth-first search, layers, tables tried one by one, Dijkstra's search.
 
 mod convert;
 mod lines;
@@ -8,6 +8,7 @@ pub mod links;
 pub mod mark;
 pub mod plan;
 pub mod rules;
+pub mod steady;
 pub mod tables;
 pub mod verdict;
 
@@ -32,8 +33,19 @@ const KEPT_READINGS: usize = 2;
 /// misread ones.
 pub struct Oracle<R: Rules> {
     rules: R,
-    recent: VecDeque<(Vec<u8>, Reading)>,
+    recent: VecDeque<Recent>,
 }
+
+/// A plan read lately.
+struct Recent {
+    bytes: Vec<u8>,
+    reading: Reading,
+    /// The list whose steady tables were asked for last, and their numbers.
+    numbered: Option<(usize, Numbers)>,
+}
+
+/// The numbers of the tables that no act changes, or refusal 15.
+type Numbers = Result<Vec<u64>, u8>;
 
 impl Oracle<Right> {
     pub fn right() -> Self {
@@ -46,14 +58,30 @@ impl<R: Rules> Oracle<R> {
         Oracle { rules, recent: VecDeque::new() }
     }
 
+    fn recent(&mut self, bytes: &[u8]) -> Option<&mut Recent> {
+        self.recent.iter_mut().find(|recent| recent.bytes == bytes)
+    }
+
     fn reading(&mut self, bytes: &[u8]) -> Reading {
-        if let Some((_, reading)) = self.recent.iter().find(|(known, _)| known == bytes) {
-            return reading.clone();
+        if let Some(recent) = self.recent(bytes) {
+            return recent.reading.clone();
         }
         let reading = Rc::new(plan::read(bytes));
-        self.recent.push_front((bytes.to_vec(), reading.clone()));
+        self.recent.push_front(Recent { bytes: bytes.to_vec(), reading: reading.clone(), numbered: None });
         self.recent.truncate(KEPT_READINGS);
         reading
+    }
+
+    /// The numbers of the steady tables of a list, which is asked about many times too.
+    fn numbers(&mut self, bytes: &[u8], list: usize, case: Case) -> Numbers {
+        match self.recent(bytes).map(|recent| &recent.numbered) {
+            Some(Some((of, numbers))) if *of == list => numbers.clone(),
+            _ => {
+                let numbers: Numbers = steady::steady(&self.rules, case).map(|tables| tables.into_keys().collect());
+                self.recent(bytes).into_iter().for_each(|recent| recent.numbered = Some((list, numbers.clone())));
+                numbers
+            }
+        }
     }
 }
 
@@ -141,6 +169,16 @@ impl<R: Rules> Oracle<R> {
         })
     }
 
+    /// Writes the numbers of the tables that no act changes; gives how many these are.
+    fn try_steady(&mut self, plan: &[u8], list: usize, out: &mut [u8]) -> Result<u64, u8> {
+        let reading = self.reading(plan);
+        let case = case_of(plan_of(&reading)?, list, &[])?;
+        let numbers = self.numbers(plan, list, case)?;
+        let bytes: Vec<u8> = numbers.iter().flat_map(|&number| (number as u16).to_le_bytes()).collect();
+        out.get_mut(..bytes.len()).ok_or(9u8)?.copy_from_slice(&bytes);
+        Ok(numbers.len() as u64)
+    }
+
     fn try_activate(&mut self, plan: &[u8], list: usize, router: usize, table: &mut [u8]) -> Result<(), u8> {
         let reading = self.reading(plan);
         let case = case_of(plan_of(&reading)?, list, &[router])?;
@@ -210,6 +248,10 @@ impl<R: Rules> Checker for Oracle<R> {
 
     fn verdict(&mut self, plan: &[u8], list: usize, lent: VerdictBuffers, fields: &mut VerdictFields) -> u8 {
         store(self.try_verdict(plan, list, lent), fields)
+    }
+
+    fn steady(&mut self, plan: &[u8], list: usize, out: &mut [u8], count: &mut Lent<u64>) -> u8 {
+        store(self.try_steady(plan, list, out), &mut count.value)
     }
 
     fn activate(&mut self, plan: &[u8], list: usize, router: usize, table: &mut [u8]) -> u8 {

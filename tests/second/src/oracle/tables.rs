@@ -78,18 +78,26 @@ pub fn run(rules: &impl Rules, case: Case, table: &mut Table, acts: &[Router]) -
     rounds.whole
 }
 
-/// Activates all routers in rounds until one round changes nothing, from the
-/// table in which the listed routers hold their own route and no other holds
-/// any. On a stable list this ends well before the cap, which is there for
-/// misread rules alone.
-pub fn settle(rules: &impl Rules, case: Case) -> Table {
-    let mut table: Table =
-        case.listed.iter().map(|&router| (router, Route { egress: router, sender: router })).collect();
+/// The table in which the listed routers hold their own route and no other holds any.
+pub fn of_listed(case: Case) -> Table {
+    case.listed.iter().map(|&router| (router, Route { egress: router, sender: router })).collect()
+}
+
+/// Activates these routers in rounds until one round changes nothing. Where none relies on
+/// itself by way of others this ends well before the cap, which is there for misread rules
+/// alone.
+pub fn settle_among(rules: &impl Rules, case: Case, table: &mut Table, routers: &[Router]) {
     for _ in 0..case.plan.n + 3 {
-        let changes = (0..case.plan.n).filter(|&router| activate(rules, case, &mut table, router)).count();
+        let changes = routers.iter().filter(|&&router| activate(rules, case, table, router)).count();
         if changes == 0 {
             break;
         }
     }
+}
+
+/// The table that all routers settle on from that of the listed ones, on a stable list.
+pub fn settle(rules: &impl Rules, case: Case) -> Table {
+    let mut table = of_listed(case);
+    settle_among(rules, case, &mut table, &Vec::from_iter(0..case.plan.n));
     table
 }

@@ -37,6 +37,13 @@ pub fn verdict(rules: &impl Rules, case: Case) -> Verdict {
     Verdict { labels, outcome }
 }
 
+/// The routers in groups of two or more, lowest first.
+pub fn grouped(rules: &impl Rules, case: Case) -> Vec<Router> {
+    let groups = groups(&reliances(rules, case));
+    let shared: BTreeSet<Router> = groups.into_iter().filter(|group| group.len() > 1).flatten().collect();
+    shared.into_iter().collect()
+}
+
 /// The state of the depth-first search.
 struct Search<'a> {
     reliances: &'a Reliances,

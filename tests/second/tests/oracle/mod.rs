@@ -5,4 +5,5 @@ mod empty_lists;
 mod explained_pairs;
 mod hop_steps;
 mod least_sums;
+mod steady_tables;
 mod verdicts;

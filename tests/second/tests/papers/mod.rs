@@ -9,6 +9,7 @@ mod small_parents;
 mod small_plans;
 mod small_roles;
 mod small_sheets;
+mod small_steady_tables;
 mod small_widths;
 
 use crate::Outcome;

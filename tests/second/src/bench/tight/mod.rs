@@ -7,6 +7,7 @@ mod distance;
 mod links;
 mod reader;
 mod rules;
+mod steady;
 mod verdict;
 
 use crate::interface::{
@@ -20,6 +21,7 @@ use reader::{check, read};
 use rules::{key, Network, HOP};
 use std::cmp::Ordering;
 use std::iter;
+use steady::steady as steady_of;
 use verdict::verdict as verdict_of;
 
 const MOST: usize = 64;
@@ -113,6 +115,10 @@ fn verdict<D: Distance>(plan: &[u8], list: usize, lent: VerdictBuffers) -> Resul
     verdict_of(&network::<D>(plan, list)?, lent)
 }
 
+fn steady<D: Distance>(plan: &[u8], list: usize, out: &mut [u8]) -> Result<u64, u8> {
+    steady_of(&network::<D>(plan, list)?, out)
+}
+
 fn activate<D: Distance>(plan: &[u8], list: usize, router: usize, table: &mut [u8]) -> Result<(), u8> {
     let network = network::<D>(plan, list)?;
     let router = network.bodies.router(router)?;
@@ -174,6 +180,10 @@ impl Checker for Tight {
 
     fn verdict(&mut self, plan: &[u8], list: usize, lent: VerdictBuffers, fields: &mut VerdictFields) -> u8 {
         store(by_mark!(verdict(plan, list, lent)), fields)
+    }
+
+    fn steady(&mut self, plan: &[u8], list: usize, out: &mut [u8], count: &mut Lent<u64>) -> u8 {
+        store(by_mark!(steady(plan, list, out)), &mut count.value)
     }
 
     fn activate(&mut self, plan: &[u8], list: usize, router: usize, table: &mut [u8]) -> u8 {

@@ -5,7 +5,20 @@ use super::rules::Network;
 use super::{bits, has, Pair, MOST, NONE};
 use crate::interface::{Flag, VerdictBuffers, VerdictFields};
 
-type Rows = [u64; MOST];
+pub type Rows = [u64; MOST];
+
+/// The routers that each router relies on.
+pub fn reliances<D: Distance>(network: &Network<D>) -> Rows {
+    let mut offers = [None; MOST];
+    for reflector in bits(network.bodies.reflectors) {
+        offers[reflector] = network.offer(reflector);
+    }
+    let mut relies = [0; MOST];
+    for (u, row) in relies[..network.bodies.n].iter_mut().enumerate() {
+        *row = network.relied_on(u, u64::MAX, |reflector| offers[reflector]);
+    }
+    relies
+}
 
 /// Reaching by one or more reliances, or links (Warshall).
 pub fn closure(n: usize, relies: &Rows) -> Rows {
@@ -20,7 +33,7 @@ pub fn closure(n: usize, relies: &Rows) -> Rows {
 }
 
 /// The routers that share a router's group.
-fn group(reach: &Rows, router: usize) -> u64 {
+pub fn group(reach: &Rows, router: usize) -> u64 {
     if !has(reach[router], router) {
         return 1 << router;
     }
@@ -74,14 +87,7 @@ pub fn verdict<D: Distance>(network: &Network<D>, lent: VerdictBuffers) -> Resul
     if lent.labels.len() < n || lent.ranks.len() < n || lent.table.len() < 2 * n || lent.cycle.len() < n {
         return Err(9);
     }
-    let mut offers = [None; MOST];
-    for reflector in bits(network.bodies.reflectors) {
-        offers[reflector] = network.offer(reflector);
-    }
-    let mut relies = [0; MOST];
-    for (u, row) in relies[..n].iter_mut().enumerate() {
-        *row = network.relied_on(u, u64::MAX, |reflector| offers[reflector]);
-    }
+    let relies = reliances(network);
     let reach = closure(n, &relies);
     for (u, label) in lent.labels[..n].iter_mut().enumerate() {
         *label = group(&reach, u).trailing_zeros() as u8;

@@ -21,6 +21,7 @@ pub fn every_call_from(name: &str, plan: &[u8], table: [u8; 8]) -> String {
         line.activate(0, 0, &mut table);
         line.run(0, &[0], 1, &mut table);
         line.verdict(0, [5, 5, 10, 5]);
+        line.steady(0, 5);
     })
 }
 

@@ -116,4 +116,18 @@ impl Line<'_> {
             self.bytes(buffer);
         }
     }
+
+    /// The numbers of steady tables with a buffer of this length, each byte 7 before.
+    pub fn steady(&mut self, list: usize, length: usize) {
+        let answer = self.answer(&Call::Steady { list, out: vec![7; length] });
+        match answer.refusal {
+            0 => {
+                self.word("listed");
+                self.word(answer.fields[0]);
+            }
+            refusal => self.word(refusal),
+        }
+        self.word("numbers");
+        self.bytes(&answer.buffers[0]);
+    }
 }

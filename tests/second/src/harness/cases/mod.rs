@@ -12,6 +12,7 @@ mod misread;
 mod parents;
 mod runs;
 mod skips;
+mod steady;
 mod widths;
 
 use super::plans::small_plans;
@@ -31,6 +32,6 @@ fn small(p: u32, q: u32) -> Vec<u8> {
 pub fn lines() -> String {
     let plans = [limits::lines(), damaged::lines(), parents::lines(), asked::lines()];
     let rules = [misread::lines(), runs::lines(), cuts::lines(), skips::lines()];
-    let requests = [widths::lines(), empty_lists::lines(), hop_steps::lines()];
+    let requests = [widths::lines(), empty_lists::lines(), hop_steps::lines(), steady::lines()];
     [plans.concat(), rules.concat(), requests.concat()].concat().concat()
 }

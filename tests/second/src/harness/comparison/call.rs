@@ -34,6 +34,10 @@ pub enum Call {
         list: usize,
         buffers: [Vec<u8>; 4],
     },
+    Steady {
+        list: usize,
+        out: Vec<u8>,
+    },
     Activate {
         list: usize,
         router: usize,
@@ -72,9 +76,9 @@ pub struct Answer {
     pub fields: Vec<Field>,
     /// Every byte of every lent buffer after the call.
     pub buffers: Vec<Vec<u8>>,
-    /// The bytes before and after each buffer, each result variable of one byte and
-    /// those of a comparison, an explanation and a conversion, the plan, the sequence and
-    /// the links are as they were.
+    /// The bytes before and after each buffer, each result variable of one byte and those of
+    /// a comparison, an explanation, a count of steady tables and a conversion, the plan, the
+    /// sequence and the links are as they were.
     pub surroundings_kept: bool,
 }
 
@@ -95,6 +99,13 @@ impl Answer {
             (0, &[_, _, offer, 1, own, margin]) => Some((offer as usize, own as usize, margin as i64)),
             _ => None,
         }
+    }
+
+    /// The numbers of steady tables that a call which is not refused gave.
+    pub fn numbers(&self) -> Vec<u64> {
+        let (written, _) = self.buffers[0].as_chunks();
+        let numbers = written.iter().map(|&bytes| u64::from(u16::from_le_bytes(bytes)));
+        numbers.take(self.fields[0] as usize).collect()
     }
 
     fn beside<T>(mut self, result: Lent<T>) -> Self {
@@ -162,13 +173,16 @@ pub fn perform(checker: &mut dyn Checker, plan: &[u8], call: &Call, prior: u64) 
             perform_explain(checker, &lent_plan, *list, (*router, *other), prior)
         }
         Call::Verdict { list, buffers } => perform_verdict(checker, &lent_plan, *list, buffers, prior),
+        Call::Steady { list, out } => {
+            perform_writing(out, prior, |out, count| checker.steady(&lent_plan, *list, out, count))
+        }
         Call::Activate { list, router, table } => perform_activate(checker, &lent_plan, *list, *router, table),
         Call::Run { list, sequence, limit, table } => {
             let acts = Acts { sequence, limit: *limit };
             perform_run(checker, &lent_plan, *list, acts, table, prior)
         }
-        Call::Widen { out } => perform_convert(out, prior, |out, length| checker.widen(&lent_plan, out, length)),
-        Call::Narrow { out } => perform_convert(out, prior, |out, length| checker.narrow(&lent_plan, out, length)),
+        Call::Widen { out } => perform_writing(out, prior, |out, length| checker.widen(&lent_plan, out, length)),
+        Call::Narrow { out } => perform_writing(out, prior, |out, length| checker.narrow(&lent_plan, out, length)),
         Call::Distances { n, links, out } => perform_distances(checker, *n, links, out),
     };
     answer.surroundings_kept &= lent_plan == plan;
@@ -227,10 +241,11 @@ fn perform_run(checker: &mut dyn Checker, plan: &[u8], list: usize, acts: Acts, 
     answer
 }
 
-fn perform_convert(out: &[u8], prior: u64, convert: impl FnOnce(&mut [u8], &mut Lent<u64>) -> u8) -> Answer {
-    let (mut length, mut lent) = (Lent::new(prior), [Guarded::new(out)]);
-    let refusal = convert(lent[0].lent(), &mut length);
-    Answer::new(refusal, [length.value.into()]).with(&lent).beside(length)
+/// A call with a buffer to write to and a result variable that says how much it wrote.
+fn perform_writing(out: &[u8], prior: u64, write: impl FnOnce(&mut [u8], &mut Lent<u64>) -> u8) -> Answer {
+    let (mut written, mut lent) = (Lent::new(prior), [Guarded::new(out)]);
+    let refusal = write(lent[0].lent(), &mut written);
+    Answer::new(refusal, [written.value.into()]).with(&lent).beside(written)
 }
 
 fn perform_distances(checker: &mut dyn Checker, n: usize, links: &[u8], out: &[u8]) -> Answer {

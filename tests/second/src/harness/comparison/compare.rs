@@ -49,9 +49,14 @@ pub fn compare(
 
 /// Whether a checker is told from the oracle, or from another in its place, by a
 /// plan or a sheet of these numbers.
-pub fn differ(oracle: &mut dyn Checker, subject: &mut dyn Checker, seed: u64, mut numbers: Range<u64>) -> bool {
+pub fn differ(
+    oracle: &mut dyn Checker,
+    subject: &mut dyn Checker,
+    seed: u64,
+    numbers: impl IntoIterator<Item = u64>,
+) -> bool {
     let mut comparison = Comparison::of(oracle, subject);
-    numbers.any(|number| comparison.numbered(seed, number).is_err())
+    numbers.into_iter().any(|number| comparison.numbered(seed, number).is_err())
 }
 
 pub fn hex(bytes: &[u8]) -> String {

@@ -3,6 +3,7 @@
 use super::call::{Answer, Call};
 use crate::oracle::mark::Mark;
 use crate::oracle::plan::{Plan, MOST_PARENTS};
+use crate::oracle::steady::MOST_GROUPED;
 use std::fmt;
 
 /// What was compared, and how it came out.
@@ -38,7 +39,7 @@ pub struct Counts {
     pub sheets: u64,
     /// Sheets whose distances are written.
     pub sheets_with_distances: u64,
-    pub refusals: [u64; 15],
+    pub refusals: [u64; 16],
     pub calls: u64,
     /// Calls whose answers were worked out from comparisons alone too.
     pub calls_by_comparisons: u64,
@@ -49,6 +50,7 @@ pub struct Counts {
     /// Pairs of routers for which a reliance and its explanation were asked for.
     pub pairs: u64,
     pub explanations: Explanations,
+    pub steady: SteadyCounts,
     /// Calls made on the checker alone, to hold one against another.
     pub calls_alone: u64,
     pub series: u64,
@@ -113,6 +115,43 @@ impl fmt::Display for Explanations {
     }
 }
 
+/// What was asked and given of tables that no act changes.
+#[derive(Default)]
+pub struct SteadyCounts {
+    pub calls: u64,
+    /// Suspect lists that are not refused with no table, with one and with more.
+    pub tables: [u64; 3],
+    /// The most tables of a list.
+    pub most: usize,
+    /// Lists with 12 routers in groups of two or more, with 13 and with more.
+    pub grouped: [u64; 3],
+    /// Runs made from a table that is listed.
+    pub tables_run: u64,
+}
+
+impl SteadyCounts {
+    /// An answer for a list with so many routers in groups of two or more.
+    pub fn count_list(&mut self, answer: &Answer, grouped: usize) {
+        if grouped >= MOST_GROUPED {
+            self.grouped[(grouped - MOST_GROUPED).min(2)] += 1;
+        }
+        if grouped > 0 && answer.refusal == 0 {
+            let count = answer.fields[0] as usize;
+            self.tables[count.min(2)] += 1;
+            self.most = self.most.max(count);
+        }
+    }
+}
+
+impl fmt::Display for SteadyCounts {
+    fn fmt(&self, out: &mut fmt::Formatter) -> fmt::Result {
+        let ([none, one, more], [twelve, thirteen, beyond]) = (self.tables, self.grouped);
+        writeln!(out, "calls for steady tables {}, runs from such tables {}", self.calls, self.tables_run)?;
+        write!(out, "suspect lists with no table {none}, with one {one}, with more {more}, up to {}; ", self.most)?;
+        write!(out, "with 12 routers in groups {twelve}, with 13 {thirteen}, with more {beyond}")
+    }
+}
+
 impl Counts {
     pub fn count(&mut self, call: &Call, answer: &Answer) {
         self.calls += 1;
@@ -120,6 +159,7 @@ impl Counts {
         match (call, answer.refusal) {
             (Call::Compare { .. }, 0) => self.margins.count(answer.compared().1),
             (Call::Explain { .. }, 0) => self.explanations.count(answer),
+            (Call::Steady { .. }, _) => self.steady.calls += 1,
             _ => (),
         }
     }
@@ -161,6 +201,7 @@ impl fmt::Display for Counts {
         writeln!(out, "sheets with distances {}", self.sheets_with_distances)?;
         writeln!(out, "{}", self.margins)?;
         writeln!(out, "{}", self.explanations)?;
+        writeln!(out, "{}", self.steady)?;
         writeln!(
             out,
             "pairs relied on and explained {}, calls on the checker alone {}",

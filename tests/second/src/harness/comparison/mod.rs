@@ -13,3 +13,4 @@ mod preferences;
 mod reliance_calls;
 pub mod series;
 mod sheet_calls;
+mod steady_calls;

@@ -9,10 +9,12 @@ use super::hop_step;
 use super::preferences::Preferences;
 use super::reliance_calls;
 use super::series::{self, Promise};
+use super::steady_calls;
 use crate::harness::plans::generate;
 use crate::harness::random::Random;
 use crate::oracle::plan::{self, Plan};
 use crate::oracle::rules::Case;
+use crate::oracle::steady::MOST_NUMBERS;
 
 /// So many routers are few: every comparison, every reliance and its explanation is
 /// asked for.
@@ -30,7 +32,7 @@ pub fn compare(comparison: &mut Comparison, random: &mut Random, bytes: &[u8]) -
     }
 }
 
-/// Refusals 1 to 7 and 13 stand before 8, 9 and 10, whatever else is handed over.
+/// Refusals 1 to 7 and 13 stand before 8, 15, 9 and 10, whatever else is handed over.
 fn refused(comparison: &mut Comparison, random: &mut Random, bytes: &[u8]) -> Outcome {
     for _ in 0..2 {
         for call in loose_calls(random) {
@@ -41,7 +43,7 @@ fn refused(comparison: &mut Comparison, random: &mut Random, bytes: &[u8]) -> Ou
 }
 
 /// One call of each kind with arguments that need fit nothing.
-fn loose_calls(random: &mut Random) -> [Call; 7] {
+fn loose_calls(random: &mut Random) -> [Call; 8] {
     let mut number = |bound: usize| arguments::mostly_below(random, bound);
     let list = number(2);
     let (router, first, second) = (number(4), number(4), number(4));
@@ -51,7 +53,7 @@ fn loose_calls(random: &mut Random) -> [Call; 7] {
         random.bytes(length)
     };
     let buffers = [buffer(), buffer(), buffer(), buffer()];
-    let (table, sequence) = (buffer(), buffer());
+    let (table, sequence, out) = (buffer(), buffer(), buffer());
     let limit = random.word();
     [
         Call::List { list },
@@ -59,6 +61,7 @@ fn loose_calls(random: &mut Random) -> [Call; 7] {
         Call::Relies { list, router, other: first },
         Call::Explain { list, router, other: first },
         Call::Verdict { list, buffers },
+        Call::Steady { list, out },
         Call::Activate { list, router, table: table.clone() },
         Call::Run { list, sequence, limit, table },
     ]
@@ -74,6 +77,7 @@ fn sound(comparison: &mut Comparison, random: &mut Random, bytes: &[u8], plan: &
     past_the_lists(comparison, random, bytes, plan)?;
     reliance_calls::compare(comparison, random, bytes, plan)?;
     let verdicts = verdicts_of_lists(comparison, random, bytes, plan)?;
+    steady_calls::compare(comparison, random, bytes, plan, &verdicts)?;
     let list = random.below(plan.lists.len());
     hop_step::compare_with_all(comparison, random, bytes, list)?;
     for _ in 0..3 {
@@ -136,12 +140,15 @@ fn past_the_lists(comparison: &mut Comparison, random: &mut Random, bytes: &[u8]
     let sequence = arguments::sequence(random, n);
     let limit = arguments::limit(random, sequence.len());
     let router = random.below(n);
+    let room = random.below(4);
     let calls = [
         Call::Relies { list, router, other: random.below(n) },
         Call::Explain { list, router, other: random.below(n) },
         Call::Verdict { list, buffers: arguments::verdict_buffers(random, n) },
         Call::Verdict { list, buffers: arguments::short_verdict_buffers(random, n) },
         Call::Activate { list, router, table: table.clone() },
+        Call::Steady { list, out: random.bytes(2 * MOST_NUMBERS) },
+        Call::Steady { list, out: random.bytes(room) },
         Call::Activate { list, router, table: arguments::broken_table(random, case) },
         Call::Run { list, sequence, limit, table },
     ];

@@ -7,6 +7,7 @@ use super::explain_slips;
 use super::parent_slips;
 use super::sheet_slips;
 use super::slips::Slip;
+use super::steady_slips;
 use crate::harness::plans::draft::Bodies;
 use crate::interface::{
     Acts, Checker, CompareFields, ExplainFields, Handed, Lent, ListFields, RunFields, SizeFields, VerdictBuffers,
@@ -135,6 +136,13 @@ impl Checker for Careless {
             cycle[after] = 255;
         }
         refusal
+    }
+
+    fn steady(&mut self, plan: &[u8], list: usize, out: &mut [u8], count: &mut Lent<u64>) -> u8 {
+        match self.slip {
+            Slip::Steady(slip) => steady_slips::steady(slip, &mut self.inner, (plan, list), out, count),
+            _ => self.inner.steady(plan, list, out, count),
+        }
     }
 
     fn activate(&mut self, plan: &[u8], list: usize, router: usize, table: &mut [u8]) -> u8 {

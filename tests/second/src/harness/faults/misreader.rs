@@ -17,6 +17,7 @@ pub enum PlanCall {
     Relies,
     Explain,
     Verdict,
+    Steady,
     Activate,
     Run,
     Widen,
@@ -25,8 +26,15 @@ pub enum PlanCall {
 
 pub const WITHOUT_DISTANCES: [PlanCall; 3] = [PlanCall::Check, PlanCall::Size, PlanCall::List];
 
-pub const BY_DISTANCES: [PlanCall; 6] =
-    [PlanCall::Compare, PlanCall::Relies, PlanCall::Explain, PlanCall::Verdict, PlanCall::Activate, PlanCall::Run];
+pub const BY_DISTANCES: [PlanCall; 7] = [
+    PlanCall::Compare,
+    PlanCall::Relies,
+    PlanCall::Explain,
+    PlanCall::Verdict,
+    PlanCall::Steady,
+    PlanCall::Activate,
+    PlanCall::Run,
+];
 
 /// A checker that misreads a plan in one call. `taken_for` gives the plan that it takes one
 /// for, if it is another.
@@ -89,6 +97,11 @@ impl<F: Fn(&[u8]) -> Option<Vec<u8>>> Checker for Misreader<F> {
     fn verdict(&mut self, plan: &[u8], list: usize, lent: VerdictBuffers, fields: &mut VerdictFields) -> u8 {
         let (inner, plan) = self.read(PlanCall::Verdict, plan);
         inner.verdict(plan, list, lent, fields)
+    }
+
+    fn steady(&mut self, plan: &[u8], list: usize, out: &mut [u8], count: &mut Lent<u64>) -> u8 {
+        let (inner, plan) = self.read(PlanCall::Steady, plan);
+        inner.steady(plan, list, out, count)
     }
 
     fn activate(&mut self, plan: &[u8], list: usize, router: usize, table: &mut [u8]) -> u8 {

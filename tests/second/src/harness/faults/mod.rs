@@ -18,5 +18,7 @@ pub mod role_slips;
 mod sheet_slips;
 pub mod skip_misreadings;
 pub mod slips;
+pub mod steady_misreadings;
+pub mod steady_slips;
 pub mod width_slips;
 pub mod wrong_programs;

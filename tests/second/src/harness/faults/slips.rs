@@ -5,6 +5,7 @@ use super::convert_slips::ConvertSlip;
 use super::empty_list_slips::EmptyListSlip;
 use super::hop_slips::HopSlip;
 use super::parent_slips::ParentSlip;
+use super::steady_slips::SteadySlip;
 
 /// A slip in a call that reads the rules rightly.
 #[derive(Clone, Copy, Debug, PartialEq, Eq)]
@@ -79,6 +80,7 @@ pub enum Slip {
     Convert(ConvertSlip),
     EmptyList(EmptyListSlip),
     Hop(HopSlip),
+    Steady(SteadySlip),
     EightBeforeThirteen,
     EntryWithoutAWayRefused,
     TransposedDistances,
@@ -111,8 +113,8 @@ pub enum Slip {
     ByteAfterTheDistances,
 }
 
-/// All but those in the check of a client's parents, in the converter, for an empty list and
-/// with the hop step.
+/// All but those in the check of a client's parents, in the converter, for an empty list, with
+/// the hop step and in the call for steady tables.
 pub const SLIPS: [Slip; 96] = [
     Slip::FirstActOnly,
     Slip::ActLeavesTable,

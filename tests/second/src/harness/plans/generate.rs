@@ -4,6 +4,7 @@
 use super::cuts;
 use super::damage::{self, AIMED_AT};
 use super::draft::Draft;
+use super::groups;
 use super::topology::{all_pairs, crowd, drawn_roles, ordered, plain_roles, topology, with_step, Topology};
 use super::widths;
 use crate::harness::random::Random;
@@ -19,14 +20,15 @@ use std::collections::BTreeSet;
 /// The plan of the given number, and the source of what is drawn for it next.
 /// Both depend on the seed and the number alone. Number 0 is the largest plan of
 /// mark RRP1, 1 the deepest, 2 the largest of mark RRP2; 3 and 4 are the largest with a
-/// byte more. Of ten others seven are sound, one is crowded, one is aimed at a refusal
-/// and one damaged anyhow.
+/// byte more. Of ten others six are sound, one has groups, one is crowded, one is aimed at
+/// a refusal and one damaged anyhow.
 pub fn numbered(seed: u64, number: u64) -> (Vec<u8>, Random) {
     let mut random = Random::new(seed ^ number.wrapping_mul(0xD6E8_FEB8_6659_FD93));
     let draft = match number {
         0 | 3 => largest(&mut random, Mark::Rrp1),
         1 => deepest(),
         2 | 4 => largest(&mut random, Mark::Rrp2),
+        _ if number % 10 == 5 => groups::grouped(&mut random),
         _ if number % 10 == 6 => crowded(&mut random),
         _ => sound(&mut random),
     };
@@ -158,7 +160,7 @@ fn router_count(random: &mut Random) -> usize {
     }
 }
 
-fn identifiers(random: &mut Random, n: usize) -> Vec<u32> {
+pub fn identifiers(random: &mut Random, n: usize) -> Vec<u32> {
     let mut chosen = BTreeSet::new();
     if random.chance(20) {
         chosen.extend([0, u32::MAX].into_iter().take(n));

@@ -5,6 +5,7 @@ pub mod cuts;
 pub mod damage;
 pub mod draft;
 pub mod generate;
+pub mod groups;
 pub mod questions;
 pub mod sheets;
 pub mod small_plans;

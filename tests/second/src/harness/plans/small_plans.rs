@@ -2,7 +2,7 @@
 
 use super::draft::{Draft, NO_WAY};
 use crate::oracle::mark::Mark;
-use crate::oracle::plan::{Router, REFLECTOR};
+use crate::oracle::plan::{Router, CLIENT, REFLECTOR};
 use std::collections::BTreeSet;
 
 /// Two reflectors with a client each: `p` is the distance from 0 to 3, `q`
@@ -67,4 +67,32 @@ pub fn star(centre: Router, roles: &[u8]) -> Draft {
         distances: vec![vec![0; n]; n],
         lists: vec![[centre].into()],
     }
+}
+
+/// So many reflectors in a mesh, each with a client of its own, all listed, whose number is that
+/// of its reflector plus `count`. From a reflector, 10 to its own client, 6 to another reflector
+/// that it prefers and to that one's client, 14 to those of the others.
+pub fn preferring(count: usize, prefers: &[(Router, Router)]) -> Draft {
+    let n = 2 * count;
+    let distance = |from: Router, to: Router| match from < count {
+        _ if from == to => 0,
+        false => 30,
+        true if to == from + count => 10,
+        true if prefers.contains(&(from, to % count)) => 6,
+        true => 14,
+    };
+    let mesh = (0..count).flat_map(|one| (one + 1..count).map(move |other| (one, other)));
+    Draft {
+        mark: Mark::Rrp1,
+        roles: (0..n).map(|router| if router < count { REFLECTOR } else { CLIENT }).collect(),
+        identifiers: (1..=n as u32).map(|place| 10 * place).collect(),
+        sessions: mesh.chain((0..count).map(|reflector| (reflector, reflector + count))).collect(),
+        distances: (0..n).map(|from| (0..n).map(|to| distance(from, to)).collect()).collect(),
+        lists: vec![(count..n).collect()],
+    }
+}
+
+/// So many reflectors, each of which prefers the next one, and the last the first.
+pub fn preferring_the_next(count: usize) -> Draft {
+    preferring(count, &Vec::from_iter((0..count).map(|router| (router, (router + 1) % count))))
 }

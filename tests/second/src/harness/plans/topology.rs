@@ -88,6 +88,12 @@ pub fn plain_roles(reflector: &[bool]) -> Vec<u8> {
 pub fn drawn_roles(random: &mut Random, reflector: &[bool]) -> Vec<u8> {
     let skipping = random.pick(&[0, 0, 30, 60, 100]);
     let stepping = random.pick(&[0, 0, 0, 0, 0, 15, 15, 40, 70, 100]);
+    roles_with(random, reflector, skipping, stepping)
+}
+
+/// .. of which so many in a hundred reflectors skip their own clients, and so many have the hop
+/// step.
+pub fn roles_with(random: &mut Random, reflector: &[bool], skipping: usize, stepping: usize) -> Vec<u8> {
     let mut role = |reflector: bool| {
         if !reflector {
             return CLIENT;

@@ -1,0 +1,9 @@
+pub mod Alone
+pub mod BitSteps
+pub mod Choices
+pub mod GroupBuilding
+pub mod GroupWalks
+pub mod SetMarks
+pub mod SteadyList
+pub mod TurnOrder
+pub mod WordBits
