@@ -42,7 +42,7 @@ typedef char rrp_size_t_has_64_bits[sizeof(size_t) == 8 ? 1 : -1];
 
 /* What a call returns: 0, or the number of the first check that fails, which need not be the lowest that applies. The order of
  * the checks is, for a plan, 1, 2, 3, 4, 5, 13, 6, 7, 14, 8, 15, 9, 10; for a link sheet, 2, 11, 12, 9. Check 14 is that of rrp_narrow
- * alone, and check 15 that of rrp_steady. */
+ * alone, and check 15 that of rrp_steady and rrp_hop_set. */
 enum rrp_refusal {
     /* not refused */
     RRP_OK = 0,
@@ -122,8 +122,8 @@ enum {
     /* the most links of a sheet, four bytes each, and the most bytes that rrp_distances writes, those of 64 routers */
     RRP_MAX_LINKS = 512,
     RRP_MAX_DISTANCES = 8192,
-    /* the most routers in groups of two or more that rrp_steady takes, and bytes enough for what it writes of them: two for each of
-     * as many numbers as have so many bits */
+    /* the most routers in groups of two or more that rrp_steady and rrp_hop_set take, and bytes enough for what rrp_steady writes of
+     * them: two for each of as many numbers as have so many bits */
     RRP_MAX_GROUPED = 12,
     RRP_MAX_STEADY = 8192,
     /* the distance, of two bytes, from a router to another that it has no way to */
@@ -196,6 +196,13 @@ uint8_t rrp_verdict(const uint8_t *plan, size_t plan_len, size_t list, uint8_t *
  * each number. out[2 * i] and the byte after it become the i-th number, low byte first, the numbers rising. The table of a stable list
  * has the number 0. Refusals 1 to 9, 13 and 15; 15 comes before 9. */
 uint8_t rrp_steady(const uint8_t *plan, size_t plan_len, size_t list, uint8_t *out, size_t out_len, uint64_t *count);
+
+/* Names a smallest set of routers that makes the plan stable for a list once their roles 1 and 3 become 4 and 5. Bit i of *set is for the
+ * i-th router, lowest first, of those in groups of two or more, as in rrp_steady: it is set if that router is in the set. No smaller set
+ * of reflectors, wherever they are in the plan, makes the list stable, and no lower number of as many bits does. *set is 0 if the list
+ * is stable, and else not: some set always makes it stable. Of router w the role is byte 26 + 5 * w of the plan. Refusals 1 to 8, 13 and
+ * 15. */
+uint8_t rrp_hop_set(const uint8_t *plan, size_t plan_len, size_t list, uint64_t *set);
 
 /* Activates one router, in the table's 2n bytes: a router of the list keeps its own route, and any other then holds the best route
  * that a neighbour advertises to it at that moment, of those whose egress it has a way to, or none. No other router's entry

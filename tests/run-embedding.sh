@@ -143,6 +143,19 @@ lists_steady() {
 END
 }
 
+# A smallest set that makes a list stable with the hop step, by the C example, and the verdict with it; or the refusal.
+names_hop_set() {
+    local list expected
+    while IFS='|' read -r list expected; do
+        [ "$("$out/hop_set" examples/m3.plan "$list")" = "$expected" ] ||
+            { echo "embedding: hop_set $list is not: $expected"; return 1; }
+    done <<'END'
+0|1: 0, then stable 2
+1|0: none, then stable 3
+3|refused 8
+END
+}
+
 # What the other C examples say for a list of nobody: its verdict among others', why routers rely on others, a run.
 on_list_of_nobody() {
     local name=tests/verdict/nobody-listed-among-others
@@ -238,7 +251,7 @@ own_tests() {
 }
 
 mkdir -p "$out"
-rm -f "$out/verdicts" "$out/compare" "$out/why" "$out/run" "$out/distances" "$out/convert" "$out/flush" "$out/steady" "$out/stack"
+rm -f "$out/verdicts" "$out/compare" "$out/why" "$out/run" "$out/distances" "$out/convert" "$out/flush" "$out/steady" "$out/hop_set" "$out/stack"
 try "the library" rt staticlib rrp
 try "the header as C99" gcc -std=c99 -pedantic -Wall -Wextra -Werror -Iinclude -fsyntax-only -x c include/rrp.h
 try "the header as C++" g++ -std=c++11 -pedantic -Wall -Wextra -Werror -Iinclude -fsyntax-only -x c++ include/rrp.h
@@ -261,6 +274,8 @@ try "the C example of a flush" example flush
 try "the C example's flush" flushes
 try "the C example of steady tables" example steady
 try "the C example's steady tables" lists_steady
+try "the C example of a hop set" example hop_set
+try "the C example's hop set" names_hop_set
 try "the C examples on a list of nobody" on_list_of_nobody
 try "the C examples as documented" prints_as_documented
 try "the library's size in a program" measures_size

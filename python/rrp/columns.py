@@ -1,8 +1,16 @@
-"""How wide a text is on a terminal, so that columns line up whatever letters names have."""
+"""How wide a text is on a terminal, so that columns line up whatever letters names have; and lines
+that are cut where they get too wide."""
 
 from __future__ import annotations
 
 from collections.abc import Iterable
+
+#: So wide are tables side by side, and lines that are cut at blanks. No name is broken.
+COLUMNS = 110
+_WHOLE = {"break_long_words": False, "break_on_hyphens": False}
+
+#: What stands for a blank at which no line is cut. No name has it.
+_NO_BLANK = "\0"
 
 #: Letters of these categories take no column of their own: accents and marks on the one before.
 _MARKS = ("Mn", "Me", "Cf")
@@ -31,3 +39,14 @@ def left(text: str, columns: int) -> str:
 def right(text: str, columns: int) -> str:
     """A text with blanks before it, up to so many columns."""
     return " " * (columns - width(text)) + text
+
+
+def wrapped(start: str, items: Iterable[str]) -> list[str]:
+    """Items with commas between them, after some words. Lines are cut between items, and go on
+    below the first item or, if that starts late, indented."""
+    from textwrap import wrap
+
+    text = start + ", ".join(item.replace(" ", _NO_BLANK) for item in items)
+    indent = " " * (width(start) if width(start) < COLUMNS // 2 else 4)
+    lines = wrap(text, COLUMNS, subsequent_indent=indent, **_WHOLE)
+    return [line.replace(_NO_BLANK, " ") for line in lines]

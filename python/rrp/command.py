@@ -17,12 +17,14 @@ from . import __version__
 from .errors import RrpError
 from .usage import Parser, too_many, unknown_command
 
-#: The subcommands with a line of help. Each is a module of its name, with `arguments` and `run`.
+#: The subcommands with a line of help. Each is a module of its name, `_` for `-`, with `arguments`
+#: and `run`.
 COMMANDS = {
     "check": "judge a plan for each of its lists",
     "show": "name the lists, or explain the verdict for one",
     "why": "explain why a router relies on another, or does not",
     "steady": "show the tables that no activation changes, side by side",
+    "hop-set": "name a smallest set of reflectors to load the hop step on",
     "run": "activate routers one by one, and say what changes",
     "dot": "write who relies on whom as a Graphviz picture",
     "pack": "write a text plan as bytes",
@@ -122,7 +124,7 @@ def _parser(words: list[str]) -> tuple[Parser, dict[str, Parser]]:
 
 def _module(name: str):
     """The module of a subcommand."""
-    return import_module(f"rrp.commands.{name}")
+    return import_module(f"rrp.commands.{name.replace('-', '_')}")
 
 
 def _let_interrupt_end() -> None:

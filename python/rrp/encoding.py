@@ -6,6 +6,7 @@ Layout alone: whether bytes are a plan is for the library to say.
 from __future__ import annotations
 
 import struct
+from collections.abc import Iterable
 from typing import List, NamedTuple, Optional
 
 from .library import NO_WAY, NO_WAY_WIDE
@@ -36,6 +37,9 @@ REFLECTORS = {
     (False, True): HOP_STEP,
     (True, True): SKIPPING_HOP_STEP,
 }
+
+#: What the role of a reflector becomes where it gets the hop step. Other roles stay.
+_WITH_STEP = {REFLECTOR: HOP_STEP, SKIPPING: SKIPPING_HOP_STEP}
 
 #: The distances from each router to each other, None for no way.
 Rows = List[List[Optional[int]]]
@@ -153,6 +157,17 @@ def with_distance(plan: bytes, start: int, end: int, distance: int | None) -> by
     (body,) = struct.unpack_from("<H", plan, 6 + 5 * 2 + 1)
     place = body + width * (plan[4] * start + end)
     return plan[:place] + _encode_distances([distance], width) + plan[place + width :]
+
+
+def with_step(plan: bytes, routers: Iterable[int]) -> bytes:
+    """The bytes of a plan that the library does not refuse, with the hop step at some routers: role
+    1 becomes 4, and 3 becomes 5."""
+    (body,) = struct.unpack_from("<H", plan, 6 + 1)
+    changed = bytearray(plan)
+    for router in routers:
+        place = body + 5 * router
+        changed[place] = _WITH_STEP.get(changed[place], changed[place])
+    return bytes(changed)
 
 
 def encode_links(links: dict[tuple[int, int], int]) -> bytes:

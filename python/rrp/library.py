@@ -127,6 +127,7 @@ PROTOTYPES = {
     "rrp_activate": (*_BYTES, _SIZE, _SIZE, *_BYTES),
     "rrp_run": (*_BYTES, _SIZE, *_BYTES, _LONG, *_BYTES, _LONG_OUT, _LONG_OUT, _FLAG_OUT),
     "rrp_steady": (*_BYTES, _SIZE, *_BYTES, _LONG_OUT),
+    "rrp_hop_set": (*_BYTES, _SIZE, _LONG_OUT),
     "rrp_distances": (_SIZE, *_BYTES, *_BYTES),
     "rrp_widen": (*_BYTES, *_BYTES, _LONG_OUT),
     "rrp_narrow": (*_BYTES, *_BYTES, _LONG_OUT),
@@ -295,6 +296,14 @@ def steady(plan: bytes, egresses: int) -> tuple[int, ...]:
     _raise_if(library().rrp_steady(plan, len(plan), *_sizes(egresses), out, len(out), count))
     written = out.raw[: 2 * count.value]
     return tuple(low + 256 * high for low, high in zip(written[::2], written[1::2]))
+
+
+def hop_set(plan: bytes, egresses: int) -> int:
+    """The number of a smallest set of routers that makes a list stable once they have the hop step
+    (rrp_hop_set)."""
+    found = ctypes.c_uint64()
+    _raise_if(library().rrp_hop_set(plan, len(plan), *_sizes(egresses), found))
+    return found.value
 
 
 def distances(routers: int, links: bytes) -> bytes:

@@ -110,6 +110,11 @@ def list_command(command: str, path: str, name: str) -> str:
     return join(["rrp", command, path, *["--"] * name.startswith("-"), name])
 
 
+def set_command(path: str, statements: Iterable[str]) -> str:
+    """The command that judges changes of a plan for all lists, as a shell takes it."""
+    return join(["rrp", "check", path, *(word for each in statements for word in ("--set", each))])
+
+
 def without_route_lines(verdict: Verdict) -> list[str]:
     """A line on the routers of a stable list that end without a route, if there are any. Where
     nobody is in the list, that is said in place of all names."""

@@ -15,17 +15,21 @@ from __future__ import annotations
 import os
 from collections.abc import Callable, Iterable, Sequence
 from functools import cached_property
-from typing import TYPE_CHECKING, NamedTuple, Union
+from typing import TYPE_CHECKING, NamedTuple, TypeVar, Union
 
 from . import encoding, library
 from .errors import RrpError, cut_names, unknown
 from .tables import Route, Table
 
 if TYPE_CHECKING:
+    from .hop_sets import HopSet
     from .steady import Steady
 
 #: A router or a list, by name or by number.
 Which = Union[str, int]
+
+#: What a call answers.
+_Answer = TypeVar("_Answer")
 
 #: The rules by which a router relies on another, by the library's number.
 RULES = {1: "parent", 2: "peer client", 3: "own best client", 4: "better offer"}
@@ -43,7 +47,7 @@ REASONS = {
     9: "offer not better",
 }
 
-#: What to do where the tables of a list that no activation changes are not worked out.
+#: What to do where too many routers of a list lie in groups of two or more.
 _INSTEAD = (
     "rrp run PLAN LIST shows single runs, of which none promises anything of another; or end a",
     "cycle and ask again: rrp show PLAN LIST has changes that end one",
@@ -160,17 +164,18 @@ class TooFarToNarrow(library.Refused):
 
 
 class TooManyGrouped(library.Refused):
-    """Which tables of a list no activation changes is not worked out, as more than 12 routers lie
-    in groups of two or more: those in `grouped`."""
+    """What is asked of a list, in words `asked`, is not worked out, as more than 12 routers lie in
+    groups of two or more: those in `grouped`."""
 
-    def __init__(self, source: str, name: str, grouped: Sequence[str]) -> None:
+    def __init__(self, source: str, name: str, grouped: Sequence[str], asked: str) -> None:
         super().__init__(library.TOO_MANY_GROUPED, source)
-        self.name, self.grouped = name, tuple(grouped)
+        self.name, self.grouped, self.asked = name, tuple(grouped), asked
 
     @property
     def detail(self) -> str:
-        """How many such routers there are, for which list."""
-        return cut_names(f"the list {self.name} has {len(self.grouped)} such routers")
+        """How many such routers there are, for which list, and what is not worked out."""
+        counted = f"the list {self.name} has {len(self.grouped)} such routers"
+        return cut_names(f"{counted}: {self.asked} is not worked out")
 
     def __str__(self) -> str:
         return "\n    ".join([super().__str__(), self.detail, *_INSTEAD])
@@ -240,7 +245,17 @@ class Plan:
         except library.Refused as refused:
             raise library.Refused(refused.number, filename) from None
 
-    # The same plan of the other mark
+    # The same plan with the hop step elsewhere, or of the other mark
+
+    def with_hop_step(self, routers: Iterable[Which]) -> Plan:
+        """This plan with the hop step at some reflectors too. All else is the same."""
+        numbers = [self.router_number(which) for which in routers]
+        for number in numbers:
+            if self.model.roles[number] == encoding.CLIENT:
+                name = cut_names(self.routers[number])
+                raise RrpError(f"{name} is a client, and only reflectors have the hop step")
+        changed = encoding.with_step(self.data, numbers)
+        return Plan(changed, self.routers, self.lists, self.source, self.notes)
 
     def widened(self) -> Plan:
         """This RRP1 plan as RRP2: the same in all but the bytes of a distance."""
@@ -407,14 +422,7 @@ class Plan:
         is set exactly if the i-th of the routers in groups of two or more, lowest first, holds its
         best client's own route. Raises `TooManyGrouped` where more than 12 routers lie in such
         groups."""
-        number = self.list_number(egress_list)
-        try:
-            return library.steady(self.data, number)
-        except library.Refused as refused:
-            if refused.number != library.TOO_MANY_GROUPED:
-                raise
-        verdict = self.verdict(number)
-        raise TooManyGrouped(self.source, verdict.name, verdict.grouped)
+        return self._of_groups(library.steady, egress_list, "where it may rest")
 
     def steady(self, egress_list: Which) -> Steady:
         """All tables of a list that no activation changes, with their numbers. That there are some
@@ -423,6 +431,35 @@ class Plan:
         from .steady import steady_tables
 
         return steady_tables(self, egress_list)
+
+    def hop_set_number(self, egress_list: Which) -> int:
+        """The number of a smallest set of reflectors that makes a list stable once they have the
+        hop step, the lowest of that size; 0 exactly if the list is stable. Bit i is that of the
+        i-th of the routers in groups of two or more, lowest first. Raises `TooManyGrouped` where
+        more than 12 routers lie in such groups."""
+        return self._of_groups(library.hop_set, egress_list, "where to load the hop step")
+
+    def hop_set(self, egress_list: Which) -> HopSet:
+        """A smallest set of reflectors that makes a list stable once they have the hop step, with
+        the verdict that the list then has. It is for this list alone. Raises `TooManyGrouped` where
+        more than 12 routers lie in groups of two or more."""
+        from .hop_sets import smallest_set
+
+        return smallest_set(self, egress_list)
+
+    def _of_groups(
+        self, call: Callable[[bytes, int], _Answer], egress_list: Which, asked: str
+    ) -> _Answer:
+        """What a call answers that is refused where more than 12 routers of a list lie in groups of
+        two or more; in words, what it is asked."""
+        number = self.list_number(egress_list)
+        try:
+            return call(self.data, number)
+        except library.Refused as refused:
+            if refused.number != library.TOO_MANY_GROUPED:
+                raise
+        verdict = self.verdict(number)
+        raise TooManyGrouped(self.source, verdict.name, verdict.grouped, asked)
 
     # Routing tables
 

@@ -8,7 +8,7 @@ import tempfile
 import unittest
 
 from rrp import Plan
-from rrp.columns import left, right, widest, width
+from rrp.columns import left, right, widest, width, wrapped
 from rrp.text.writing import write
 
 from .support import rrp
@@ -48,6 +48,20 @@ class Widths(unittest.TestCase):
     def test_filled(self) -> None:
         self.assertEqual((left(WIDE, 6), right(WIDE, 6)), (f"{WIDE}  ", f"  {WIDE}"))
         self.assertEqual((left(ACCENT, 3), right(PLAIN, 5)), (f"{ACCENT} ", PLAIN))
+
+
+    def test_wrapped(self) -> None:
+        items = [f"router-{place} {1 << place}" for place in range(12)]
+        for start, indent in (("two words: ", 11), ("a" * 54 + " ", 4)):
+            first, *more = wrapped(start, items)
+            self.assertTrue(first.startswith(f"{start}router-0 1, router-1 2, "))
+            self.assertGreater(len(more), 0)
+            for line in more:
+                self.assertRegex(line, rf"^ {{{indent}}}router-\d+ \d+(,|$)")
+            text = " ".join([first, *(line.strip() for line in more)])
+            self.assertEqual(text, start + ", ".join(items))
+            self.assertLessEqual(widest([first, *more]), 110)
+        self.assertEqual(wrapped("none: ", ["x y"]), ["none: x y"])
 
 
 class Tables(unittest.TestCase):

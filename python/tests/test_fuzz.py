@@ -106,9 +106,9 @@ class Fuzz(unittest.TestCase):
                 data = random_input(self.inputs, self.draw)
                 with open(path, "wb") as file:
                     file.write(data)
-                others = ["show", "steady", "pack", "unpack", "convert"]
+                others = ["show", "steady", "hop-set", "pack", "unpack", "convert"]
                 command = self.draw.choice(["check", "check", *others])
-                words = {"check": [], "show": [], "steady": ["0"]}
+                words = {"check": [], "show": [], "steady": ["0"], "hop-set": []}
                 out = words.get(command, ["-o", f"{folder}/output"])
                 self.sound(rrp(command, path, *out), data)
 

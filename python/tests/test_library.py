@@ -139,6 +139,9 @@ class Calls(unittest.TestCase):
             (8, lambda: library.verdict(self.plan, 2)),
             (8, lambda: library.steady(self.plan, 2)),
             (5, lambda: library.steady(self.plan[:46] + b"\1" + self.plan[47:], 0)),
+            (8, lambda: library.hop_set(self.plan, 2)),
+            (8, lambda: library.hop_set(self.plan, -1)),
+            (5, lambda: library.hop_set(self.plan[:46] + b"\1" + self.plan[47:], 0)),
             (9, lambda: library.activate(self.plan, 0, 0, b"")),
             (10, lambda: library.activate(self.plan, 0, 0, bytes(8))),
             (2, lambda: library.distances(65, b"")),
@@ -182,6 +185,30 @@ class Steady(unittest.TestCase):
         for number, egresses, length in ((9, 0, 3), (9, 0, 0), (9, 1, 1), (8, 2, 4), (8, 2, 0)):
             refused = self.raw(self.plan, egresses, length)
             self.assertEqual(refused, (number, 99, b"\x77" * (length + 2)))
+
+
+class HopSet(unittest.TestCase):
+    """The raw call for a smallest set to have the hop step, on the bundled plan."""
+
+    def setUp(self) -> None:
+        with open(f"{EXAMPLES}/m3.plan", "rb") as file:
+            self.plan = file.read()
+
+    def raw(self, plan: bytes, egresses: int) -> tuple[int, int]:
+        """What the call returns, and the variable for the number, which had 99 in it."""
+        found = ctypes.c_uint64(99)
+        refused = library.library().rrp_hop_set(plan, len(plan), egresses, found)
+        return refused, found.value
+
+    def test_numbers(self) -> None:
+        self.assertEqual((library.hop_set(self.plan, 0), library.hop_set(self.plan, 1)), (1, 0))
+        for roles, number in ((b"\3\1", 1), (b"\3\3", 1), (b"\4\1", 0), (b"\1\5", 0)):
+            plan = self.plan[:26] + roles[:1] + self.plan[27:31] + roles[1:] + self.plan[32:]
+            self.assertEqual(self.raw(plan, 0), (0, number), roles)
+
+    def test_refused(self) -> None:
+        for number, plan, egresses in ((8, self.plan, 2), (8, self.plan, 2**64 - 1), (1, b"", 0)):
+            self.assertEqual(self.raw(plan, egresses), (number, 99))
 
 
 class Conversions(unittest.TestCase):

@@ -178,7 +178,7 @@ class Smallest(unittest.TestCase):
 
 
 class Recommended(unittest.TestCase):
-    """The change that the last line of `rrp show` recommends."""
+    """The change of a distance that `rrp show` recommends below the reliances."""
 
     def test_none_that_leaves_the_list_suspect(self) -> None:
         path = f"{TESTS}/plans/two-pairs.rrp"
@@ -187,7 +187,7 @@ class Recommended(unittest.TestCase):
         self.assertFalse(any(each["change"]["then"]["stable"] for each in shown["reliances"]))
         text = rrp("show", path, "all").output
         self.assertIn("\nno change above makes the list stable by itself: ", text)
-        self.assertNotIn("--set", text)
+        self.assertNotIn("to judge a change", text)
 
     def test_it_makes_the_list_stable(self) -> None:
         for path, name in (*SUSPECT, (f"{TESTS}/plans/skipped.rrp", "all")):
@@ -195,9 +195,9 @@ class Recommended(unittest.TestCase):
             judged = json.loads(rrp("check", path, "--set", statement, "--json").output)
             (after,) = [each["after"] for each in judged["lists"] if each["list"] == name]
             self.assertTrue(after["stable"], (path, statement))
-            last = rrp("show", path, name).output.splitlines()[-1]
-            self.assertTrue(last.startswith("to judge a change for all lists: rrp check "), last)
-            self.assertIn(f"--set {shlex.quote(statement)}", last)
+            lines = rrp("show", path, name).output.splitlines()
+            (said,) = [line for line in lines if line.startswith("to judge a change for all ")]
+            self.assertTrue(said.endswith(f" --set {shlex.quote(statement)}"), said)
 
     def test_of_random_networks(self) -> None:
         draw, numbers = random.Random(4456), set()

@@ -14,16 +14,19 @@ use Rattle.call_compare.specs.declared.compare.CompareAnswer.the-variants as co
 use Rattle.call_query.specs.declared.relies.ReliesAnswer.{ReliesAnswer}
 use Rattle.call_query.specs.declared.relies.ReliesAnswer.the-variants as relying
 use Rattle.call_query.specs.declared.size.SizeAnswer.{SizeAnswer}
+use Rattle.call_hopset.specs.declared.hop_set.HopSetAnswer.{HopSetAnswer}
+use Rattle.call_hopset.specs.declared.hop_set.HopSetAnswer.the-variants as sets
 use Rattle.plan_rules.specs.Refusal.{planRefusal}
-use Rattle.call_rules.specs.Refusals.{egressListRefusal, compareRefusal, reliesRefusal}
+use Rattle.call_rules.specs.Refusals.{egressListRefusal, compareRefusal, reliesRefusal, hopSetRefusal}
 use Rattle.call_compare.specs.Compare.{preferredNumber, marginPresent, marginValue, compared}
 use Rattle.call_compare.specs.Compare.{compareNumber, compareBetter, compareHasMargin, compareMargin, Compares}
 use Rattle.call_query.specs.Relies.{relied, reliesNumber, reliesFlag, Relied}
 use Rattle.call_query.specs.Size.{sizeRouters, sizeLists, Sizes}
+use Rattle.call_hopset.specs.HopSet.{hopSetAnswer, refusalOf, setNamed, HopSetCall}
 use Rattle.plan_rules.proofs.Refused.{when-refused, when-given}
 use Rattle.call_verdict.proofs.Judging.{kept}
 use Rattle.plan_rules.specs.EgressLists.{SpanOf}
-use Rattle.c_rules.specs.Exports.{saysYes, SizeExport, ListExport, CompareExport, ReliesExport}
+use Rattle.c_rules.specs.Exports.{saysYes, SizeExport, ListExport, CompareExport, ReliesExport, HopSetExport}
 use Rattle.c_rules.proofs.Written.{wrote, written, refused-by, cond-answers}
 
 module _ (plan : List ℕ) (r : SizeAnswer) (call : Sizes plan r) (routers lists : ℕ) where
@@ -112,3 +115,19 @@ module _ (plan : List ℕ) (k w v : ℕ) (r : ReliesAnswer) (call : Relied plan 
         number = sym n;
         answered = ap flag (sym is ∙ call .value ∙ when-given _ _ _ n) ∙ sym (when-given _ _ _ n);
       }
+
+abbrev hopSetRefuses : HopSetAnswer → ℕ
+hopSetRefuses (sets.Refused number) = 1
+hopSetRefuses (sets.Named set) = 0
+
+module _ (plan : List ℕ) (k : ℕ) (r : HopSetAnswer) (call : HopSetCall plan k r) (before : ℕ) where
+  pub hop-set-refused : (number : ℕ) → r ≡ sets.Refused number → HopSetExport plan k number (kept before)
+  unfolding hopSetAnswer
+  hop-set-refused number is =
+      let n : hopSetRefusal plan k ≡ 0 → ⊥ = refused-by hopSetRefuses _ r _ _ (call .answer) (ap hopSetRefuses is) refl in
+      record { number = sym (ap refusalOf is) ∙ call .numbered; named = sym (when-refused _ _ _ n) }
+
+  pub hop-set-given : (set : ℕ) → r ≡ sets.Named set → HopSetExport plan k 0 (wrote before set)
+  hop-set-given set is =
+      let n : hopSetRefusal plan k ≡ 0 = sym (call .numbered) ∙ ap refusalOf is in
+      record { number = sym n; named = written _ _ _ _ _ n (sym (ap setNamed is) ∙ call .named) }

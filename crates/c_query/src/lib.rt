@@ -4,12 +4,13 @@
 use checker::compare::CompareAnswer;
 use checker::compare::Margin;
 use checker::compare::Preferred;
+use checker::hop_set::HopSetAnswer;
 use checker::relies::ReliesAnswer;
 ghost use mathlib.Core.Path.{_≡_};
 ghost use Rattle.base.specs.Lent.{lent};
 ghost use Rattle.base.specs.Seek.{flag};
 ghost use Rattle.call_compare.specs.Compare.{preferredNumber, marginPresent, marginValue};
-ghost use Rattle.c_rules.specs.Exports.{SizeExport, ListExport, CompareExport, ReliesExport};
+ghost use Rattle.c_rules.specs.Exports.{SizeExport, ListExport, CompareExport, ReliesExport, HopSetExport};
 
 pub fn size(plan: &[u8], routers: &mut u64, lists: &mut u64) -> u8
     ensures { λ r. ⌜ SizeExport (now (plan .entry)) r (lent routers) (lent lists) ⌝ }
@@ -112,6 +113,21 @@ pub fn relies(plan: &[u8], list: usize, router: usize, other: usize, relies: &mu
         }
         ReliesAnswer::No => {
             *relies = 0;
+            return 0;
+        }
+    }
+}
+
+pub fn hop_set(plan: &[u8], list: usize, set: &mut u64) -> u8
+    ensures { λ r. ⌜ HopSetExport (now (plan .entry)) list r (lent set) ⌝ }
+{
+    let answer = checker::hop_set::hop_set(plan, list);
+    match answer {
+        HopSetAnswer::Refused(number) => {
+            return number;
+        }
+        HopSetAnswer::Named(named) => {
+            *set = named;
             return 0;
         }
     }

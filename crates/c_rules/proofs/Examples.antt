@@ -42,9 +42,10 @@ use Rattle.steady_rules.specs.Numbers.{numbersWhere}
 use Rattle.steady_rules.specs.Equations.{solves, carried, completed, solutions}
 use Rattle.steady_rules.specs.OwnRoutes.{overruled, keepsOwn}
 use Rattle.steady_rules.specs.Steady.{steadyNumbers}
-use Rattle.call_rules.specs.Refusals.{steadyChecks, steadyRefusal}
+use Rattle.call_rules.specs.Refusals.{steadyChecks, steadyRefusal, hopSetRefusal}
+use Rattle.hopset_rules.specs.HopSet.{serves, setOf, reflectorsIn, servesBy, lowestBy, leastSize, hopSet}
 use Rattle.call_steady.specs.Steady.{numberBytes, numbersAfter}
-use Rattle.c_rules.specs.Examples.{twoRouters, ExportExamples, ConvertExportExamples, SteadyExportExamples}
+use Rattle.c_rules.specs.Examples.{twoRouters, ExportExamples, ConvertExportExamples, SteadyExportExamples, HopSetExportExamples}
 
 pub export-examples : ExportExamples
 unfolding
@@ -129,4 +130,20 @@ steady-export-examples =
       twoTables = λ r o c e. (e .numbered, e .counted, e .bytes);
       stableList = λ r o c e. (e .numbered, e .counted, e .bytes);
       refusedSteady = λ r o c e. (e .numbered, e .counted, e .bytes);
+    }
+
+pub hop-set-export-examples : HopSetExportExamples
+unfolding
+    fourRouters smallPlan M3Plan hopSetRefusal serves setOf reflectorsIn servesBy lowestBy leastSize hopSet
+    together label stable grouped closing listedClientOf bestClient offer betterOffer relies nearer hasStep hops prefers
+    pairs inSession named refuse bodyChecks planChecks planRefusal
+    markOk headerOk routerCountOk kindsOk placesOk sizesOk contentsOk routerOk routersOk sessionOk sessionsOk
+    parentCount fewParents parentsOk count distancesOk
+    listPlace memberOk listAtOk listOk eachListOk listsOk allBelow anyBelow keepBest best seek highest tab
+hop-set-export-examples =
+    record {
+      oneOfTwo = λ r s e. (e .number, e .named);
+      noneToName = λ r s e. (e .number, e .named);
+      stepThere = λ r s e. (e .number, e .named);
+      refusedHopSet = λ r s e. (e .number, e .named);
     }

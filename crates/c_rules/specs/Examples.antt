@@ -11,7 +11,7 @@ use Rattle.plan_examples.specs.Plans.{M3Plan, M3WithNobody, nobodyBetween}
 use Rattle.plan_rules.specs.ConvertedExamples.{withNarrow, withWide}
 use Rattle.links_rules.specs.Distances.{DistancesCall}
 use Rattle.call_run.specs.Activate.{Activates}
-use Rattle.c_rules.specs.Exports.{SizeExport, ListExport, CompareExport, ReliesExport, ExplainExport, VerdictExport, SteadyExport, RunExport}
+use Rattle.c_rules.specs.Exports.{SizeExport, ListExport, CompareExport, ReliesExport, ExplainExport, VerdictExport, SteadyExport, HopSetExport, RunExport}
 use Rattle.c_rules.specs.Exports.{WidenExport, NarrowExport}
 
 -- two clients without a session; no way from 0 to 1, and back it is 7
@@ -202,3 +202,12 @@ pub record SteadyExportExamples : Type 0 where
   -- the buffer is a byte short: number 9, and the variable and the buffer are left as they were
   pub refusedSteady : (r : ℕ) (out : List ℕ) (count : Lent ℕ) → SteadyExport M3Plan 0 r (from (replicate 3 9) out) count
       → (r ≡ 9) × (count .after ≡ count .before) × (out ≡ replicate 3 9)
+
+pub record HopSetExportExamples : Type 0 where
+  -- list 2,3: router 0, which is bit 0
+  pub oneOfTwo : (r : ℕ) (set : Lent ℕ) → HopSetExport M3Plan 0 r set → (r ≡ 0) × (set .after ≡ 1)
+  -- list 3, which is stable: 0; with role 4 for router 0 list 2,3 is stable too
+  pub noneToName : (r : ℕ) (set : Lent ℕ) → HopSetExport M3Plan 1 r set → (r ≡ 0) × (set .after ≡ 0)
+  pub stepThere : (r : ℕ) (set : Lent ℕ) → HopSetExport stepping 0 r set → (r ≡ 0) × (set .after ≡ 0)
+  -- there is no list 3: number 8, and the variable is left as it was
+  pub refusedHopSet : (r : ℕ) (set : Lent ℕ) → HopSetExport M3Plan 3 r set → (r ≡ 8) × (set .after ≡ set .before)

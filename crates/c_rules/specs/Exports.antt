@@ -18,7 +18,8 @@ use Rattle.net_rules.specs.FromPlan.{instanceOf}
 use Rattle.plan_rules.specs.Refused.{unlessRefused}
 use Rattle.plan_rules.specs.Converted.{converted, widenRefusal, narrowRefusal}
 use Rattle.steady_rules.specs.Steady.{steadyCount}
-use Rattle.call_rules.specs.Refusals.{egressListRefusal, compareRefusal, reliesRefusal, verdictRefusal, steadyRefusal, runRefusal}
+use Rattle.hopset_rules.specs.HopSet.{hopSet}
+use Rattle.call_rules.specs.Refusals.{egressListRefusal, compareRefusal, reliesRefusal, verdictRefusal, steadyRefusal, hopSetRefusal, runRefusal}
 use Rattle.call_compare.specs.Compare.{whichBetter, hasMargin, marginNumber}
 use Rattle.route_explain_rules.specs.declared.explanation.Values.{Values}
 use Rattle.route_explain_rules.specs.Explained.{explained}
@@ -108,6 +109,11 @@ pub record SteadyWritten (number : ℕ) (I : Instance) (r : ℕ) (out : Lent (Li
 
 abbrev pub SteadyExport : (plan : List ℕ) (k r : ℕ) (out : Lent (List ℕ)) (count : Lent ℕ) → Type 0
 SteadyExport plan k r out = SteadyWritten (steadyRefusal plan k (out .before)) (instanceOf plan k) r out
+
+-- rrp_hop_set: the number of the set
+pub record HopSetExport (plan : List ℕ) (k r : ℕ) (set : Lent ℕ) : Type 0 where
+  pub number : r ≡ hopSetRefusal plan k
+  pub named : VariableHolds (hopSetRefusal plan k) set (hopSet (instanceOf plan k))
 
 -- rrp_run: the activations applied, the whole rounds in them, and 1 if the sequence is longer than the limit, else 0.
 -- `number` is the call's refusal.

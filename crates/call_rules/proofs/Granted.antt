@@ -23,9 +23,9 @@ use Rattle.net_rules.specs.FromPlan.{instanceOf}
 use Rattle.net_rules.specs.Opened.{Opened}
 use Rattle.net_tables.specs.TableBytes.{TableIn}
 use Rattle.steady_rules.specs.Steady.{groupedRouters, steadyCount}
-use Rattle.call_rules.specs.Refusals.{sequenceOk, askedChecks, egressListRefusal, compareRefusal, reliesRefusal, routerRefusal, sequenceRefusal, buffersOk, verdictRefusal, steadyRefusal, tableChecks}
+use Rattle.call_rules.specs.Refusals.{sequenceOk, askedChecks, egressListRefusal, compareRefusal, reliesRefusal, routerRefusal, sequenceRefusal, buffersOk, verdictRefusal, steadyRefusal, hopSetRefusal, tableChecks}
 use Rattle.call_rules.specs.InOrder.{InOrder}
-use Rattle.call_rules.proofs.InOrder.{asked-in-order, list-in-order, compare-in-order, relies-in-order, verdict-in-order, steady-in-order}
+use Rattle.call_rules.proofs.InOrder.{asked-in-order, list-in-order, compare-in-order, relies-in-order, verdict-in-order, steady-in-order, hop-set-in-order}
 
 pub few-routers : (plan : List ℕ) → planRefusal plan ≡ 0 → routerCount plan ≤ 64
 few-routers plan h = passed plan h .count .most
@@ -174,6 +174,16 @@ pub steady-asked : (plan : List ℕ) (k : ℕ) (out : List ℕ) → steadyRefusa
 steady-asked plan k out h =
     let g = granted (steady-in-order plan k out) h in
     record { planOk = g .planOk; list = ltb-true _ _ (g .callOk); few = leb-true _ _ (g .fewOk); long = leb-true _ _ (g .longOk) }
+
+pub record HopSetAsked (plan : List ℕ) (k : ℕ) : Type 0 where
+  pub planOk : planRefusal plan ≡ 0
+  pub list : k < listCount plan
+  pub few : groupedRouters (instanceOf plan k) ≤ 12
+
+pub hop-set-asked : (plan : List ℕ) (k : ℕ) → hopSetRefusal plan k ≡ 0 → HopSetAsked plan k
+hop-set-asked plan k h =
+    let g = granted (hop-set-in-order plan k) h in
+    record { planOk = g .planOk; list = ltb-true _ _ (g .callOk); few = leb-true _ _ (g .fewOk) }
 
 pub table-asked : (I : Instance) (table : List ℕ) → tableChecks I table ≡ 0 → TableIn I table
 unfolding tableChecks

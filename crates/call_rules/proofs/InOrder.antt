@@ -8,7 +8,7 @@ use Rattle.plan_rules.proofs.Cascade.{plan-passes, plan-refused}
 use Rattle.route_rules.specs.Instance.{Instance}
 use Rattle.net_rules.specs.FromPlan.{instanceOf}
 use Rattle.net_tables.specs.TableBytes.{tableRule}
-use Rattle.call_rules.specs.Refusals.{hasList, hasRouter, sequenceOk, askedChecks, egressListRefusal, compareRefusal, reliesRefusal, buffersOk, verdictRefusal, fewGrouped, numbersLong, steadyChecks, steadyRefusal, tableLong, tableChecks, activateRefusal, runRefusal}
+use Rattle.call_rules.specs.Refusals.{hasList, hasRouter, sequenceOk, askedChecks, egressListRefusal, compareRefusal, reliesRefusal, buffersOk, verdictRefusal, fewGrouped, numbersLong, steadyChecks, steadyRefusal, hopSetRefusal, tableLong, tableChecks, activateRefusal, runRefusal}
 use Rattle.call_rules.specs.InOrder.{InOrder}
 
 in-order : (plan : List ℕ) (ok few long rule : Bool)
@@ -51,6 +51,10 @@ module _ (plan : List ℕ) where
       → InOrder plan (hasList plan k) (fewGrouped (instanceOf plan k)) (numbersLong (instanceOf plan k) out) true (steadyRefusal plan k out)
   unfolding steadyRefusal steadyChecks refuse
   steady-in-order k out = in-order plan _ _ _ true
+
+  pub hop-set-in-order : (k : ℕ) → InOrder plan (hasList plan k) (fewGrouped (instanceOf plan k)) true true (hopSetRefusal plan k)
+  unfolding hopSetRefusal refuse
+  hop-set-in-order k = in-order plan _ _ true true
 
   -- the two calls on a table
   module _ (k : ℕ) (table : List ℕ) where

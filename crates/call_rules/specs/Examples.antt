@@ -7,7 +7,7 @@ use mathlib.Core.List.{List, [], _∷_}
 use lib.Dec.{ltb, eqb}
 use Rattle.plan_examples.specs.Plans.{threeRouters}
 use Rattle.route_rules.specs.Instance.{Instance}
-use Rattle.call_rules.specs.Refusals.{egressListRefusal, compareRefusal, reliesRefusal, verdictRefusal, fewGrouped, steadyRefusal, activateRefusal, runRefusal}
+use Rattle.call_rules.specs.Refusals.{egressListRefusal, compareRefusal, reliesRefusal, verdictRefusal, fewGrouped, steadyRefusal, hopSetRefusal, activateRefusal, runRefusal}
 
 -- tables for list 0: one that obeys its rule, one in which 2 holds a route from 0, which is not its neighbour, and one of 5 bytes
 unfoldable pub lent : List ℕ
@@ -71,6 +71,8 @@ pub record RefusalsExamples : Type 0 where
   pub steadyShort : steadyRefusal threeRouters 1 (9 ∷ []) ≡ 9  -- a byte a number, or no need of it: 0
   -- "after 8"
   pub steadyListAtM : steadyRefusal threeRouters 2 [] ≡ 8  -- the last: 9
+  pub hopSetListAtM : hopSetRefusal threeRouters 2 ≡ 8  -- no list asked for: 0
+  pub hopSetOfAList : hopSetRefusal threeRouters 1 ≡ 0
   -- "An act or a run needs 2n bytes of table"
   pub activatedInFive : activateRefusal threeRouters 0 0 short ≡ 9  -- n bytes: 0
   -- row 10: "a held-route table breaks its rule"

@@ -69,6 +69,10 @@ steadyChecks I out = refuse (fewGrouped I) 15 (refuse (numbersLong I out) 9 0)
 unfoldable pub steadyRefusal : List ℕ → ℕ → List ℕ → ℕ
 steadyRefusal plan k out = askedChecks plan (hasList plan k) (steadyChecks (instanceOf plan k) out)
 
+-- Row 15 (document 02, "Where to load the hop step"): "Refusal 15 covers this call too, in the same place."
+unfoldable pub hopSetRefusal : List ℕ → ℕ → ℕ
+hopSetRefusal plan k = askedChecks plan (hasList plan k) (refuse (fewGrouped (instanceOf plan k)) 15 0)
+
 -- Row 9: "An act or a run needs 2n bytes of table." Row 10: "a held-route table breaks its rule".
 abbrev pub tableLong : Instance → List ℕ → Bool
 tableLong I table = leb (2 * I .n) (length table)

@@ -4,6 +4,7 @@ pub use call_compare::compare;
 pub use call_convert::convert;
 pub use call_distances::distances;
 pub use call_explain::explain;
+pub use call_hopset::hop_set;
 pub use call_query::check;
 pub use call_query::lists;
 pub use call_query::relies;

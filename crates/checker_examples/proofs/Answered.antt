@@ -7,8 +7,8 @@ use denote.Ref.{RefT, ptr, now}
 use lib.ListN.{take, drop}
 use Rattle.base.specs.Bytes.{bytesOn}
 use Rattle.call_query.specs.EgressList.{egressListStart, egressListSize, ListPartOf}
-use Rattle.checker_examples.specs.Questions.{Question, Answer, reliesIs, Admitted, Example, example, Hold}
-use Rattle.checker_examples.specs.Questions.{check, size, list, compare, relies, explain, verdict, steady, activate, run}
+use Rattle.checker_examples.specs.Questions.{Question, Answer, reliesIs, hopSetIs, Admitted, Example, example, Hold}
+use Rattle.checker_examples.specs.Questions.{check, size, list, compare, relies, explain, verdict, steady, hopSet, activate, run}
 use Rattle.checker_examples.proofs.Questions.{answerTo}
 
 -- a part of a slice starts at one place alone
@@ -28,6 +28,7 @@ only-answer (relies k w v r c) = ap reliesIs (c .answer)
 only-answer (explain k w v r c) = cc
 only-answer (verdict k r labels ranks table cycle c) = cc
 only-answer (steady k r numbers c) = cc
+only-answer (hopSet k r c) = ap hopSetIs (c .answer)
 only-answer (activate k w table r after c) = cc
 only-answer (run k acts limit table r after c) = cc
 

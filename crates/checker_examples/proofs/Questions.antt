@@ -28,7 +28,7 @@ use Rattle.graph_ranks.specs.Rank.{rankOver, ranksByChains, rank}
 use Rattle.graph_cycle.specs.Cycle.{start, next, walk, metAgainAt, metFirstAt, repeatedPart, cycleIn, cycle}
 use Rattle.route_theorems.specs.Settled.{chooseAll, chosenAfter, settledTable}
 use Rattle.net_tables.specs.TableBytes.{readRoute, tableOf, tableBytes, activateBytes, runBytes}
-use Rattle.call_rules.specs.Refusals.{sequenceOk, egressListRefusal, compareRefusal, reliesRefusal, buffersOk, verdictRefusal, steadyChecks, steadyRefusal, tableChecks, activateRefusal, runRefusal}
+use Rattle.call_rules.specs.Refusals.{sequenceOk, egressListRefusal, compareRefusal, reliesRefusal, buffersOk, verdictRefusal, steadyChecks, steadyRefusal, hopSetRefusal, tableChecks, activateRefusal, runRefusal}
 use Rattle.route_explain_rules.specs.Explained.{againstOwn, byOffer, onReflector, onClient, explained}
 use Rattle.route_explain_rules.specs.Values.{bare, valuesOf}
 use Rattle.route_explain_rules.specs.declared.explanation.Explanation.the-variants as explanations
@@ -45,10 +45,12 @@ use Rattle.steady_rules.specs.Equations.{solves, carried, completed, solutions}
 use Rattle.steady_rules.specs.OwnRoutes.{overruled, keepsOwn}
 use Rattle.steady_rules.specs.Steady.{steadyNumbers}
 use Rattle.call_steady.specs.Steady.{numberBytes, steadyAnswer, numbersAfter}
+use Rattle.hopset_rules.specs.HopSet.{serves, setOf, reflectorsIn, servesBy, lowestBy, leastSize, hopSet}
+use Rattle.call_hopset.specs.HopSet.{hopSetAnswer}
 use Rattle.call_run.specs.Activate.{activateTable}
 use Rattle.call_run.specs.Run.{runApplied, runRounds, runExhausted, runTable}
-use Rattle.checker_examples.specs.Questions.{Question, checkAsked, sizeAsked, listAsked, compareToldAsked, reliesAsked, explainAsked, verdictAsked, steadyAsked, activateAsked, runAsked}
-use Rattle.checker_examples.specs.Questions.{Answer, checkIs, sizeIs, listIs, compareIs, reliesIs, explainIs, verdictIs, steadyIs, activateIs, runIs}
+use Rattle.checker_examples.specs.Questions.{Question, checkAsked, sizeAsked, listAsked, compareToldAsked, reliesAsked, explainAsked, verdictAsked, steadyAsked, hopSetAsked, activateAsked, runAsked}
+use Rattle.checker_examples.specs.Questions.{Answer, checkIs, sizeIs, listIs, compareIs, reliesIs, explainIs, verdictIs, steadyIs, hopSetIs, activateIs, runIs}
 
 -- the answer, by those definitions
 unfoldable pub answerTo : List ℕ → Question → Answer
@@ -76,6 +78,7 @@ answerTo plan (verdictAsked k labels ranks table cycle) =
 answerTo plan (steadyAsked k numbers) =
     let number = steadyRefusal plan k numbers in
     steadyIs (steadyAnswer number (instanceOf plan k)) (numbersAfter number (instanceOf plan k) numbers)
+answerTo plan (hopSetAsked k) = hopSetIs (hopSetAnswer (hopSetRefusal plan k) (instanceOf plan k))
 answerTo plan (activateAsked k w table) = activateIs (activateRefusal plan k w table) (activateTable plan k w table)
 answerTo plan (runAsked k acts limit table) =
     let number = runRefusal plan k acts table in
@@ -91,6 +94,7 @@ unfolding
     isStable labelsOf ranksOf highestOf settledBytes cycleOf found verdictAnswer labelsAfter ranksAfter tableAfter cycleAfter labelsLeft ranksLeft tableLeft cycleLeft
     steadyRefusal steadyChecks steadyAnswer numberBytes numbersAfter joined
     numbersWhere solves carried completed solutions overruled keepsOwn steadyNumbers
+    hopSetRefusal hopSetAnswer serves setOf reflectorsIn servesBy lowestBy leastSize hopSet
     activateTable runApplied runRounds runExhausted runTable
     buffersOk tableChecks sequenceOk readRoute tableOf tableBytes activateBytes runBytes chooseAll chosenAfter settledTable
     start next walk metAgainAt metFirstAt repeatedPart cycleIn cycle rankOver ranksByChains rank together label stable grouped closing acted roundsFrom rounds

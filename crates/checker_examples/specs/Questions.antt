@@ -24,6 +24,8 @@ use Rattle.call_verdict.specs.declared.verdict.VerdictAnswer.{VerdictAnswer}
 use Rattle.call_verdict.specs.Verdict.{VerdictCall}
 use Rattle.call_steady.specs.declared.steady.SteadyAnswer.{SteadyAnswer}
 use Rattle.call_steady.specs.Steady.{SteadyCall}
+use Rattle.call_hopset.specs.declared.hop_set.HopSetAnswer.{HopSetAnswer}
+use Rattle.call_hopset.specs.HopSet.{HopSetCall}
 use Rattle.call_run.specs.Activate.{Activates}
 use Rattle.call_run.specs.declared.run.RunAnswer.{RunAnswer}
 use Rattle.call_run.specs.Run.{Runs}
@@ -38,6 +40,7 @@ pub data Question : Type 0 where
   explainAsked : (list router other : ℕ) → Question
   verdictAsked : (list : ℕ) (labels ranks table cycle : List ℕ) → Question
   steadyAsked : (list : ℕ) (numbers : List ℕ) → Question
+  hopSetAsked : (list : ℕ) → Question
   activateAsked : (list router : ℕ) (table : List ℕ) → Question
   runAsked : (list : ℕ) (sequence : List ℕ) (limit : ℕ) (table : List ℕ) → Question
 
@@ -55,6 +58,7 @@ pub data Answer : Type 0 where
   explainIs : (answer : Explanation) (refusal : ℕ) (values : Values) → Answer
   verdictIs : (answer : VerdictAnswer) (labels ranks table cycle : List ℕ) → Answer
   steadyIs : (answer : SteadyAnswer) (numbers : List ℕ) → Answer
+  hopSetIs : (answer : HopSetAnswer) → Answer
   activateIs : (refusal : ℕ) (table : List ℕ) → Answer
   runIs : (refusal applied rounds : ℕ) (exhausted : Bool) (table : List ℕ) → Answer
 
@@ -74,6 +78,7 @@ pub data Admitted (plan : List ℕ) : Question → Answer → Type 0 where
       (verdictIs r (labels .after) (ranks .after) (table .after) (cycle .after))
   steady : (k : ℕ) (r : SteadyAnswer) (numbers : Lent (List ℕ)) → SteadyCall plan k r numbers
       → Admitted plan (steadyAsked k (numbers .before)) (steadyIs r (numbers .after))
+  hopSet : (k : ℕ) (r : HopSetAnswer) → HopSetCall plan k r → Admitted plan (hopSetAsked k) (hopSetIs r)
   activate : (k w : ℕ) (table : List ℕ) (r : ℕ) (after : List ℕ) → Activates plan k w table r after
       → Admitted plan (activateAsked k w table) (activateIs r after)
   run : (k : ℕ) (acts : List ℕ) (limit : ℕ) (table : List ℕ) (r : RunAnswer) (after : List ℕ) → Runs plan k acts limit table r after

@@ -32,8 +32,8 @@ use Rattle.net_rules.specs.FromPlan.{instanceOf}
 use Rattle.net_rules.proofs.FromConverted.{converted-instance}
 use Rattle.net_tables.specs.TableBytes.{activateBytes, runBytes}
 use Rattle.net_verdict.specs.Assessed.{found, labelsLeft, ranksLeft, tableLeft, cycleLeft}
-use Rattle.call_rules.specs.Refusals.{sequenceOk, askedChecks, egressListRefusal, compareRefusal, reliesRefusal, verdictRefusal, buffersOk, steadyChecks, steadyRefusal, tableChecks, activateRefusal, runRefusal}
-use Rattle.call_rules.proofs.Granted.{list-asked, relies-asked, verdict-asked, steady-asked}
+use Rattle.call_rules.specs.Refusals.{sequenceOk, askedChecks, egressListRefusal, compareRefusal, reliesRefusal, verdictRefusal, buffersOk, steadyChecks, steadyRefusal, fewGrouped, hopSetRefusal, tableChecks, activateRefusal, runRefusal}
+use Rattle.call_rules.proofs.Granted.{list-asked, relies-asked, verdict-asked, steady-asked, hop-set-asked}
 use Rattle.call_query.specs.declared.size.SizeAnswer.{SizeAnswer}
 use Rattle.call_query.specs.declared.relies.ReliesAnswer.the-variants as reliances
 use Rattle.call_query.specs.declared.relies.ReliesAnswer.the-variants.{Yes, No}
@@ -49,6 +49,9 @@ use Rattle.call_verdict.specs.declared.verdict.VerdictAnswer.the-variants as ve
 use Rattle.call_verdict.specs.Verdict.{answerOf, verdictAnswer, labelsAfter, ranksAfter, tableAfter, cycleAfter, VerdictCall}
 use Rattle.call_steady.specs.declared.steady.SteadyAnswer.{SteadyAnswer}
 use Rattle.call_steady.specs.declared.steady.SteadyAnswer.the-variants as steadies
+use Rattle.call_hopset.specs.declared.hop_set.HopSetAnswer.the-variants as sets
+use Rattle.call_hopset.specs.HopSet.{hopSetAnswer}
+use Rattle.hopset_rules.specs.HopSet.{hopSet}
 use Rattle.call_steady.specs.Steady.{numberBytes, steadyAnswer, numbersAfter, SteadyCall}
 use Rattle.call_run.specs.declared.run.RunAnswer.{RunAnswer}
 use Rattle.call_run.specs.Activate.{activateTable}
@@ -104,6 +107,10 @@ module _ (plan result : List ℕ) (ok : planRefusal plan ≡ 0) (ok′ : planRef
   steady-refusal : (k : ℕ) (out : List ℕ) → steadyRefusal result k out ≡ steadyRefusal plan k out
   unfolding steadyRefusal
   steady-refusal k out = asked-same (λ n m. ltb k m) _ _ (λ h. ap (λ I. steadyChecks I out) (network k (ltb-true k _ h)))
+
+  hop-set-refusal : (k : ℕ) → hopSetRefusal result k ≡ hopSetRefusal plan k
+  unfolding hopSetRefusal
+  hop-set-refusal k = asked-same (λ n m. ltb k m) _ _ (λ h. ap (λ I. refuse (fewGrouped I) 15 0) (network k (ltb-true k _ h)))
 
   activate-refusal : (k w : ℕ) (table : List ℕ) → activateRefusal result k w table ≡ activateRefusal plan k w table
   unfolding activateRefusal
@@ -184,7 +191,7 @@ module _ (plan result : List ℕ) (ok : planRefusal plan ≡ 0) (ok′ : planRef
       )
 
   pub same-calls : SameCalls plan result
-  unfolding relied compared activateTable
+  unfolding relied compared hopSetAnswer activateTable
   same-calls =
       record {
         check = ok′ ∙ sym ok;
@@ -208,6 +215,11 @@ module _ (plan result : List ℕ) (ok : planRefusal plan ≡ 0) (ok′ : planRef
             ∙ sym (s .answer);
         verdict = same-verdict;
         steady = same-steady;
+        hopSet =
+            λ k r r′ s s′.
+            s′ .answer
+            ∙ by-network k _ _ sets.Refused (λ I. sets.Named (hopSet I)) (hop-set-refusal k) (λ z. hop-set-asked plan k z .list)
+            ∙ sym (s .answer);
         activate =
             λ k w table r r′ after after′ s s′. (
               s′ .number ∙ activate-refusal k w table ∙ sym (s .number),

@@ -14,3 +14,6 @@ pub mod NobodyExamples
 pub mod HopStepExamples
 pub mod SteadyListedExamples
 pub mod RefusedCalls
+pub mod SteppedPlans
+pub mod HopSets
+pub mod HopSetsExamples

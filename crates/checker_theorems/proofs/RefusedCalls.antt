@@ -7,6 +7,7 @@ use Rattle.call_query.specs.EgressList.{egressListStart, egressListSize}
 use Rattle.call_query.specs.Size.{sizeRouters, sizeLists}
 use Rattle.call_verdict.specs.Verdict.{verdictAnswer, labelsAfter, ranksAfter, tableAfter, cycleAfter}
 use Rattle.call_steady.specs.Steady.{steadyAnswer, numbersAfter}
+use Rattle.call_hopset.specs.HopSet.{hopSetAnswer}
 use Rattle.call_run.specs.Activate.{activateTable}
 use Rattle.call_run.specs.Run.{runApplied, runRounds, runExhausted, runTable}
 use Rattle.call_convert.specs.Convert.{convertLength, convertBuffer}
@@ -16,7 +17,7 @@ use Rattle.checker_theorems.specs.RefusedCalls.{RefusedCalls}
 pub refused-calls : RefusedCalls
 unfolding
     egressListStart egressListSize sizeRouters sizeLists verdictAnswer labelsAfter ranksAfter tableAfter cycleAfter
-    steadyAnswer numbersAfter activateTable runApplied runRounds runExhausted runTable convertLength convertBuffer
+    steadyAnswer numbersAfter hopSetAnswer activateTable runApplied runRounds runExhausted runTable convertLength convertBuffer
 refused-calls =
     record {
       list = λ plan k part s ne. (
@@ -42,6 +43,7 @@ refused-calls =
         s .cycled ∙ when-refused _ _ _ ne,
       );
       steady = λ plan k r out s ne. (s .answer ∙ when-refused _ _ _ ne, s .counted ∙ when-refused _ _ _ ne, s .written ∙ when-refused _ _ _ ne);
+      hopSet = λ plan k r s ne. (s .answer ∙ when-refused _ _ _ ne, s .named ∙ when-refused _ _ _ ne);
       activate = λ plan k w table r after s ne. (s .number, s .bytes ∙ when-refused _ _ _ ne);
       run = λ plan k acts limit table r after s ne. (
         s .number,

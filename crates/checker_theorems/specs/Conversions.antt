@@ -25,6 +25,8 @@ use Rattle.call_verdict.specs.declared.verdict.VerdictAnswer.{VerdictAnswer}
 use Rattle.call_verdict.specs.Verdict.{VerdictCall}
 use Rattle.call_steady.specs.declared.steady.SteadyAnswer.{SteadyAnswer}
 use Rattle.call_steady.specs.Steady.{SteadyCall}
+use Rattle.call_hopset.specs.declared.hop_set.HopSetAnswer.{HopSetAnswer}
+use Rattle.call_hopset.specs.HopSet.{HopSetCall}
 use Rattle.call_run.specs.declared.run.RunAnswer.{RunAnswer}
 use Rattle.call_run.specs.Activate.{Activates}
 use Rattle.call_run.specs.Run.{Runs}
@@ -53,6 +55,8 @@ pub record SameCalls (plan result : List ℕ) : Type 0 where
   -- the numbers of the tables that no act changes
   pub steady : (k : ℕ) (out : List ℕ) (r r′ : SteadyAnswer) (after after′ : List ℕ) → SteadyCall plan k r (left out after)
       → SteadyCall result k r′ (left out after′) → (r′ ≡ r) × (after′ ≡ after)
+  -- where to load the hop step
+  pub hopSet : (k : ℕ) (r r′ : HopSetAnswer) → HopSetCall plan k r → HopSetCall result k r′ → r′ ≡ r
   -- "held routes and runs", on any table
   pub activate : (k w : ℕ) (table : List ℕ) (r r′ : ℕ) (after after′ : List ℕ) → Activates plan k w table r after
       → Activates result k w table r′ after′ → (r′ ≡ r) × (after′ ≡ after)

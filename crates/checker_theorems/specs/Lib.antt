@@ -11,3 +11,5 @@ pub mod NobodyExamples
 pub mod HopStepExamples
 pub mod SteadyListedExamples
 pub mod RefusedCalls
+pub mod HopSets
+pub mod HopSetsExamples

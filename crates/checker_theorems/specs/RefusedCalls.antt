@@ -11,7 +11,7 @@ use denote.Ref.{RefT, ptr, now}
 use Rattle.base.specs.Bytes.{bytesOn}
 use Rattle.base.specs.Lent.{Lent}
 use Rattle.plan_rules.specs.Refusal.{planRefusal}
-use Rattle.call_rules.specs.Refusals.{egressListRefusal, compareRefusal, reliesRefusal, verdictRefusal, steadyRefusal, activateRefusal, runRefusal}
+use Rattle.call_rules.specs.Refusals.{egressListRefusal, compareRefusal, reliesRefusal, verdictRefusal, steadyRefusal, hopSetRefusal, activateRefusal, runRefusal}
 use Rattle.call_compare.specs.declared.compare.CompareAnswer.{CompareAnswer}
 use Rattle.call_compare.specs.declared.compare.CompareAnswer.the-variants.{Refused}
 use Rattle.call_query.specs.declared.relies.ReliesAnswer.{ReliesAnswer}
@@ -21,12 +21,15 @@ use Rattle.call_verdict.specs.declared.verdict.VerdictAnswer.{VerdictAnswer}
 use Rattle.call_verdict.specs.declared.verdict.VerdictAnswer.the-variants as verdicts
 use Rattle.call_steady.specs.declared.steady.SteadyAnswer.{SteadyAnswer}
 use Rattle.call_steady.specs.declared.steady.SteadyAnswer.the-variants as steadies
+use Rattle.call_hopset.specs.declared.hop_set.HopSetAnswer.{HopSetAnswer}
+use Rattle.call_hopset.specs.declared.hop_set.HopSetAnswer.the-variants as sets
 use Rattle.call_run.specs.declared.run.RunAnswer.{RunAnswer}
 use Rattle.call_query.specs.EgressList.{ListPartOf}
 use Rattle.call_query.specs.Size.{Sizes}
 use Rattle.call_query.specs.Relies.{reliesFlag, Relied}
 use Rattle.call_verdict.specs.Verdict.{verdictIsStable, verdictSize, VerdictCall}
 use Rattle.call_steady.specs.Steady.{countOf, SteadyCall}
+use Rattle.call_hopset.specs.HopSet.{setNamed, HopSetCall}
 use Rattle.call_compare.specs.Compare.{compareBetter, compareHasMargin, compareMargin, Compares}
 use Rattle.route_explain_rules.specs.declared.explanation.Explanation.{Explanation}
 use Rattle.route_explain_rules.specs.declared.explanation.Explanation.the-variants as explanations
@@ -62,6 +65,8 @@ pub record RefusedCalls : Type 0 where
   pub steady : (plan : List ℕ) (k : ℕ) (r : SteadyAnswer) (out : Lent (List ℕ)) → SteadyCall plan k r out
       → (steadyRefusal plan k (out .before) ≡ 0 → ⊥)
       → (r ≡ steadies.Refused (steadyRefusal plan k (out .before))) × (countOf r ≡ 0) × (out .after ≡ out .before)
+  pub hopSet : (plan : List ℕ) (k : ℕ) (r : HopSetAnswer) → HopSetCall plan k r → (hopSetRefusal plan k ≡ 0 → ⊥)
+      → (r ≡ sets.Refused (hopSetRefusal plan k)) × (setNamed r ≡ 0)
   pub activate : (plan : List ℕ) (k w : ℕ) (table : List ℕ) (r : ℕ) (after : List ℕ) → Activates plan k w table r after
       → (activateRefusal plan k w table ≡ 0 → ⊥) → (r ≡ activateRefusal plan k w table) × (after ≡ table)
   pub run : (plan : List ℕ) (k : ℕ) (acts : List ℕ) (limit : ℕ) (table : List ℕ) (r : RunAnswer) (after : List ℕ)

@@ -7,7 +7,7 @@ ghost use Rattle.plan_rules.specs.Refusal.{planRefusal};
 ghost use Rattle.call_run.specs.Activate.{Activates};
 ghost use Rattle.links_rules.specs.Distances.{DistancesCall};
 ghost use Rattle.c_rules.specs.Exports.{SizeExport, ListExport, CompareExport, ReliesExport, ExplainExport};
-ghost use Rattle.c_rules.specs.Exports.{VerdictExport, SteadyExport, RunExport, WidenExport, NarrowExport};
+ghost use Rattle.c_rules.specs.Exports.{VerdictExport, SteadyExport, HopSetExport, RunExport, WidenExport, NarrowExport};
 
 #[no_mangle]
 pub extern "C" fn rrp_check(plan: &[u8]) -> u8
@@ -123,6 +123,13 @@ pub extern "C" fn rrp_steady(plan: &[u8], list: usize, out: &mut [u8], count: &m
     ensures { λ r. ⌜ SteadyExport (now (plan .entry)) list r (lent out) (lent count) ⌝ }
 {
     c_tables::steady(plan, list, out, count)
+}
+
+#[no_mangle]
+pub extern "C" fn rrp_hop_set(plan: &[u8], list: usize, set: &mut u64) -> u8
+    ensures { λ r. ⌜ HopSetExport (now (plan .entry)) list r (lent set) ⌝ }
+{
+    c_query::hop_set(plan, list, set)
 }
 
 #[no_mangle]

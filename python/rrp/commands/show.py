@@ -4,13 +4,14 @@ what would end that. Without a list it names the lists of the plan."""
 from __future__ import annotations
 
 from argparse import ArgumentParser, Namespace
-from shlex import join
 from textwrap import wrap
 
 from ..accounts import Account, account
 from ..columns import left, right, widest
-from ..output import list_command, list_values, plan_line, plan_values, rest_lines, verdict_lines
-from ..output import verdict_values, verdict_words, without_route_lines, write_json, write_notes
+from ..hop_sets import not_worked_out, set_if_few, tried_lines, tried_values
+from ..output import list_command, list_values, plan_line, plan_values, rest_lines, set_command
+from ..output import verdict_lines, verdict_values, verdict_words, without_route_lines, write_json
+from ..output import write_notes
 from ..plan import Plan, Verdict
 from ..remedies import Remedy, recommended, smallest_remedy
 from ..rest import Rest, rest_of
@@ -24,8 +25,14 @@ _WHOLE = {"break_long_words": False, "break_on_hyphens": False}
 #: What to do where no change of one distance makes a list stable.
 _NONE_ENDS_IT = (
     "no change above makes the list stable by itself: make one of them in the plan,",
-    "and show the list again for the cycle that is left; or change a session or the list,",
-    "or give reflectors of the cycle the hop step",
+    "and show the list again for the cycle that is left; or change a session or the list",
+)
+
+#: What is said of the hop step below the changes of distances.
+_LOADED = "a smallest set of reflectors to load the hop step on instead"
+_NOT_LOADED = "where to load the hop step instead is"
+_END_ONE = (
+    "first end the cycle, as above or by the step at one of its routers, and show the list again"
 )
 
 
@@ -39,7 +46,9 @@ def arguments(parser: ArgumentParser) -> None:
         "in how many tables it may rest, which is no promise that its routers get there; rrp "
         "steady PLAN LIST shows them. A change that is shown was "
         "tried, and there is no smaller one of one distance that a plan of the same mark holds: up "
-        "to 65,534 in RRP1, 4,294,967,294 in RRP2. Exit "
+        "to 65,534 in RRP1, 4,294,967,294 in RRP2. The last lines have a smallest set of "
+        "reflectors that makes the list stable once the hop step is loaded on them, tried too; rrp "
+        "hop-set PLAN LIST says more. Exit "
         "status: 0 the list is stable, or all are where none is given; 1 suspect; 2 error."
     )
 
@@ -130,7 +139,7 @@ def _show_suspect(plan: Plan, verdict: Verdict, options: Namespace) -> None:
         best = recommended(remedies)
         change = None if best is None else best.change.statement
         values = {**verdict_values(verdict, rest), "reliances": reliances, "recommended": change}
-        _write(plan, verdict, values)
+        _write(plan, verdict, {**values, "hop_set": _hop_set_values(plan, verdict)})
         return
     for group in verdict.groups:
         print(f"routers that rely on one another: {', '.join(group)}")
@@ -139,6 +148,7 @@ def _show_suspect(plan: Plan, verdict: Verdict, options: Namespace) -> None:
     for number, (one, remedy) in enumerate(found, 1):
         _print_reliance(number, one, remedy)
     _print_advice(options.plan, remedies)
+    _print_hop_set(plan, verdict, options.plan)
 
 
 def _print_reliance(number: int, one: Account, remedy: Remedy | None) -> None:
@@ -158,10 +168,26 @@ def _print_advice(path: str, remedies: list[Remedy]) -> None:
     """How to judge a change that makes the list stable, or that none by itself does."""
     best = recommended(remedies)
     if best is not None:
-        words = ["rrp", "check", path, "--set", best.change.statement]
-        print(f"\nto judge a change for all lists: {join(words)}")
+        command = set_command(path, [best.change.statement])
+        print(f"\nto judge a change for all lists: {command}")
     elif remedies:
         print("\n".join(["", *_NONE_ENDS_IT]))
+
+
+def _print_hop_set(plan: Plan, verdict: Verdict, path: str) -> None:
+    """Where to load the hop step, so that the list is stable with the distances as they are."""
+    found = set_if_few(plan, verdict.name)
+    if found is None:
+        print(f"\n{_NOT_LOADED} {not_worked_out(verdict)}\n   {_END_ONE}")
+        return
+    print(f"\n{_LOADED}: {', '.join(found.routers)}")
+    for line in tried_lines(plan, found, path):
+        print(f"   {line}")
+
+
+def _hop_set_values(plan: Plan, verdict: Verdict) -> dict[str, object] | None:
+    found = set_if_few(plan, verdict.name)
+    return None if found is None else tried_values(plan, found)
 
 
 def _write(plan: Plan, verdict: Verdict, values: dict[str, object]) -> None:

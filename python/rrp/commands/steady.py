@@ -4,19 +4,16 @@ from __future__ import annotations
 
 from argparse import ArgumentParser, Namespace
 from collections.abc import Iterator, Sequence
-from textwrap import wrap
 
-from ..columns import left, widest, width
+from ..columns import COLUMNS, left, widest, wrapped
 from ..output import verdict_lines, verdict_values, write_json, write_notes
 from ..plan import Plan, Verdict
 from ..rest import NO_PROMISE, rest_of
 from ..steady import Steady, SteadyTable
 from ..table_files import route_words, table_values
 
-#: So wide are the tables side by side, and the lines below them. No name is broken.
-_COLUMNS = 110
+#: What is between two tables side by side.
 _GAP = "  "
-_WHOLE = {"break_long_words": False, "break_on_hyphens": False}
 
 
 def arguments(parser: ArgumentParser) -> None:
@@ -95,7 +92,7 @@ def _blocks(
     columns = first
     for each in tables:
         more = len(_GAP) + widest(_cells(routers, each))
-        if block and columns + more > _COLUMNS:
+        if block and columns + more > COLUMNS:
             yield block
             block, columns = [], first
         block.append(each)
@@ -122,7 +119,7 @@ def _same_lines(found: Steady) -> Iterator[str]:
     yield ""
     yield f"the same in {'both' if len(found.tables) == 2 else 'all'} tables:"
     for words, routers in held.items():
-        yield from _wrapped(f"  {words}: ", ", ".join(routers))
+        yield from wrapped(f"  {words}: ", routers)
 
 
 def _number_lines(found: Steady) -> list[str]:
@@ -131,10 +128,4 @@ def _number_lines(found: Steady) -> list[str]:
         return ["its number is 0: no router lies in a group of two or more"]
     bits = [f"{router} {1 << place}" for place, router in enumerate(found.grouped)]
     words = "a table's number is the sum over those that hold their best client's own route: "
-    return _wrapped(words, ", ".join(bits))
-
-
-def _wrapped(start: str, text: str) -> list[str]:
-    """A text that is cut at blanks. It goes on below itself or, if it starts late, indented."""
-    indent = " " * (width(start) if width(start) < _COLUMNS // 2 else 4)
-    return wrap(f"{start}{text}", _COLUMNS, subsequent_indent=indent, **_WHOLE)
+    return wrapped(words, bits)

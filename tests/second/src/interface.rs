@@ -212,6 +212,10 @@ pub trait Checker {
     /// Writes the numbers of the tables that no act changes to `out`, two bytes each.
     fn steady(&mut self, plan: &[u8], list: usize, out: &mut [u8], count: &mut Lent<u64>) -> u8;
 
+    /// Gives the number of a smallest set of routers that makes the list stable once they have
+    /// the hop step.
+    fn hop_set(&mut self, plan: &[u8], list: usize, set: &mut Lent<u64>) -> u8;
+
     fn activate(&mut self, plan: &[u8], list: usize, router: usize, table: &mut [u8]) -> u8;
 
     fn run(&mut self, plan: &[u8], list: usize, acts: Acts, table: &mut [u8], fields: &mut RunFields) -> u8;

@@ -101,6 +101,8 @@ functions! {
 
     fn rrp_steady(plan: *const u8, plan_len: usize, list: usize, out: *mut u8, out_len: usize, count: *mut u64);
 
+    fn rrp_hop_set(plan: *const u8, plan_len: usize, list: usize, set: *mut u64);
+
     fn rrp_activate(plan: *const u8, plan_len: usize, list: usize, router: usize, table: *mut u8, table_len: usize);
 
     fn rrp_run(
@@ -163,6 +165,11 @@ impl Library {
     /// Whether the library lists the tables that no act changes.
     pub fn lists_steady(&self) -> bool {
         self.rrp_steady.is_some()
+    }
+
+    /// Whether the library names smallest sets of routers to give the hop step.
+    pub fn names_hop_sets(&self) -> bool {
+        self.rrp_hop_set.is_some()
     }
 }
 
@@ -252,6 +259,11 @@ impl Checker for Library {
         let steady = self.rrp_steady.expect(MISSING);
         // SAFETY: as above.
         unsafe { steady(plan.as_ptr(), plan.len(), list, out.as_mut_ptr(), out.len(), &mut count.value) }
+    }
+
+    fn hop_set(&mut self, plan: &[u8], list: usize, set: &mut Lent<u64>) -> u8 {
+        // SAFETY: as above.
+        unsafe { self.rrp_hop_set.expect(MISSING)(plan.as_ptr(), plan.len(), list, &mut set.value) }
     }
 
     fn activate(&mut self, plan: &[u8], list: usize, router: usize, table: &mut [u8]) -> u8 {

@@ -65,6 +65,12 @@ pub fn steady(checker: &mut dyn Checker, plan: &[u8]) -> u64 {
     count.value
 }
 
+pub fn hop_set(checker: &mut dyn Checker, plan: &[u8]) {
+    let mut set = Lent::new(0);
+    assert_eq!(checker.hop_set(black_box(plan), 0, &mut set), 0);
+    black_box(set.value);
+}
+
 pub fn activate(checker: &mut dyn Checker, plan: &[u8], table: &[u8]) {
     let mut lent = [0; 128];
     lent[..table.len()].copy_from_slice(table);

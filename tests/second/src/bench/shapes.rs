@@ -186,6 +186,26 @@ pub fn threes_and_others() -> Draft {
     draft
 }
 
+/// Twelve reflectors in a mesh, each of which prefers the listed clients of all others to its
+/// own, and 52 clients. All of the one group but one must be given the hop step.
+pub fn one_group() -> Draft {
+    let (n, reflectors) = (64, MOST_GROUPED);
+    let distance = |from: usize, to: usize| match (from == to, from < reflectors) {
+        (true, _) => 0,
+        (_, true) if to == from + reflectors => 10,
+        (_, true) => 6,
+        _ => 30,
+    };
+    Draft {
+        mark: Mark::Rrp1,
+        roles: (0..n).map(|router| if router < reflectors { REFLECTOR } else { CLIENT }).collect(),
+        identifiers: (1..=n as u32).collect(),
+        sessions: all_pairs(reflectors).chain((reflectors..n).map(|client| (client % reflectors, client))).collect(),
+        distances: (0..n).map(|from| (0..n).map(|to| distance(from, to)).collect()).collect(),
+        lists: vec![(reflectors..2 * reflectors).collect()],
+    }
+}
+
 /// A ring of links both ways, and a chord from each router to the one a third
 /// of the ring on.
 pub fn ring_and_chords(random: &mut Random, n: usize) -> Sheet {

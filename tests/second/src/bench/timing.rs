@@ -3,8 +3,10 @@
 //! ratio is the median of the ratios of the turns, so that a machine that is slower for a
 //! while slows both sides.
 
-use super::calls::{activate, check, compare, convert, distances, explain, list, relies, size, steady, verdict, Run};
-use super::shapes::{full_sheet, ring_and_chords, threes_and_others, two_parts, Shape, SIZES};
+use super::calls::{
+    activate, check, compare, convert, distances, explain, hop_set, list, relies, size, steady, verdict, Run,
+};
+use super::shapes::{full_sheet, one_group, ring_and_chords, threes_and_others, two_parts, Shape, SIZES};
 use super::tight::Tight;
 use super::turns::Turns;
 use crate::harness::plans::draft::Draft;
@@ -215,6 +217,14 @@ fn time_steady_plan(bench: &Bench, draft: &Draft, name: &str) {
     bench.line(&format!("verdict beside steady, {name}"), 1, |checker| _ = verdict(checker, &plan));
 }
 
+/// The hop set of twelve routers in one group, the longest to look for, and the verdict beside it.
+fn time_hop_sets(bench: &Bench) {
+    let plan = one_group().bytes();
+    let bench = Bench { other: bench.other.filter(Library::names_hop_sets), ..*bench };
+    bench.line("verdict, 12 in one group, n = 64", 1, |checker| assert!(!verdict(checker, &plan)));
+    bench.line("hop set, 12 in one group, n = 64", 1, |checker| hop_set(checker, &plan));
+}
+
 /// The same plans of either mark, and how many times as long those of RRP2 take.
 fn time_widths(bench: &Bench, random: &mut Random) {
     for n in [8, 64] {
@@ -260,6 +270,7 @@ pub fn bench(word: &str, other: Option<Library>) {
     time_cuts(&bench, &mut random);
     time_skips(&bench, &mut random);
     time_steps(&bench, &mut random);
+    time_hop_sets(&bench);
     time_widths(&bench, &mut random);
     time_conversions(&bench, &mut random);
     time_steady(&bench, &mut random);

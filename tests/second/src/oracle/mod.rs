@@ -1,8 +1,9 @@
 //! The second checker, written from documents 01 and 02 alone and by other
 //! algorithms than the library's: sets and sorted orders, choices step by step,
-//! depth-first search, layers, tables tried one by one, Dijkstra's search.
+//! depth-first search, layers, tables and sets tried one by one, Dijkstra's search.
 
 mod convert;
+pub mod hop_set;
 mod lines;
 pub mod links;
 pub mod mark;
@@ -179,6 +180,12 @@ impl<R: Rules> Oracle<R> {
         Ok(numbers.len() as u64)
     }
 
+    fn try_hop_set(&mut self, plan: &[u8], list: usize) -> Result<u64, u8> {
+        let reading = self.reading(plan);
+        case_of(plan_of(&reading)?, list, &[])?;
+        hop_set::hop_set(&self.rules, plan, list)
+    }
+
     fn try_activate(&mut self, plan: &[u8], list: usize, router: usize, table: &mut [u8]) -> Result<(), u8> {
         let reading = self.reading(plan);
         let case = case_of(plan_of(&reading)?, list, &[router])?;
@@ -252,6 +259,10 @@ impl<R: Rules> Checker for Oracle<R> {
 
     fn steady(&mut self, plan: &[u8], list: usize, out: &mut [u8], count: &mut Lent<u64>) -> u8 {
         store(self.try_steady(plan, list, out), &mut count.value)
+    }
+
+    fn hop_set(&mut self, plan: &[u8], list: usize, set: &mut Lent<u64>) -> u8 {
+        store(self.try_hop_set(plan, list), &mut set.value)
     }
 
     fn activate(&mut self, plan: &[u8], list: usize, router: usize, table: &mut [u8]) -> u8 {

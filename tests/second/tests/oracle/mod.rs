@@ -3,6 +3,7 @@
 mod conversions;
 mod empty_lists;
 mod explained_pairs;
+mod hop_sets;
 mod hop_steps;
 mod least_sums;
 mod steady_tables;

@@ -3,6 +3,7 @@
 mod small_conversions;
 mod small_empty_lists;
 mod small_explanations;
+mod small_hop_sets;
 mod small_hop_steps;
 mod small_margins;
 mod small_parents;

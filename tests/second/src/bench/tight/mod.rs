@@ -4,6 +4,7 @@
 
 mod convert;
 mod distance;
+mod hop_set;
 mod links;
 mod reader;
 mod rules;
@@ -16,6 +17,7 @@ use crate::interface::{
 };
 use convert::{narrow, widen};
 use distance::Distance;
+use hop_set::hop_set as hop_set_of;
 use links::distances;
 use reader::{check, read};
 use rules::{key, Network, HOP};
@@ -119,6 +121,10 @@ fn steady<D: Distance>(plan: &[u8], list: usize, out: &mut [u8]) -> Result<u64, 
     steady_of(&network::<D>(plan, list)?, out)
 }
 
+fn hop_set<D: Distance>(plan: &[u8], list: usize) -> Result<u64, u8> {
+    hop_set_of(&network::<D>(plan, list)?)
+}
+
 fn activate<D: Distance>(plan: &[u8], list: usize, router: usize, table: &mut [u8]) -> Result<(), u8> {
     let network = network::<D>(plan, list)?;
     let router = network.bodies.router(router)?;
@@ -184,6 +190,10 @@ impl Checker for Tight {
 
     fn steady(&mut self, plan: &[u8], list: usize, out: &mut [u8], count: &mut Lent<u64>) -> u8 {
         store(by_mark!(steady(plan, list, out)), &mut count.value)
+    }
+
+    fn hop_set(&mut self, plan: &[u8], list: usize, set: &mut Lent<u64>) -> u8 {
+        store(by_mark!(hop_set(plan, list)), &mut set.value)
     }
 
     fn activate(&mut self, plan: &[u8], list: usize, router: usize, table: &mut [u8]) -> u8 {

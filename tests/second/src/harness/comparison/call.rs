@@ -38,6 +38,9 @@ pub enum Call {
         list: usize,
         out: Vec<u8>,
     },
+    HopSet {
+        list: usize,
+    },
     Activate {
         list: usize,
         router: usize,
@@ -77,8 +80,8 @@ pub struct Answer {
     /// Every byte of every lent buffer after the call.
     pub buffers: Vec<Vec<u8>>,
     /// The bytes before and after each buffer, each result variable of one byte and those of
-    /// a comparison, an explanation, a count of steady tables and a conversion, the plan, the
-    /// sequence and the links are as they were.
+    /// a comparison, an explanation, a count of steady tables, a set and a conversion, the plan,
+    /// the sequence and the links are as they were.
     pub surroundings_kept: bool,
 }
 
@@ -175,6 +178,11 @@ pub fn perform(checker: &mut dyn Checker, plan: &[u8], call: &Call, prior: u64) 
         Call::Verdict { list, buffers } => perform_verdict(checker, &lent_plan, *list, buffers, prior),
         Call::Steady { list, out } => {
             perform_writing(out, prior, |out, count| checker.steady(&lent_plan, *list, out, count))
+        }
+        Call::HopSet { list } => {
+            let mut set = Lent::new(prior);
+            let refusal = checker.hop_set(&lent_plan, *list, &mut set);
+            Answer::new(refusal, [set.value.into()]).beside(set)
         }
         Call::Activate { list, router, table } => perform_activate(checker, &lent_plan, *list, *router, table),
         Call::Run { list, sequence, limit, table } => {

@@ -51,6 +51,7 @@ pub struct Counts {
     pub pairs: u64,
     pub explanations: Explanations,
     pub steady: SteadyCounts,
+    pub hop_sets: HopSetCounts,
     /// Calls made on the checker alone, to hold one against another.
     pub calls_alone: u64,
     pub series: u64,
@@ -152,6 +153,25 @@ impl fmt::Display for SteadyCounts {
     }
 }
 
+/// What was asked and given of sets of routers to give the hop step.
+#[derive(Default)]
+pub struct HopSetCounts {
+    pub calls: u64,
+    /// Suspect lists that are not refused, by the size of their set.
+    pub sizes: [u64; MOST_GROUPED + 1],
+    /// Lists of few reflectors, for which every smaller set of these was tried.
+    pub tried: u64,
+    /// Verdicts on plans whose roles are changed.
+    pub verdicts: u64,
+}
+
+impl fmt::Display for HopSetCounts {
+    fn fmt(&self, out: &mut fmt::Formatter) -> fmt::Result {
+        writeln!(out, "calls for hop sets {}, suspect lists by size of the set {:?}", self.calls, &self.sizes[1..])?;
+        write!(out, "lists with all smaller sets tried {}, verdicts with the step {}", self.tried, self.verdicts)
+    }
+}
+
 impl Counts {
     pub fn count(&mut self, call: &Call, answer: &Answer) {
         self.calls += 1;
@@ -160,6 +180,7 @@ impl Counts {
             (Call::Compare { .. }, 0) => self.margins.count(answer.compared().1),
             (Call::Explain { .. }, 0) => self.explanations.count(answer),
             (Call::Steady { .. }, _) => self.steady.calls += 1,
+            (Call::HopSet { .. }, _) => self.hop_sets.calls += 1,
             _ => (),
         }
     }
@@ -202,6 +223,7 @@ impl fmt::Display for Counts {
         writeln!(out, "{}", self.margins)?;
         writeln!(out, "{}", self.explanations)?;
         writeln!(out, "{}", self.steady)?;
+        writeln!(out, "{}", self.hop_sets)?;
         writeln!(
             out,
             "pairs relied on and explained {}, calls on the checker alone {}",

@@ -7,6 +7,7 @@ pub mod compare;
 mod convert_calls;
 pub mod counts;
 pub mod empty_lists;
+mod hop_set_calls;
 pub mod hop_step;
 pub mod plan_calls;
 mod preferences;

@@ -5,6 +5,7 @@ use super::call::{Answer, Call};
 use super::compare::{Comparison, Mismatch, Outcome};
 use super::convert_calls;
 use super::empty_lists;
+use super::hop_set_calls;
 use super::hop_step;
 use super::preferences::Preferences;
 use super::reliance_calls;
@@ -43,7 +44,7 @@ fn refused(comparison: &mut Comparison, random: &mut Random, bytes: &[u8]) -> Ou
 }
 
 /// One call of each kind with arguments that need fit nothing.
-fn loose_calls(random: &mut Random) -> [Call; 8] {
+fn loose_calls(random: &mut Random) -> [Call; 9] {
     let mut number = |bound: usize| arguments::mostly_below(random, bound);
     let list = number(2);
     let (router, first, second) = (number(4), number(4), number(4));
@@ -62,6 +63,7 @@ fn loose_calls(random: &mut Random) -> [Call; 8] {
         Call::Explain { list, router, other: first },
         Call::Verdict { list, buffers },
         Call::Steady { list, out },
+        Call::HopSet { list },
         Call::Activate { list, router, table: table.clone() },
         Call::Run { list, sequence, limit, table },
     ]
@@ -78,6 +80,7 @@ fn sound(comparison: &mut Comparison, random: &mut Random, bytes: &[u8], plan: &
     reliance_calls::compare(comparison, random, bytes, plan)?;
     let verdicts = verdicts_of_lists(comparison, random, bytes, plan)?;
     steady_calls::compare(comparison, random, bytes, plan, &verdicts)?;
+    hop_set_calls::compare(comparison, bytes, plan, &verdicts)?;
     let list = random.below(plan.lists.len());
     hop_step::compare_with_all(comparison, random, bytes, list)?;
     for _ in 0..3 {
@@ -149,6 +152,7 @@ fn past_the_lists(comparison: &mut Comparison, random: &mut Random, bytes: &[u8]
         Call::Activate { list, router, table: table.clone() },
         Call::Steady { list, out: random.bytes(2 * MOST_NUMBERS) },
         Call::Steady { list, out: random.bytes(room) },
+        Call::HopSet { list },
         Call::Activate { list, router, table: arguments::broken_table(random, case) },
         Call::Run { list, sequence, limit, table },
     ];

@@ -105,7 +105,13 @@ impl Rules for Preferences {
         with_way.copied().find(|&route| !is_outdone(route)).map(|route| route.egress)
     }
 
-    fn is_better(&self, _: &Plan, at: Router, first: Candidate, second: Candidate) -> bool {
+    /// At a reflector that is given the step, a route told beats one passed on if there are ways
+    /// to both.
+    fn is_better(&self, plan: &Plan, at: Router, first: Candidate, second: Candidate) -> bool {
+        let has_ways = || [first, second].iter().all(|route| self.tells_of_way(at, route.egress));
+        if plan.steps(at) && first.direct != second.direct && first.egress != second.egress && has_ways() {
+            return first.direct;
+        }
         let asked = [first, second].map(|route| (route.egress, route.direct));
         self.answers[&(at, asked)].0 == 1
     }

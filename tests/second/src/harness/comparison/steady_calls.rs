@@ -5,7 +5,7 @@ use super::arguments;
 use super::call::{Answer, Call};
 use super::compare::{hex, Comparison, Mismatch, Outcome};
 use crate::harness::random::Random;
-use crate::oracle::plan::Plan;
+use crate::oracle::plan::{Plan, Router};
 use crate::oracle::rules::{Case, Right};
 use crate::oracle::steady::{self, MOST_GROUPED, MOST_NUMBERS};
 use crate::oracle::tables;
@@ -22,7 +22,7 @@ pub fn compare(
     for (list, verdict) in verdicts.iter().enumerate() {
         let room = 2 * MOST_NUMBERS + random.below(3);
         let answer = comparison.call(bytes, &Call::Steady { list, out: random.bytes(room) })?;
-        let grouped = grouped(verdict, plan.n);
+        let grouped = grouped(verdict, plan.n).len();
         hold(bytes, verdict, grouped, &answer)?;
         comparison.counts.steady.count_list(&answer, grouped);
         buffers(comparison, random, bytes, list, &answer)?;
@@ -47,10 +47,11 @@ fn buffers(comparison: &mut Comparison, random: &mut Random, bytes: &[u8], list:
     })
 }
 
-/// How many routers share their label in a verdict.
-fn grouped(verdict: &Answer, n: usize) -> usize {
+/// The routers that share their label in a verdict.
+pub fn grouped(verdict: &Answer, n: usize) -> Vec<Router> {
     let labels = &verdict.buffers[0][..n];
-    labels.iter().filter(|label| labels.iter().filter(|other| other == label).count() > 1).count()
+    let is_shared = |router: &Router| labels.iter().filter(|other| **other == labels[*router]).count() > 1;
+    (0..n).filter(is_shared).collect()
 }
 
 /// What document 02 states of the numbers, by the verdict alone: refused with 15 if too many

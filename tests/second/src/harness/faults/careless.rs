@@ -4,6 +4,7 @@ use super::compare_slips;
 use super::convert_slips::{self, Asked};
 use super::empty_list_slips::{self, EmptyListSlip};
 use super::explain_slips;
+use super::hop_set_slips;
 use super::parent_slips;
 use super::sheet_slips;
 use super::slips::Slip;
@@ -142,6 +143,13 @@ impl Checker for Careless {
         match self.slip {
             Slip::Steady(slip) => steady_slips::steady(slip, &mut self.inner, (plan, list), out, count),
             _ => self.inner.steady(plan, list, out, count),
+        }
+    }
+
+    fn hop_set(&mut self, plan: &[u8], list: usize, set: &mut Lent<u64>) -> u8 {
+        match self.slip {
+            Slip::HopSet(slip) => hop_set_slips::hop_set(slip, &mut self.inner, (plan, list), set),
+            _ => self.inner.hop_set(plan, list, set),
         }
     }
 

@@ -18,6 +18,7 @@ pub enum PlanCall {
     Explain,
     Verdict,
     Steady,
+    HopSet,
     Activate,
     Run,
     Widen,
@@ -26,12 +27,13 @@ pub enum PlanCall {
 
 pub const WITHOUT_DISTANCES: [PlanCall; 3] = [PlanCall::Check, PlanCall::Size, PlanCall::List];
 
-pub const BY_DISTANCES: [PlanCall; 7] = [
+pub const BY_DISTANCES: [PlanCall; 8] = [
     PlanCall::Compare,
     PlanCall::Relies,
     PlanCall::Explain,
     PlanCall::Verdict,
     PlanCall::Steady,
+    PlanCall::HopSet,
     PlanCall::Activate,
     PlanCall::Run,
 ];
@@ -102,6 +104,11 @@ impl<F: Fn(&[u8]) -> Option<Vec<u8>>> Checker for Misreader<F> {
     fn steady(&mut self, plan: &[u8], list: usize, out: &mut [u8], count: &mut Lent<u64>) -> u8 {
         let (inner, plan) = self.read(PlanCall::Steady, plan);
         inner.steady(plan, list, out, count)
+    }
+
+    fn hop_set(&mut self, plan: &[u8], list: usize, set: &mut Lent<u64>) -> u8 {
+        let (inner, plan) = self.read(PlanCall::HopSet, plan);
+        inner.hop_set(plan, list, set)
     }
 
     fn activate(&mut self, plan: &[u8], list: usize, router: usize, table: &mut [u8]) -> u8 {

@@ -3,6 +3,7 @@
 
 use super::convert_slips::ConvertSlip;
 use super::empty_list_slips::EmptyListSlip;
+use super::hop_set_slips::HopSetSlip;
 use super::hop_slips::HopSlip;
 use super::parent_slips::ParentSlip;
 use super::steady_slips::SteadySlip;
@@ -81,6 +82,7 @@ pub enum Slip {
     EmptyList(EmptyListSlip),
     Hop(HopSlip),
     Steady(SteadySlip),
+    HopSet(HopSetSlip),
     EightBeforeThirteen,
     EntryWithoutAWayRefused,
     TransposedDistances,
@@ -114,7 +116,7 @@ pub enum Slip {
 }
 
 /// All but those in the check of a client's parents, in the converter, for an empty list, with
-/// the hop step and in the call for steady tables.
+/// the hop step, and in the calls for steady tables and for hop sets.
 pub const SLIPS: [Slip; 96] = [
     Slip::FirstActOnly,
     Slip::ActLeavesTable,

@@ -1,0 +1,1 @@
+// No code: plans as literal bytes, and what the call that names a set must answer.

@@ -1,0 +1,5 @@
+pub mod Examples
+pub mod Cycles
+pub mod Serving
+pub mod Sizes
+pub mod HopSet

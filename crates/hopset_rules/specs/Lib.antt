@@ -1,0 +1,2 @@
+pub mod HopSet
+pub mod Examples
