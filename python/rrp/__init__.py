@@ -18,7 +18,7 @@ if TYPE_CHECKING:
     from .text import TextErrors
 
 #: The version of the package, which `rrp --version` writes; pyproject.toml has it too.
-__version__ = "1.6.0"
+__version__ = "1.7.0"
 
 #: The names of the package, and the modules that they are of.
 _HOMES = {

@@ -96,6 +96,13 @@ class Verdict(NamedTuple):
         return tuple(router for router in self.labels if router in inside)
 
     @property
+    def delayed_rounds(self) -> int | None:
+        """The rounds within which the routers of a stable list settle where each may read its
+        neighbours as they stood at any moment since the round before began. None if the list is
+        suspect."""
+        return None if self.highest is None else 2 * self.highest + 3
+
+    @property
     def without_route(self) -> tuple[str, ...] | None:
         """The routers that a stable list leaves without a route, None if the list is suspect."""
         if self.table is None:

@@ -39,13 +39,15 @@ class Order(NamedTuple):
 
 class Step(NamedTuple):
     """One activation, numbered from 1: what the router held before and after, and the round that
-    ended with it, if one did."""
+    ended with it, if one did. `read` says after how many activations each neighbour was read, None
+    if all were read as they stood."""
 
     number: int
     router: str
     before: Route | None
     after: Route | None
     ended: int | None
+    read: dict[str, int] | None = None
 
 
 class Outcome(NamedTuple):
@@ -83,6 +85,7 @@ class Tracing:
         self._complete = self._round_ends(order.routers)
         self._since_round: list[str] = []
         self._changes: list[int] = []
+        self._ends: list[int] = []
         self._movers: dict[Table, str | None] = {}
 
     def steps(self) -> Iterator[Step]:
@@ -95,6 +98,18 @@ class Tracing:
                 self.outcome = outcome
                 return
             yield self._activate(router)
+
+    @property
+    def promised(self) -> int | None:
+        """The rounds within which this run settles, None if the list is suspect."""
+        return self.verdict.rounds
+
+    @property
+    def last_change(self) -> tuple[int, int]:
+        """The last activation that changed the table, 0 if none did, and how many rounds had ended
+        with it."""
+        number = self._changes[-1] if self._changes else 0
+        return number, bisect_right(self._ends, number)
 
     def mover(self) -> str | None:
         """The first router whose activation changes the table, None if there is none."""
@@ -128,8 +143,17 @@ class Tracing:
         """Whether a round ends among these activations, as the library counts."""
         return self.plan.run(self.verdict.name, routers).rounds > 0
 
+    def _read(self, router: str) -> dict[str, int] | None:
+        """The moments at which a router reads its neighbours, None for the present."""
+        return None
+
+    def _activated(self, router: str, read: dict[str, int] | None) -> Table:
+        """The table after an activation that reads so."""
+        return self._after(router)
+
     def _activate(self, router: str) -> Step:
-        before, self.table = self.table, self._after(router)
+        before, read = self.table, self._read(router)
+        self.table = self._activated(router, read)
         self.activations += 1
         if self.table != before:
             self._changes.append(self.activations)
@@ -139,4 +163,5 @@ class Tracing:
             self._since_round = []
             self.rounds += 1
             ended = self.rounds
-        return Step(self.activations, router, before[router], self.table[router], ended)
+            self._ends.append(self.activations)
+        return Step(self.activations, router, before[router], self.table[router], ended, read)

@@ -4,6 +4,8 @@ pub mod StableVerdict
 pub mod Nobody
 pub mod HopStep
 pub mod SteadyListed
+pub mod DelayedSettling
+pub mod DelayedRuns
 pub mod Comparisons
 pub mod Conversions
 pub mod Explanations
@@ -13,6 +15,7 @@ pub mod LeftOfExample
 pub mod NobodyExamples
 pub mod HopStepExamples
 pub mod SteadyListedExamples
+pub mod DelayedExamples
 pub mod RefusedCalls
 pub mod SteppedPlans
 pub mod HopSets

@@ -42,7 +42,7 @@ one-below : (n w : ℕ) → w < n → ActsBelow n (w ∷ [])
 one-below n w l zero h = l
 one-below n w l (suc i) h = absurd (omega arith)
 
-take-below : (n limit : ℕ) (acts : List ℕ) → sequenceOk acts n ≡ true → ActsBelow n (take limit acts)
+pub take-below : (n limit : ℕ) (acts : List ℕ) → sequenceOk acts n ≡ true → ActsBelow n (take limit acts)
 unfolding sequenceOk
 take-below n limit acts ok i h =
     let inside : (i < limit) × (i < length acts) = omega (arith, length-take limit acts) in
@@ -129,7 +129,7 @@ module _ (plan : List ℕ) (k : ℕ) where
       (series-applies calls (bufferAfter call buffer) (this .1))
 
 -- two buffers with one table and the same bytes after it are the same
-same-buffer : (n : ℕ) (a b : List ℕ) → 2 * n ≤ length a → 2 * n ≤ length b → tableOf a n ≡ tableOf b n → drop (2 * n) a ≡ drop (2 * n) b → a ≡ b
+pub same-buffer : (n : ℕ) (a b : List ℕ) → 2 * n ≤ length a → 2 * n ≤ length b → tableOf a n ≡ tableOf b n → drop (2 * n) a ≡ drop (2 * n) b → a ≡ b
 same-buffer n a b l m t d = table-bytes a n l ∙ ap₂ (λ x y. tableBytes x ++ y) t d ∙ sym (table-bytes b n m)
 
 module _ (I : Instance) (small : I .n ≤ 64) (acts before after : List ℕ) (long : 2 * I .n ≤ length before) (a : Applied I acts before after) where

@@ -4,12 +4,14 @@ pub mod Nobody
 pub mod Comparisons
 pub mod HopStep
 pub mod SteadyListed
+pub mod Delayed
 pub mod Conversions
 pub mod Explanations
 pub mod CallsExamples
 pub mod NobodyExamples
 pub mod HopStepExamples
 pub mod SteadyListedExamples
+pub mod DelayedExamples
 pub mod RefusedCalls
 pub mod HopSets
 pub mod HopSetsExamples

@@ -119,64 +119,64 @@ sharp-at-1 =
     (0 ∷ 1 ∷ 2 ∷ 3 ∷ 0 ∷ 5 ∷ 6 ∷ 7 ∷ 8 ∷ 9 ∷ 10 ∷ 11 ∷ 12 ∷ 13 ∷ 8 ∷ 15 ∷ []) gone-ranked refl refl refl refl 2 3 0 refl refl
 
 -- Reflector 0 hears of the listed client 3 from reflectors 1 and 2. Router 1, which has no way to it, is left with its route.
-handed : Instance
-handed =
+twoWays : Instance
+twoWays =
     network 4 (0 ∷ 1 ∷ 2 ∷ []) [] [] (3 ∷ []) ((1 ∷ 2 ∷ []) ∷ (0 ∷ 3 ∷ []) ∷ (0 ∷ 3 ∷ []) ∷ (1 ∷ 2 ∷ []) ∷ []) [] ([] ∷ (3 ∷ []) ∷ [])
 
 -- router 2 takes the route up, then router 1 drops it, and router 0 reads router 1 as it stands then and router 2 as it stood at the start
 threeActs : List ℕ
 threeActs = 2 ∷ 1 ∷ 0 ∷ []
 
-handedMoment : Moments
-handedMoment i v = elim (eqb i 2 && eqb v 2) [ true ↦ 0 | false ↦ i ]
+twoWaysMoment : Moments
+twoWaysMoment i v = elim (eqb i 2 && eqb v 2) [ true ↦ 0 | false ↦ i ]
 
-handedStart : List Route
-handedStart = nothing ∷ via 3 3 ∷ nothing ∷ via 3 3 ∷ []
+twoWaysStart : List Route
+twoWaysStart = nothing ∷ via 3 3 ∷ nothing ∷ via 3 3 ∷ []
 
 -- at no moment did both hold none
 choices :
-    (held (tableAt handed threeActs handedMoment handedStart 3) 0 ≡ nothing)
-    × (choose handed 0 (held (tableAt handed threeActs handedMoment handedStart 0)) ≡ via 3 1)
-    × (choose handed 0 (held (tableAt handed threeActs handedMoment handedStart 1)) ≡ via 3 1)
-    × (choose handed 0 (held (tableAt handed threeActs handedMoment handedStart 2)) ≡ via 3 2)
+    (held (tableAt twoWays threeActs twoWaysMoment twoWaysStart 3) 0 ≡ nothing)
+    × (choose twoWays 0 (held (tableAt twoWays threeActs twoWaysMoment twoWaysStart 0)) ≡ via 3 1)
+    × (choose twoWays 0 (held (tableAt twoWays threeActs twoWaysMoment twoWaysStart 1)) ≡ via 3 1)
+    × (choose twoWays 0 (held (tableAt twoWays threeActs twoWaysMoment twoWaysStart 2)) ≡ via 3 2)
 unfolding
-    handed threeActs handedMoment handedStart among network choose choice routeTo senderOf hears advertises reflects prefersBy prefers hops
+    twoWays threeActs twoWaysMoment twoWaysStart among network choose choice routeTo senderOf hears advertises reflects prefersBy prefers hops
     hasStep nearer best keepBest anyBelow tablesTo oneMore
 choices = (refl, refl, refl, refl)
 
 not-chosen : (m : ℕ) → m ≤ 2
-    → held (tableAt handed threeActs handedMoment handedStart 3) 0
-    ≡ choose handed 0 (held (tableAt handed threeActs handedMoment handedStart m)) → ⊥
+    → held (tableAt twoWays threeActs twoWaysMoment twoWaysStart 3) 0
+    ≡ choose twoWays 0 (held (tableAt twoWays threeActs twoWaysMoment twoWaysStart m)) → ⊥
 not-chosen zero l q = let z : _≡_ {A = ℕ} 0 1 = cc (choices .0, choices .1) in omega arith
 not-chosen (suc zero) l q = let z : _≡_ {A = ℕ} 0 1 = cc (choices .0, choices .2) in omega arith
 not-chosen (suc (suc zero)) l q = let z : _≡_ {A = ℕ} 0 1 = cc (choices .0, choices .3) in omega arith
 not-chosen (suc (suc (suc m))) l q = omega arith
 
-handed-legal : tableOk handed handedStart ≡ true
-unfolding handed handedStart among network tableOk entryOk allBelow
-handed-legal = refl
+twoWays-legal : tableOk twoWays twoWaysStart ≡ true
+unfolding twoWays twoWaysStart among network tableOk entryOk allBelow
+twoWays-legal = refl
 
-handed-allowed : allBelow (λ i. allBelow (λ v. mayRead 4 threeActs i (handedMoment i v)) 4) 3 ≡ true
-unfolding threeActs handedMoment mayRead earliest roundStart seek endedBy rounds roundsFrom acted allBelow
-handed-allowed = refl
+twoWays-allowed : allBelow (λ i. allBelow (λ v. mayRead 4 threeActs i (twoWaysMoment i v)) 4) 3 ≡ true
+unfolding threeActs twoWaysMoment mayRead earliest roundStart seek endedBy rounds roundsFrom acted allBelow
+twoWays-allowed = refl
 
 pub own-moments : OwnMoments
-unfolding handed network threeActs handedStart tablesTo
+unfolding twoWays network threeActs twoWaysStart tablesTo
 own-moments =
     record {
-      network = handed;
+      network = twoWays;
       acts = threeActs;
-      moment = handedMoment;
+      moment = twoWaysMoment;
       allowed = allowed;
-      at = tableAt handed threeActs handedMoment handedStart;
-      run = tables-run handed threeActs handedMoment handedStart (up-to-the-act handed threeActs handedMoment allowed) refl;
-      legal = handed-legal;
+      at = tableAt twoWays threeActs twoWaysMoment twoWaysStart;
+      run = tables-run twoWays threeActs twoWaysMoment twoWaysStart (up-to-the-act twoWays threeActs twoWaysMoment allowed) refl;
+      legal = twoWays-legal;
       i = 2;
       applied = omega arith;
       differs = not-chosen;
     }
   where
-    allowed : Allowed handed threeActs handedMoment
+    allowed : Allowed twoWays threeActs twoWaysMoment
     allowed i v l b near =
-        all-at (λ v. mayRead 4 threeActs i (handedMoment i v)) 4
-        (all-at (λ i. allBelow (λ v. mayRead 4 threeActs i (handedMoment i v)) 4) 3 handed-allowed i l) v b
+        all-at (λ v. mayRead 4 threeActs i (twoWaysMoment i v)) 4
+        (all-at (λ i. allBelow (λ v. mayRead 4 threeActs i (twoWaysMoment i v)) 4) 3 twoWays-allowed i l) v b

@@ -3,8 +3,10 @@
 from __future__ import annotations
 
 from argparse import ArgumentParser, ArgumentTypeError, Namespace, RawDescriptionHelpFormatter
+from random import Random
 
 from ..columns import left, widest
+from ..delays import Delays
 from ..errors import RrpError
 from ..orders import order_words, read_order
 from ..output import NOBODY_LISTED, count_words, routers_do, write_json, write_notes
@@ -12,10 +14,14 @@ from ..plan import Plan, Verdict
 from ..rest import Rest, rest_of
 from ..steady import number_of
 from ..table_files import NOTHING, Read, read_table, route_values, route_words, table_values
+from ..tables import Table
 from ..tracing import AT_REST, OPEN, REPEATS, SETTLED, Order, Step, Tracing
 
 #: A suspect list is run for so many rounds, unless its routers come to rest or round again.
 SUSPECT_ROUNDS = 20
+
+_VERDICTS, _FLUSHED = "this is the table of the verdict", "all routes are flushed"
+_NONE_TO_FLUSH = "no router holds a route at the start, so there is none to flush"
 
 _EPILOG = """\
 A table file has a line a router: ROUTER EGRESS FROM, or ROUTER nothing. A # starts a comment. A
@@ -30,6 +36,11 @@ before, so that it goes round forever under this order; or after N rounds. A rou
 every router has been activated since the last one ended. An order that leaves routers out ends no
 round, and is gone through N times. A table that no activation changes is named by its number, by
 which rrp steady PLAN LIST shows it.
+
+With --delayed, updates take time: an activation reads each neighbour as it stood at a moment of its
+own, which the seed draws, no earlier than the start of the round before and no later than the
+activation. Such a run ends when no later activation can read anything but the table that stays, or
+after N rounds.
 
 Exit status: 0 the list is stable, 1 suspect, 2 error.
 """
@@ -50,13 +61,16 @@ def arguments(parser: ArgumentParser) -> None:
         "--random", metavar="SEED", type=_number, help="activate all in a new random order a round"
     )
     parser.add_argument(
+        "--delayed", metavar="SEED", type=_number, help="read neighbours late, at random moments"
+    )
+    parser.add_argument(
         "--from", dest="start", metavar="TABLE", default=NOTHING, help="start from a file (nothing)"
     )
     parser.add_argument(
         "--rounds",
         metavar="N",
         type=_number,
-        help=f"the most rounds (stable: highest rank + 2, suspect: {SUSPECT_ROUNDS})",
+        help=f"the most rounds (stable: as many as promised, suspect: {SUSPECT_ROUNDS})",
     )
     parser.formatter_class, parser.epilog = RawDescriptionHelpFormatter, _EPILOG
 
@@ -74,8 +88,7 @@ def run(options: Namespace) -> int:
     plan = Plan.read(options.plan)
     verdict = plan.verdict(options.list)
     start = _start(plan, verdict, options.start)
-    limit = options.rounds if options.rounds is not None else verdict.rounds or SUSPECT_ROUNDS
-    tracing = Tracing(plan, verdict, _order(plan, options), start.table, limit)
+    tracing = _tracing(plan, verdict, start.table, options)
     notes = [*plan.notes, *start.notes]
     if options.json:
         _write_values(tracing, options, notes)
@@ -92,6 +105,17 @@ def _start(plan: Plan, verdict: Verdict, path: str) -> Read:
     return read_table(path, plan, verdict.name)
 
 
+def _tracing(plan: Plan, verdict: Verdict, table: Table, options: Namespace) -> Tracing:
+    """The run that is asked for."""
+    order = _order(plan, options)
+    late = options.delayed is not None
+    promised = verdict.delayed_rounds if late else verdict.rounds
+    limit = options.rounds if options.rounds is not None else promised or SUSPECT_ROUNDS
+    if late:
+        return Delays(plan, verdict, order, table, limit, Random(options.delayed))
+    return Tracing(plan, verdict, order, table, limit)
+
+
 def _order(plan: Plan, options: Namespace) -> Order:
     """The order that is asked for."""
     if options.order is None:
@@ -100,13 +124,14 @@ def _order(plan: Plan, options: Namespace) -> Order:
 
 
 def _print_run(tracing: Tracing, options: Namespace) -> None:
-    print(f"{tracing.verdict.name}, {_order_words(tracing, options)}, from {options.start}")
+    print(", ".join(_heading(tracing, options)))
     width, changes = widest(tracing.plan.routers), 0
     for step in tracing.steps():
         if step.before != step.after:
             changes += 1
             held = f"{route_words(step.before)} -> {route_words(step.after)}"
-            print(f"{step.number:>5}  {left(step.router, width)}  {held}")
+            late = _old_words(tracing, step)
+            print(f"{step.number:>5}  {left(step.router, width)}  {held}{late}")
         if step.ended is not None:
             made = count_words(changes, "change")
             print(f"{'':5}  round {step.ended} ends with activation {step.number}: {made}")
@@ -115,6 +140,26 @@ def _print_run(tracing: Tracing, options: Namespace) -> None:
         print(line)
     if tracing.verdict.nobody and options.start == NOTHING:
         print(_WITH_OLD_ROUTES)
+
+
+def _heading(tracing: Tracing, options: Namespace) -> list[str]:
+    """What is run, in parts."""
+    late = f"neighbours read late (seed {options.delayed})"
+    return [
+        tracing.verdict.name,
+        _order_words(tracing, options),
+        *([late] if options.delayed is not None else []),
+        f"from {options.start}",
+    ]
+
+
+def _old_words(tracing: Tracing, step: Step) -> str:
+    """When the sender of the route taken up was read, if it holds another by now."""
+    moment = tracing.old(step) if isinstance(tracing, Delays) else None
+    if step.after is None or moment is None:
+        return ""
+    when = f"after activation {moment}" if moment else "at the start"
+    return f" (as {step.after.sender} was {when})"
 
 
 def _order_words(tracing: Tracing, options: Namespace) -> str:
@@ -130,7 +175,8 @@ def _outcome_lines(tracing: Tracing) -> list[str]:
     """Where the run ended, a sentence a line."""
     acts = count_words(tracing.activations, "activation")
     made = f"after {acts} ({count_words(tracing.rounds, 'round')} ended)"
-    lines = _OUTCOMES[tracing.outcome.kind](tracing, made)
+    outcomes = _DELAYED_OUTCOMES if isinstance(tracing, Delays) else _OUTCOMES
+    lines = outcomes[tracing.outcome.kind](tracing, made)
     return [*lines, *_never_lines(tracing), *_lacking_lines(tracing)]
 
 
@@ -169,10 +215,10 @@ def _nobody_lines(tracing: Tracing) -> list[str]:
 def _settled(tracing: Tracing, made: str) -> list[str]:
     promise = f"which is promised within {tracing.verdict.rounds} rounds"
     if not tracing.verdict.nobody:
-        return [f"settled {made}: this is the table of the verdict, {promise}."]
+        return [f"settled {made}: {_VERDICTS}, {promise}."]
     if tracing.activations:
-        return [f"settled {made}: all routes are flushed, {promise}."]
-    return [f"settled {made}: no router holds a route at the start, so there is none to flush."]
+        return [f"settled {made}: {_FLUSHED}, {promise}."]
+    return [f"settled {made}: {_NONE_TO_FLUSH}."]
 
 
 def _at_rest(tracing: Tracing, made: str) -> list[str]:
@@ -189,7 +235,7 @@ def _number_at_rest(tracing: Tracing) -> int | None:
     it. None also where the tables of the list have none, as too many routers lie in groups."""
     rest = rest_of(tracing.plan, tracing.verdict)
     unnumbered = rest is not None and rest.numbers is None
-    if unnumbered or tracing.outcome.kind not in (SETTLED, AT_REST):
+    if unnumbered or tracing.mover() is not None:
         return None
     number = number_of(tracing.plan, tracing.verdict, tracing.table)
     if rest is not None and number not in rest.numbers:
@@ -204,7 +250,8 @@ def _other_orders(tracing: Tracing, number: int | None) -> str:
     rest = rest_of(tracing.plan, tracing.verdict)
     if rest.numbers == (number,):
         return "it has no other table to rest in; that every order comes to it is not promised"
-    may = f"in another order its routers may rest {_elsewhere(rest, number)}"
+    moments = ", or read at other moments," if isinstance(tracing, Delays) else ""
+    may = f"in another order{moments} its routers may rest {_elsewhere(rest, number)}"
     return f"{may}; that they come to rest at all is not promised"
 
 
@@ -243,11 +290,57 @@ def _open(tracing: Tracing, made: str) -> list[str]:
     return [f"not settled {made}, nor does the run repeat so far{more}."]
 
 
+def _delayed_promise(tracing: Tracing) -> str:
+    late, at_once = tracing.promised, tracing.verdict.rounds
+    return (
+        f"With neighbours read late, that is promised within {late} rounds; "
+        f"read as they stand, within {at_once}."
+    )
+
+
+def _last_change(tracing: Tracing) -> str:
+    """When the table changed last: what was made since only shows that it stays."""
+    number, rounds = tracing.last_change
+    return f"after {count_words(number, 'activation')} ({count_words(rounds, 'round')} ended)"
+
+
+def _settled_words(tracing: Tracing) -> str:
+    """What the table is that the routers settled on."""
+    return _FLUSHED if tracing.verdict.nobody else _VERDICTS
+
+
+def _delayed_settled(tracing: Tracing, made: str) -> list[str]:
+    if tracing.last_change[0]:
+        what = f"{_last_change(tracing)}: from there on {_settled_words(tracing)}"
+    elif tracing.verdict.nobody:
+        return [f"settled from the start: {_NONE_TO_FLUSH}."]
+    else:
+        what = f"from the start: {_VERDICTS}, which stays"
+    return [f"settled {what}.", _delayed_promise(tracing)]
+
+
+def _delayed_at_rest(tracing: Tracing, made: str) -> list[str]:
+    return _at_rest(tracing, _last_change(tracing))
+
+
+def _delayed_open(tracing: Tracing, made: str) -> list[str]:
+    if not tracing.verdict.stable and tracing.mover() is None:
+        still = "no activation that reads this table changes it"
+        return [f"not at rest for good {made}: {still}, but what was there before may be read."]
+    if not tracing.verdict.stable:
+        return [f"not settled {made}: the list is suspect, so that nothing is promised."]
+    if tracing.table != tracing.verdict.table:
+        return [f"not settled {made}.", _delayed_promise(tracing)]
+    what = f"{_settled_words(tracing)}, but what was there before may still be read"
+    return [f"not settled for good {made}: {what}.", _delayed_promise(tracing)]
+
+
 _WITH_OLD_ROUTES = (
     "To see old routes flushed, start from the table of another list, which "
     "show PLAN LIST --json writes: --from TABLE."
 )
 _OUTCOMES = {SETTLED: _settled, AT_REST: _at_rest, REPEATS: _repeats, OPEN: _open}
+_DELAYED_OUTCOMES = {SETTLED: _delayed_settled, AT_REST: _delayed_at_rest, OPEN: _delayed_open}
 
 
 def _write_values(tracing: Tracing, options: Namespace, notes: list[str]) -> None:
@@ -262,11 +355,14 @@ def _write_values(tracing: Tracing, options: Namespace, notes: list[str]) -> Non
             "rounds": tracing.verdict.rounds,
             "order": tracing.order.routers if seed is None else None,
             "seed": seed,
+            "delayed": options.delayed,
+            "promised": tracing.promised,
             "start": options.start,
             "changes": [_step_values(step) for step in steps if step.before != step.after],
             "round_ends": [step.number for step in steps if step.ended is not None],
             "activations": tracing.activations,
             "outcome": tracing.outcome.kind,
+            "last_change": tracing.last_change[0],
             "first_seen": tracing.outcome.first,
             "steady_number": _number_at_rest(tracing),
             "sentence": " ".join(_outcome_lines(tracing)),
@@ -282,4 +378,5 @@ def _step_values(step: Step) -> dict[str, object]:
         "router": step.router,
         "before": route_values(step.before),
         "after": route_values(step.after),
+        "read": step.read,
     }

@@ -3,6 +3,7 @@
 //! depth-first search, layers, tables and sets tried one by one, Dijkstra's search.
 
 mod convert;
+pub mod delayed;
 pub mod hop_set;
 mod lines;
 pub mod links;

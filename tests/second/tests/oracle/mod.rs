@@ -1,6 +1,7 @@
 //! What must hold of the oracle's answers on random plans and sheets.
 
 mod conversions;
+mod delayed_reading;
 mod empty_lists;
 mod explained_pairs;
 mod hop_sets;

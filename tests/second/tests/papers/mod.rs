@@ -1,6 +1,7 @@
 //! What documents 01 and 02 state of small plans and sheets, held against the oracle.
 
 mod small_conversions;
+mod small_delays;
 mod small_empty_lists;
 mod small_explanations;
 mod small_hop_sets;

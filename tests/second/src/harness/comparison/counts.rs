@@ -60,6 +60,7 @@ pub struct Counts {
     pub series_with_steps: u64,
     pub series_on_empty_lists: u64,
     pub acts_in_series: u64,
+    pub delays: DelayCounts,
     pub highest_rank: u64,
     pub longest_cycle: u64,
     /// Cycles that the walk enters from a router outside the cycle.
@@ -89,6 +90,37 @@ impl Margins {
 impl fmt::Display for Margins {
     fn fmt(&self, out: &mut fmt::Formatter) -> fmt::Result {
         write!(out, "margins from {} to {}, zero {}, none {}", self.lowest, self.highest, self.zero, self.none)
+    }
+}
+
+/// The runs whose acts read late.
+#[derive(Default)]
+pub struct DelayCounts {
+    pub acts: u64,
+    /// How many runs needed so many rounds.
+    pub by_rounds: Vec<u64>,
+    /// .. and as many as are promised.
+    pub in_full: u64,
+}
+
+impl DelayCounts {
+    pub fn count(&mut self, needed: u64, promised: u64, acts: u64) {
+        let needed_at = needed as usize;
+        self.by_rounds.resize(self.by_rounds.len().max(needed_at + 1), 0);
+        self.by_rounds[needed_at] += 1;
+        self.in_full += u64::from(needed == promised);
+        self.acts += acts;
+    }
+
+    fn runs(&self) -> u64 {
+        self.by_rounds.iter().sum()
+    }
+}
+
+impl fmt::Display for DelayCounts {
+    fn fmt(&self, out: &mut fmt::Formatter) -> fmt::Result {
+        writeln!(out, "runs whose acts read late {}, acts in these {}", self.runs(), self.acts)?;
+        write!(out, "rounds that these needed, from 0 on {:?}, as many as promised {}", self.by_rounds, self.in_full)
     }
 }
 
@@ -236,6 +268,7 @@ impl fmt::Display for Counts {
             writeln!(out, "refusal {number}: {count} calls")?;
         }
         writeln!(out, "acts in series {}", self.acts_in_series)?;
+        writeln!(out, "{}", self.delays)?;
         write!(
             out,
             "second: {} plans, {} lists, {} suspect, {} sheets, {} calls, {} series settled, mismatches {}",

@@ -4,6 +4,7 @@ use super::arguments;
 use super::call::{Answer, Call};
 use super::compare::{Comparison, Mismatch, Outcome};
 use super::convert_calls;
+use super::delays;
 use super::empty_lists;
 use super::hop_set_calls;
 use super::hop_step;
@@ -20,6 +21,9 @@ use crate::oracle::steady::MOST_NUMBERS;
 /// So many routers are few: every comparison, every reliance and its explanation is
 /// asked for.
 pub const FEW: usize = 8;
+
+/// So many of a hundred plans have a run whose acts read late.
+const DELAYED: usize = 20;
 
 /// All calls for one plan.
 pub fn compare(comparison: &mut Comparison, random: &mut Random, bytes: &[u8]) -> Outcome {
@@ -90,7 +94,8 @@ fn sound(comparison: &mut Comparison, random: &mut Random, bytes: &[u8], plan: &
     all_series(comparison, random, bytes, plan, &verdicts)
 }
 
-/// A series on a stable list, by its verdict, and one on an empty list, by what is stated of it.
+/// A series on a stable list, by its verdict, and often a run whose acts read late; and a series on
+/// an empty list, by what is stated of it.
 fn all_series(
     comparison: &mut Comparison,
     random: &mut Random,
@@ -102,6 +107,9 @@ fn all_series(
     if !stable.is_empty() {
         let list = random.pick(&stable);
         series::compare(comparison, random, bytes, plan, list, Promise::of(&verdicts[list], plan.n))?;
+        if random.chance(DELAYED) {
+            delays::compare(comparison, random, bytes, plan, list, &Promise::of_delays(&verdicts[list], plan.n))?;
+        }
     }
     let empty = plan.empty_lists();
     if !empty.is_empty() {

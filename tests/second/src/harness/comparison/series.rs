@@ -4,7 +4,9 @@
 use super::arguments;
 use super::call::{Answer, Call};
 use super::compare::{hex, Comparison, Mismatch, Outcome};
+use super::turns::Turns;
 use crate::harness::random::Random;
+use crate::oracle::delayed::promised_rounds;
 use crate::oracle::plan::{self, Plan};
 use crate::oracle::rules::Case;
 use crate::oracle::tables::Rounds;
@@ -20,19 +22,11 @@ impl Promise {
     pub fn of(verdict: &Answer, n: usize) -> Self {
         Promise { rounds: verdict.fields[1] as u64 + 2, table: verdict.buffers[2][..2 * n].to_vec() }
     }
-}
 
-/// How the acts of a series are drawn.
-#[derive(Clone, Copy)]
-enum Turns {
-    /// Always in the same turn.
-    Fixed,
-    /// Each round in a new order.
-    Shuffled,
-    /// Drawn singly, the same one as often as it falls.
-    Drawn,
-    /// One router acts seldom.
-    OneSeldom,
+    /// .. where acts read late.
+    pub fn of_delays(verdict: &Answer, n: usize) -> Self {
+        Promise { rounds: promised_rounds(verdict.fields[1] as u64), ..Promise::of(verdict, n) }
+    }
 }
 
 struct Series<'a> {
@@ -40,8 +34,6 @@ struct Series<'a> {
     case: Case<'a>,
     list: usize,
     turns: Turns,
-    order: Vec<usize>,
-    place: usize,
     table: Vec<u8>,
     rounds: Rounds,
     acts: u64,
@@ -80,46 +72,29 @@ pub fn compare(
 impl<'a> Series<'a> {
     fn new(random: &mut Random, bytes: &'a [u8], plan: &'a Plan, list: usize) -> Self {
         let case = Case { plan, listed: &plan.lists[list].listed };
-        let mut order: Vec<usize> = (0..plan.n).collect();
-        random.shuffle(&mut order);
         Series {
             bytes,
             case,
             list,
-            turns: random.pick(&[Turns::Fixed, Turns::Shuffled, Turns::Shuffled, Turns::Drawn, Turns::OneSeldom]),
-            order,
-            place: 0,
+            turns: Turns::new(random, plan.n),
             table: arguments::table_buffer(random, case),
             rounds: Rounds::new(plan.n),
             acts: 0,
         }
     }
 
-    fn next_router(&mut self, random: &mut Random) -> usize {
-        let n = self.order.len();
-        match self.turns {
-            Turns::Drawn => return random.below(n),
-            Turns::OneSeldom if n > 1 && random.below(2 * n) > 0 => return self.order[random.below(n - 1)],
-            Turns::OneSeldom => return self.order[n - 1],
-            Turns::Shuffled if self.place.is_multiple_of(n) => random.shuffle(&mut self.order),
-            _ => (),
-        }
-        self.place += 1;
-        self.order[(self.place - 1) % n]
-    }
-
     /// One call: an act, a run, or one that is refused.
     fn step(&mut self, comparison: &mut Comparison, random: &mut Random) -> Outcome {
         match random.below(10) {
             0..=2 => {
-                let router = self.next_router(random);
+                let router = self.turns.next(random);
                 let call = Call::Activate { list: self.list, router, table: self.table.clone() };
                 self.apply(comparison, &call, &[router as u8])
             }
             3 => self.refused_step(comparison, random),
             _ => {
-                let length = random.below(2 * self.order.len() + 2);
-                let sequence: Vec<u8> = (0..length).map(|_| self.next_router(random) as u8).collect();
+                let length = random.below(2 * self.case.plan.n + 2);
+                let sequence: Vec<u8> = (0..length).map(|_| self.turns.next(random) as u8).collect();
                 let limit = if random.chance(70) { u64::MAX } else { arguments::limit(random, length) };
                 let applied = limit.min(length as u64) as usize;
                 let call =
