@@ -10,7 +10,7 @@
  * Otherwise bytes of a buffer beyond those named below are left as they are.
  *
  * Routers and lists are numbered from 0, in the plan's order; n is the plan's number of routers. A buffer may be longer than
- * needed: RRP_MAX_ROUTERS bytes are enough for labels, ranks and cycle, and RRP_MAX_TABLE bytes for a table.
+ * needed: RRP_MAX_ROUTERS bytes are enough for labels, ranks, cycle and counts, and RRP_MAX_TABLE bytes for a table.
  *
  * A list names 0 to n routers. One that names nobody is for a prefix that is gone everywhere: every call takes it as any other.
  *
@@ -203,6 +203,15 @@ uint8_t rrp_steady(const uint8_t *plan, size_t plan_len, size_t list, uint8_t *o
  * is stable, and else not: some set always makes it stable. Of router w the role is byte 26 + 5 * w of the plan. Refusals 1 to 8, 13 and
  * 15. */
 uint8_t rrp_hop_set(const uint8_t *plan, size_t plan_len, size_t list, uint64_t *set);
+
+/* Gives the figures over all lists of the plan. *stable is the number of stable lists and *suspect that of suspect ones; together they
+ * are all lists. *has_highest is 1 if some list is stable, else 0; *highest is then the highest rank among the stable lists, and else
+ * 0. Needs n bytes of by_rank and n of by_router. by_rank[r] becomes the number of stable lists whose highest rank is r, and
+ * by_router[v] the number of lists for which v is in a group of two or more, that is, another router has its label. So the counts by
+ * rank sum to *stable, and those by router to the sizes of all groups of two or more over all lists. Each is what rrp_verdict gives,
+ * list by list. Refusals 1 to 7, 9 and 13. */
+uint8_t rrp_figures(const uint8_t *plan, size_t plan_len, uint8_t *by_rank, size_t by_rank_len, uint8_t *by_router,
+                    size_t by_router_len, uint64_t *stable, uint64_t *suspect, uint8_t *has_highest, uint64_t *highest);
 
 /* Activates one router, in the table's 2n bytes: a router of the list keeps its own route, and any other then holds the best route
  * that a neighbour advertises to it at that moment, of those whose egress it has a way to, or none. No other router's entry

@@ -156,6 +156,24 @@ names_hop_set() {
 END
 }
 
+# What the C example of the figures prints, its lines joined: of several lists, no stable one, lists of nobody,
+# 64 lists, RRP2; or the refusal.
+counts() {
+    local plan expected
+    while IFS='|' read -r plan expected; do
+        [ "$("$out/figures" "$plan" | paste -sd,)" = "$expected" ] || { echo "embedding: figures $plan are not: $expected"; return 1; }
+    done <<'END'
+examples/m3.plan|stable 1 suspect 1 highest rank 3,rank 3: 1,router 0: 1,router 1: 1
+tests/verdict/roles-1-to-5.plan|stable 7 suspect 2 highest rank 3,rank 1: 1,rank 3: 6,router 0: 2,router 1: 2
+tests/verdict/cycle-of-four.plan|stable 0 suspect 1 highest rank none,router 0: 1,router 1: 1,router 2: 1,router 3: 1
+tests/verdict/nobody-listed-among-others.plan|stable 3 suspect 1 highest rank 3,rank 1: 2,rank 3: 1,router 0: 1,router 1: 1
+tests/verdict/nobody-listed-64-times.plan|stable 64 suspect 0 highest rank 1,rank 1: 64
+tests/verdict/largest.plan|stable 64 suspect 0 highest rank 0,rank 0: 64
+tests/verdict/rrp2-suspect.plan|stable 1 suspect 1 highest rank 3,rank 3: 1,router 0: 1,router 1: 1
+tests/verdict/refused-13-five-parents.plan|refused 13
+END
+}
+
 # What the other C examples say for a list of nobody: its verdict among others', why routers rely on others, a run.
 on_list_of_nobody() {
     local name=tests/verdict/nobody-listed-among-others
@@ -251,7 +269,7 @@ own_tests() {
 }
 
 mkdir -p "$out"
-rm -f "$out/verdicts" "$out/compare" "$out/why" "$out/run" "$out/distances" "$out/convert" "$out/flush" "$out/steady" "$out/hop_set" "$out/stack"
+rm -f "$out/verdicts" "$out/compare" "$out/why" "$out/run" "$out/distances" "$out/convert" "$out/flush" "$out/steady" "$out/hop_set" "$out/figures" "$out/stack"
 try "the library" rt staticlib rrp
 try "the header as C99" gcc -std=c99 -pedantic -Wall -Wextra -Werror -Iinclude -fsyntax-only -x c include/rrp.h
 try "the header as C++" g++ -std=c++11 -pedantic -Wall -Wextra -Werror -Iinclude -fsyntax-only -x c++ include/rrp.h
@@ -276,6 +294,8 @@ try "the C example of steady tables" example steady
 try "the C example's steady tables" lists_steady
 try "the C example of a hop set" example hop_set
 try "the C example's hop set" names_hop_set
+try "the C example of the figures" example figures
+try "the C example's figures" counts
 try "the C examples on a list of nobody" on_list_of_nobody
 try "the C examples as documented" prints_as_documented
 try "the library's size in a program" measures_size

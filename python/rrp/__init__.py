@@ -10,6 +10,7 @@ from typing import TYPE_CHECKING
 
 if TYPE_CHECKING:
     from .errors import LibraryMissing, RrpError, UnknownName
+    from .figures import Figures
     from .hop_sets import HopSet
     from .library import Refused
     from .plan import Comparison, Explanation, Plan, Run, TooFarToNarrow, TooManyGrouped, Verdict
@@ -18,12 +19,13 @@ if TYPE_CHECKING:
     from .text import TextErrors
 
 #: The version of the package, which `rrp --version` writes; pyproject.toml has it too.
-__version__ = "1.7.0"
+__version__ = "1.8.0"
 
 #: The names of the package, and the modules that they are of.
 _HOMES = {
     "Comparison": "plan",
     "Explanation": "plan",
+    "Figures": "figures",
     "HopSet": "hop_sets",
     "LibraryMissing": "errors",
     "Plan": "plan",

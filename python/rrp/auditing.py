@@ -1,34 +1,24 @@
-"""Goes over a library of plans with filed verdicts, on all cores.
-
-A plan is a file whose name ends in .rrp or .plan, or that has a verdict filed beside it.
-"""
+"""Goes over a library of plans with filed verdicts, on all cores."""
 
 from __future__ import annotations
 
 import os
 from collections.abc import Iterator
 from contextlib import suppress
-from typing import TYPE_CHECKING, NamedTuple
+from typing import NamedTuple
 
-from . import library
+from .cores import on_all_cores
 from .errors import RrpError
 from .files import read_file
 from .filing import SUFFIX, is_meant, packed, read_verdict, verdict_path
-from .output import count_words
+from .plan_folders import is_plan, need_file, walk
+from .text.problems import first_problem
 from .verdict_differences import CHANGED, FALSE, LINES, RIGHT, compare
 from .verdict_files import entry
-
-if TYPE_CHECKING:
-    from multiprocessing.connection import Connection
-
-PLAN_SUFFIXES = (".rrp", ".plan")
 
 #: What may be found of a file, beside what is found of a verdict.
 UNFILED, STRAY, UNREADABLE = "unfiled", "stray", "unreadable"
 KINDS = (RIGHT, LINES, CHANGED, FALSE, UNFILED, STRAY, UNREADABLE)
-
-#: So many plans are judged before they are reported. Fewer are judged in one process.
-_CHUNK = 100
 
 
 class Finding(NamedTuple):
@@ -67,14 +57,12 @@ def find(directory: str) -> Found:
         raise RrpError(f"{directory} is no directory: name one that has plans and their verdicts")
     found = Found([], [])
 
-    def unread(failure: OSError) -> None:
+    def unread(path: str, why: str) -> None:
         """A directory below cannot be read."""
-        detail = failure.strerror or str(failure)
-        found.findings.append(Finding(str(failure.filename), UNREADABLE, (detail,)))
+        found.findings.append(Finding(path, UNREADABLE, (why,)))
 
-    for folder, subfolders, names in os.walk(directory, onerror=unread):
-        subfolders.sort()
-        _sort_out(folder, set(names), found)
+    for folder, names in walk(directory, unread):
+        _sort_out(folder, names, found)
     return found
 
 
@@ -91,7 +79,7 @@ def _sort_out(folder: str, names: set[str], found: Found) -> None:
                 found.findings.append(Finding(path, STRAY, ("it has no plan beside it",)))
         elif verdict_path(name) in names:
             found.plans.append(path)
-        elif name.endswith(PLAN_SUFFIXES):
+        elif is_plan(name, names):
             damaged = " with --damaged, as it looks like no plan" if _looks_damaged(path) else ""
             details = (f"no verdict is filed; rrp file writes one{damaged}",)
             found.findings.append(Finding(path, UNFILED, details))
@@ -108,7 +96,7 @@ def judge(path: str) -> Finding:
     """Says of a plan whether the verdict filed beside it is its own."""
     try:
         for each in (path, verdict_path(path)):
-            _need_file(each)
+            need_file(each)
         filed = read_verdict(verdict_path(path))
         name, data = read_file(path)
     except RrpError as failure:
@@ -116,8 +104,8 @@ def judge(path: str) -> Finding:
     try:
         plan = packed(data, name)
     except RrpError as failure:
-        details = (f"a verdict is filed, but {_first_problem(failure)}",)
-        return Finding(path, FALSE, details, filed=filed)
+        problem = first_problem(failure) or f"the plan packs into no bytes: {failure}"
+        return Finding(path, FALSE, (f"a verdict is filed, but {problem}",), filed=filed)
     due = entry(plan.data)
     found = compare(filed, due, plan.names)
     finding = Finding(path, found.kind, found.details, due.stable, due.suspect, due.refused)
@@ -127,68 +115,7 @@ def judge(path: str) -> Finding:
     return finding._replace(filed=filed, due=due.text, differences=values)
 
 
-def _need_file(path: str) -> None:
-    """Refuses what is there and no file, as a pipe, which may never end."""
-    if os.path.exists(path) and not os.path.isfile(path):
-        raise RrpError(f"{path} is no file")
-
-
-def _first_problem(failure: RrpError) -> str:
-    """That a plan's text has errors, and the first of them, in one line."""
-    problems = getattr(failure, "problems", ())
-    if not problems:
-        return f"the plan packs into no bytes: {failure}"
-    first = f"line {problems[0].word.line.number}: {problems[0].message}"
-    return f"the plan's text has {count_words(len(problems), 'error')}, as in {first}"
-
-
 def judge_all(plans: list[str], processes: int | None = None) -> Iterator[Finding]:
     """Judges plans, in as many processes as there are cores or as are given. The findings come in
     any order."""
-    library.library()
-    count = processes or len(os.sched_getaffinity(0))
-    if count == 1 or len(plans) <= _CHUNK:
-        yield from map(judge, plans)
-        return
-    missing = len(plans)
-    for findings in _parts([plans[part::count] for part in range(count)]):
-        missing -= len(findings)
-        yield from findings
-    if missing:
-        raise RrpError(f"{missing} plans were not judged, as a process was ended: audit again")
-
-
-def _parts(parts: list[list[str]]) -> Iterator[list[Finding]]:
-    """The findings of a process a part, as they come."""
-    from multiprocessing import get_context
-    from multiprocessing.connection import wait
-
-    context, receivers = get_context("fork"), []
-    for part in parts:
-        receiver, sender = context.Pipe(duplex=False)
-        receivers.append(receiver)
-        started = context.Process(target=_judge_part, args=(part, sender, receivers), daemon=True)
-        started.start()
-        sender.close()
-    while receivers:
-        for receiver in wait(receivers):
-            try:
-                findings = receiver.recv()
-            except EOFError:
-                receivers.remove(receiver)
-                continue
-            if isinstance(findings, Exception):
-                raise findings
-            yield findings
-
-
-def _judge_part(plans: list[str], sender: Connection, receivers: list[Connection]) -> None:
-    """Judges plans in a process of its own, which ends if nobody takes the findings any more."""
-    for receiver in receivers:
-        receiver.close()
-    with suppress(OSError):
-        try:
-            for start in range(0, len(plans), _CHUNK):
-                sender.send([judge(path) for path in plans[start : start + _CHUNK]])
-        except Exception as fault:
-            sender.send(RuntimeError(repr(fault)))
+    return on_all_cores(judge, plans, processes)

@@ -30,6 +30,7 @@ COMMANDS = {
     "pack": "write a text plan as bytes",
     "unpack": "write a plan as text",
     "convert": "turn an RRP1 plan into RRP2, or back",
+    "figures": "count stable and suspect lists, ranks, and routers in groups",
     "file": "write the verdict beside the plan",
     "audit": "compare filed verdicts with their plans",
 }

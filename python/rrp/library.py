@@ -98,6 +98,19 @@ class Assessed(NamedTuple):
     cycle: bytes
 
 
+class Counted(NamedTuple):
+    """All lists of a plan in figures: how many are stable, how many suspect, and the highest rank
+    among the stable ones, None if no list is stable. `by_rank` has for each rank how many stable
+    lists have it as their highest, and `by_router` for each router in how many lists it is in a
+    group of two or more."""
+
+    stable: int
+    suspect: int
+    highest: int | None
+    by_rank: bytes
+    by_router: bytes
+
+
 class Ran(NamedTuple):
     """A run: the table that it left, the activations made, the rounds that ended among them, and
     whether the sequence is longer than the limit."""
@@ -124,6 +137,7 @@ PROTOTYPES = {
     "rrp_relies": (*_BYTES, _SIZE, _SIZE, _SIZE, _FLAG_OUT),
     "rrp_explain": (*_BYTES, _SIZE, _SIZE, _SIZE, *_WHY_OUT),
     "rrp_verdict": (*_BYTES, _SIZE, *_BYTES, *_BYTES, *_BYTES, *_BYTES, _FLAG_OUT, _LONG_OUT),
+    "rrp_figures": (*_BYTES, *_BYTES, *_BYTES, _LONG_OUT, _LONG_OUT, _FLAG_OUT, _LONG_OUT),
     "rrp_activate": (*_BYTES, _SIZE, _SIZE, *_BYTES),
     "rrp_run": (*_BYTES, _SIZE, *_BYTES, _LONG, *_BYTES, _LONG_OUT, _LONG_OUT, _FLAG_OUT),
     "rrp_steady": (*_BYTES, _SIZE, *_BYTES, _LONG_OUT),
@@ -265,6 +279,19 @@ def verdict(plan: bytes, egresses: int) -> Assessed:
     else:
         written = b"", b"", cycle.raw[: number.value]
     return Assessed(bool(stable.value), number.value, labels.raw[:routers], *written)
+
+
+def figures(plan: bytes) -> Counted:
+    """All lists of a plan in figures (rrp_figures)."""
+    by_rank, by_router = (ctypes.create_string_buffer(MAX_ROUTERS) for _ in range(2))
+    stable, suspect, highest = (ctypes.c_uint64() for _ in range(3))
+    has_highest = ctypes.c_uint8()
+    buffers = by_rank, len(by_rank), by_router, len(by_router)
+    out = stable, suspect, has_highest, highest
+    _raise_if(library().rrp_figures(plan, len(plan), *buffers, *out))
+    written = by_rank.raw[: plan[4]], by_router.raw[: plan[4]]
+    rank = highest.value if has_highest.value else None
+    return Counted(stable.value, suspect.value, rank, *written)
 
 
 def activate(plan: bytes, egresses: int, router: int, table: bytes) -> bytes:

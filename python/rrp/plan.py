@@ -22,6 +22,7 @@ from .errors import RrpError, cut_names, unknown
 from .tables import Route, Table
 
 if TYPE_CHECKING:
+    from .figures import Figures
     from .hop_sets import HopSet
     from .steady import Steady
 
@@ -47,11 +48,16 @@ REASONS = {
     9: "offer not better",
 }
 
-#: What to do where too many routers of a list lie in groups of two or more.
-_INSTEAD = (
-    "rrp run PLAN LIST shows single runs, of which none promises anything of another; or end a",
-    "cycle and ask again: rrp show PLAN LIST has changes that end one",
-)
+#: What is asked of a list that is not worked out where too many of its routers lie in groups of two
+#: or more, and what to do instead.
+_REST, _STEP = "where it may rest", "where to load the hop step"
+_INSTEAD = {
+    _REST: (
+        "rrp run PLAN LIST shows single runs, of which none promises anything of another; or end a",
+        "cycle and ask again: rrp show PLAN LIST has changes that end one",
+    ),
+    _STEP: ("end a cycle, then ask again: rrp show PLAN LIST has changes that end one",),
+}
 
 #: What to do with a plan that is too far for RRP1.
 _KEEP = (
@@ -185,11 +191,12 @@ class TooManyGrouped(library.Refused):
         return cut_names(f"{counted}: {self.asked} is not worked out")
 
     def __str__(self) -> str:
-        return "\n    ".join([super().__str__(), self.detail, *_INSTEAD])
+        return "\n    ".join([super().__str__(), self.detail, *_INSTEAD[self.asked]])
 
     def as_json(self) -> list[dict[str, object]]:
         """The failure as plain values."""
-        return [{"message": f"{super().__str__()}; {self.detail}", "advice": " ".join(_INSTEAD)}]
+        advice = " ".join(_INSTEAD[self.asked])
+        return [{"message": f"{super().__str__()}; {self.detail}", "advice": advice}]
 
 
 class Plan:
@@ -424,12 +431,19 @@ class Plan:
         """The verdicts for all lists, in order."""
         return tuple(self.verdict(number) for number in range(len(self.lists)))
 
+    def figures(self) -> Figures:
+        """All lists in figures: how many are stable and how many suspect, by highest rank and by
+        the routers in groups of two or more."""
+        from .figures import figures_of
+
+        return figures_of(self)
+
     def steady_numbers(self, egress_list: Which) -> tuple[int, ...]:
         """The numbers of all tables of a list that no activation changes, rising. Bit i of a number
         is set exactly if the i-th of the routers in groups of two or more, lowest first, holds its
         best client's own route. Raises `TooManyGrouped` where more than 12 routers lie in such
         groups."""
-        return self._of_groups(library.steady, egress_list, "where it may rest")
+        return self._of_groups(library.steady, egress_list, _REST)
 
     def steady(self, egress_list: Which) -> Steady:
         """All tables of a list that no activation changes, with their numbers. That there are some
@@ -444,7 +458,7 @@ class Plan:
         hop step, the lowest of that size; 0 exactly if the list is stable. Bit i is that of the
         i-th of the routers in groups of two or more, lowest first. Raises `TooManyGrouped` where
         more than 12 routers lie in such groups."""
-        return self._of_groups(library.hop_set, egress_list, "where to load the hop step")
+        return self._of_groups(library.hop_set, egress_list, _STEP)
 
     def hop_set(self, egress_list: Which) -> HopSet:
         """A smallest set of reflectors that makes a list stable once they have the hop step, with

@@ -76,7 +76,14 @@ class Calls(unittest.TestCase):
     def test_every_function_has_a_section(self) -> None:
         declared = re.findall(r"^uint8_t (rrp_\w+)\(", HEADER, re.M)
         self.assertEqual(sorted(sections()), sorted(declared))
-        self.assertGreaterEqual(len(declared), 14)
+        self.assertGreaterEqual(len(declared), 15)
+
+    def test_the_overview_has_every_section(self) -> None:
+        overview = PAGE.split("\n## ", 1)[0]
+        named = re.findall(r"\[`(\w+)`\]\(#(\w+)\)", overview)
+        self.assertTrue(all(name == anchor for name, anchor in named))
+        _, _, *headings = re.findall(r"^## (.+)$", PAGE, re.M)
+        self.assertEqual([name for name, _ in named], headings)
 
     def test_the_header_has_the_refusals(self) -> None:
         for name, numbers in sections().items():

@@ -12,6 +12,7 @@ from rrp.columns import left, right, widest, width, wrapped
 from rrp.text.writing import write
 
 from .support import rrp
+from .test_steady import cycles
 
 #: A name of letters that take two columns each, one with an accent of its own, and a plain one.
 WIDE, ACCENT, PLAIN = "東京", "e\u0301t", "plain"
@@ -94,6 +95,13 @@ class Tables(unittest.TestCase):
         lines = [line for line in self.lines("run", WIDE) if " -> " in line]
         self.assertEqual(len({column(line, "nothing ->") for line in lines}), 1, lines)
         self.assertGreater(len(lines), 1)
+
+    def test_figures(self) -> None:
+        with open(self.path, "w", encoding="utf-8") as file:
+            file.write(cycles(2).replace("a0", WIDE).replace("a1", PLAIN))
+        lines = [line for line in self.lines("figures") if line.endswith("  #")]
+        self.assertEqual([line.split()[0] for line in lines], [WIDE, PLAIN])
+        self.assertEqual(starts(lines[0]), starts(lines[1]))
 
     def test_unpack(self) -> None:
         lines = write(Plan.read(self.path)).splitlines()[:3]

@@ -106,10 +106,9 @@ class Fuzz(unittest.TestCase):
                 data = random_input(self.inputs, self.draw)
                 with open(path, "wb") as file:
                     file.write(data)
-                others = ["show", "steady", "hop-set", "pack", "unpack", "convert"]
-                command = self.draw.choice(["check", "check", *others])
-                words = {"check": [], "show": [], "steady": ["0"], "hop-set": []}
-                out = words.get(command, ["-o", f"{folder}/output"])
+                judging = {"check": [], "show": [], "steady": ["0"], "hop-set": [], "figures": []}
+                command = self.draw.choice(["check", *judging, "pack", "unpack", "convert"])
+                out = judging.get(command, ["-o", f"{folder}/output"])
                 self.sound(rrp(command, path, *out), data)
 
     def test_changes(self) -> None:

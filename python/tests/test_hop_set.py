@@ -24,7 +24,7 @@ from .folders import InFolder, write
 from .networks import random_network
 from .support import EXAMPLES, FAULT, TESTS, read, rrp
 from .test_roundtrip import random_model, stored_plans
-from .test_steady import meshes, cycles, tangle
+from .test_steady import cycles, meshes, tangle
 
 M3, NET, HOP = f"{EXAMPLES}/m3.plan", f"{EXAMPLES}/net.rrp", f"{EXAMPLES}/hop.rrp"
 LOAD = f"{EXAMPLES}/load.rrp"

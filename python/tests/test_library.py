@@ -142,6 +142,8 @@ class Calls(unittest.TestCase):
             (8, lambda: library.hop_set(self.plan, 2)),
             (8, lambda: library.hop_set(self.plan, -1)),
             (5, lambda: library.hop_set(self.plan[:46] + b"\1" + self.plan[47:], 0)),
+            (1, lambda: library.figures(b"")),
+            (5, lambda: library.figures(self.plan[:46] + b"\1" + self.plan[47:])),
             (9, lambda: library.activate(self.plan, 0, 0, b"")),
             (10, lambda: library.activate(self.plan, 0, 0, bytes(8))),
             (2, lambda: library.distances(65, b"")),
@@ -209,6 +211,61 @@ class HopSet(unittest.TestCase):
     def test_refused(self) -> None:
         for number, plan, egresses in ((8, self.plan, 2), (8, self.plan, 2**64 - 1), (1, b"", 0)):
             self.assertEqual(self.raw(plan, egresses), (number, 99))
+
+
+class Figures(unittest.TestCase):
+    """The raw call for the figures over all lists, on the bundled plan."""
+
+    def setUp(self) -> None:
+        with open(f"{EXAMPLES}/m3.plan", "rb") as file:
+            self.plan = file.read()
+
+    def raw(self, plan: bytes, *lengths: int) -> tuple[int, list[bytes], list[int]]:
+        """What the call returns, all bytes of two buffers of so many and two more, and the four
+        variables, which had 99 in them."""
+        buffers = [ctypes.create_string_buffer(b"\x77" * (each + 2), each + 2) for each in lengths]
+        lent = [part for pair in zip(buffers, lengths) for part in pair]
+        kinds = ctypes.c_uint64, ctypes.c_uint64, ctypes.c_uint8, ctypes.c_uint64
+        out = [kind(99) for kind in kinds]
+        refused = library.library().rrp_figures(plan, len(plan), *lent, *out)
+        return refused, [each.raw for each in buffers], [each.value for each in out]
+
+    def of_lists(self, *lists: bytes) -> bytes:
+        """The plan with other lists."""
+        body = bytes([len(lists)]) + b"".join(bytes([len(each)]) + each for each in lists)
+        return self.plan[:24] + bytes([len(body), 0]) + self.plan[26:84] + body
+
+    def test_figures(self) -> None:
+        counted = (1, 1, 3, b"\0\0\0\1", b"\1\1\0\0")
+        self.assertEqual(library.figures(self.plan), counted)
+        plan = self.of_lists(b"\2\3", b"\2\3", b"", b"\0", b"\3", b"\0\1\2\3")
+        counted = (4, 2, 3, b"\1\1\1\1", b"\2\2\0\0")
+        self.assertEqual(library.figures(plan), counted)
+
+    def test_bytes(self) -> None:
+        ranks, routers = b"\0\0\0\1", b"\1\1\0\0"
+        for longer in ((4, 4), (5, 4), (4, 7)):
+            later = [b"\x77" * (length - 2) for length in longer]
+            due = [ranks + later[0], routers + later[1]]
+            self.assertEqual(self.raw(self.plan, *longer), (0, due, [1, 1, 1, 3]), longer)
+
+    def test_absent(self) -> None:
+        plan = self.of_lists(b"\2\3")
+        self.assertEqual(library.figures(plan), (0, 1, None, bytes(4), b"\1\1\0\0"))
+        due = [bytes(4) + b"\x77\x77", b"\1\1\0\0\x77\x77"]
+        self.assertEqual(self.raw(plan, 4, 4), (0, due, [0, 1, 0, 0]))
+
+    def test_rank_0_is_no_absence(self) -> None:
+        plan = self.of_lists(b"\0\1\2\3")
+        self.assertEqual(library.figures(plan)[:3], (1, 0, 0))
+        self.assertEqual(self.raw(plan, 4, 4)[2], [1, 0, 1, 0])
+
+    def test_refused(self) -> None:
+        damaged = self.plan[:46] + b"\1" + self.plan[47:]
+        cases = [(9, self.plan, 3, 4), (9, self.plan, 4, 3), (9, self.plan, 0, 0), (1, b"", 0, 4)]
+        for number, plan, *lengths in [*cases, (5, damaged, 4, 4), (5, damaged, 0, 0)]:
+            untouched = [b"\x77" * (length + 2) for length in lengths]
+            self.assertEqual(self.raw(plan, *lengths), (number, untouched, [99] * 4))
 
 
 class Conversions(unittest.TestCase):

@@ -24,6 +24,8 @@ WRONG = (
     (["xyz", NET], "rrp: there is no command xyz", _ALL),
     (["check"], "rrp check: PLAN is missing", "name a file that has a plan"),
     (["convert", "-o", "x"], "rrp convert: PLAN is missing", "name a file that has a plan"),
+    (["figures", "--csv"], "rrp figures: PLAN is missing", "name a file that has a plan"),
+    (["figures", NET, "--cvs"], "rrp figures: there is no option --cvs", "did you mean --csv?"),
     (["pack", NET, "--wider"], "rrp pack: there is no option --wider", "did you mean --wide?"),
     (["run", NET], "rrp run: LIST is missing", "rrp show PLAN names the lists of a plan"),
     (

@@ -29,7 +29,7 @@ use Rattle.graph_cycle.specs.Cycle.{start, next, walk, metAgainAt, metFirstAt, 
 use Rattle.route_theorems.specs.Settled.{chooseAll, chosenAfter, settledTable}
 use Rattle.net_tables.specs.TableBytes.{readRoute, tableOf, tableBytes, activateBytes, runBytes}
 use Rattle.call_rules.specs.Refusals.{egressListRefusal, compareRefusal, reliesRefusal, buffersOk, verdictRefusal}
-use Rattle.call_rules.specs.Refusals.{tableChecks, sequenceOk, activateRefusal, runRefusal}
+use Rattle.call_rules.specs.Refusals.{tableChecks, sequenceOk, activateRefusal, runRefusal, countsOk, figuresRefusal}
 use Rattle.call_compare.specs.Compare.{whichBetter, hasMargin, marginNumber}
 use Rattle.call_run.specs.Activate.{activateTable}
 use Rattle.route_explain_rules.specs.Explained.{againstOwn, byOffer, onReflector, onClient, explained}
@@ -45,7 +45,9 @@ use Rattle.steady_rules.specs.Steady.{steadyNumbers}
 use Rattle.call_rules.specs.Refusals.{steadyChecks, steadyRefusal, hopSetRefusal}
 use Rattle.hopset_rules.specs.HopSet.{serves, setOf, reflectorsIn, servesBy, lowestBy, leastSize, hopSet}
 use Rattle.call_steady.specs.Steady.{numberBytes, numbersAfter}
-use Rattle.c_rules.specs.Examples.{twoRouters, ExportExamples, ConvertExportExamples, SteadyExportExamples, HopSetExportExamples}
+use Rattle.figures_rules.specs.Figures.{stableLists, suspectLists, highestStable, stableWith, groupedLists, figuresOf}
+use Rattle.call_figures.specs.Figures.{rankCounts, routerCounts, rankCountsLeft, routerCountsLeft, rankCountsAfter, routerCountsAfter}
+use Rattle.c_rules.specs.Examples.{twoRouters, ExportExamples, ConvertExportExamples, SteadyExportExamples, HopSetExportExamples, FiguresExportExamples}
 
 pub export-examples : ExportExamples
 unfolding
@@ -146,4 +148,21 @@ hop-set-export-examples =
       noneToName = λ r s e. (e .number, e .named);
       stepThere = λ r s e. (e .number, e .named);
       refusedHopSet = λ r s e. (e .number, e .named);
+    }
+
+pub figures-export-examples : FiguresExportExamples
+unfolding
+    fourRouters smallPlan M3Plan countsOk figuresRefusal rankCounts routerCounts rankCountsLeft routerCountsLeft rankCountsAfter routerCountsAfter
+    stableLists suspectLists highestStable stableWith groupedLists figuresOf isStable highestOf
+    rankOver ranksByChains rank together label stable grouped closing listedClientOf bestClient offer betterOffer relies nearer hasStep hops prefers prefersBy
+    pairs inSession named refuse bodyChecks planChecks
+    markOk headerOk routerCountOk kindsOk placesOk sizesOk contentsOk routerOk routersOk sessionOk sessionsOk
+    parentCount fewParents parentsOk count distancesOk
+    listPlace memberOk listAtOk listOk eachListOk listsOk allBelow anyBelow keepBest best seek highest tab
+figures-export-examples =
+    record {
+      counted = λ r k w a b p h e. (e .numbered, e .stable-are, e .suspect-are, e .flagged, e .ranked, e .byRank, e .byRouter);
+      absent = λ r k w a b p h e. (e .numbered, e .stable-are, e .suspect-are, e .flagged, e .ranked, e .byRank, e .byRouter);
+      zero = λ r k w a b p h e. (e .numbered, e .stable-are, e .suspect-are, e .flagged, e .ranked, e .byRank, e .byRouter);
+      refusedFigures = λ r k w a b p h e. (e .numbered, e .stable-are, e .suspect-are, e .flagged, e .ranked, e .byRank, e .byRouter);
     }

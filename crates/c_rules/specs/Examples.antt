@@ -7,12 +7,12 @@ use mathlib.Core.List.{List, [], _∷_, _++_}
 use lib.IntN.{ℤ, pos, negℤ}
 use lib.ListN.{set, replicate}
 use Rattle.base.specs.Lent.{Lent}
-use Rattle.plan_examples.specs.Plans.{M3Plan, M3WithNobody, nobodyBetween}
+use Rattle.plan_examples.specs.Plans.{smallPlan, M3Plan, M3WithNobody, nobodyBetween}
 use Rattle.plan_rules.specs.ConvertedExamples.{withNarrow, withWide}
 use Rattle.links_rules.specs.Distances.{DistancesCall}
 use Rattle.call_run.specs.Activate.{Activates}
 use Rattle.c_rules.specs.Exports.{SizeExport, ListExport, CompareExport, ReliesExport, ExplainExport, VerdictExport, SteadyExport, HopSetExport, RunExport}
-use Rattle.c_rules.specs.Exports.{WidenExport, NarrowExport}
+use Rattle.c_rules.specs.Exports.{WidenExport, NarrowExport, FiguresExport}
 
 -- two clients without a session; no way from 0 to 1, and back it is 7
 unfoldable pub twoRouters : List ℕ
@@ -211,3 +211,24 @@ pub record HopSetExportExamples : Type 0 where
   pub stepThere : (r : ℕ) (set : Lent ℕ) → HopSetExport stepping 0 r set → (r ≡ 0) × (set .after ≡ 0)
   -- there is no list 3: number 8, and the variable is left as it was
   pub refusedHopSet : (r : ℕ) (set : Lent ℕ) → HopSetExport M3Plan 3 r set → (r ≡ 8) × (set .after ≡ set .before)
+
+-- rrp_figures, called with five bytes in each buffer, returns 0 and leaves these numbers in its four variables, and these bytes
+abbrev pub CountedAs : (plan : List ℕ) (a b p h : ℕ) (byRank byRouter : List ℕ) → Type 0
+CountedAs plan a b p h byRank byRouter =
+    (r : ℕ) (ranks routers : List ℕ) (stable suspect hasHighest highest : Lent ℕ)
+    → FiguresExport plan r (from five ranks) (from five routers) stable suspect hasHighest highest
+    → (r ≡ 0) × (stable .after ≡ a) × (suspect .after ≡ b) × (hasHighest .after ≡ p) × (highest .after ≡ h)
+    × (ranks ≡ byRank) × (routers ≡ byRouter)
+
+pub record FiguresExportExamples : Type 0 where
+  -- lists 2,3, suspect, and 3 and 0, with the highest ranks 3 and 2
+  pub counted : CountedAs M3Plan 2 1 1 3 (0 ∷ 0 ∷ 1 ∷ 1 ∷ 9 ∷ []) (1 ∷ 1 ∷ 0 ∷ 0 ∷ 9 ∷ [])
+  -- list 2,3 alone: no highest rank. Misread as rank 0: 1 for the flag
+  pub absent : CountedAs (smallPlan 6 6 (1 ∷ 2 ∷ 2 ∷ 3 ∷ [])) 0 1 0 0 (0 ∷ 0 ∷ 0 ∷ 0 ∷ 9 ∷ []) (1 ∷ 1 ∷ 0 ∷ 0 ∷ 9 ∷ [])
+  -- every router listed: a highest rank of 0. Misread as none: 0 for the flag
+  pub zero : CountedAs (smallPlan 6 6 (1 ∷ 4 ∷ 0 ∷ 1 ∷ 2 ∷ 3 ∷ [])) 1 0 1 0 (1 ∷ 0 ∷ 0 ∷ 0 ∷ 9 ∷ []) (0 ∷ 0 ∷ 0 ∷ 0 ∷ 9 ∷ [])
+  -- three bytes for four routers: number 9, and everything is left as it was
+  pub refusedFigures : (r : ℕ) (ranks routers : List ℕ) (stable suspect hasHighest highest : Lent ℕ)
+      → FiguresExport M3Plan r (from five ranks) (from (9 ∷ 9 ∷ 9 ∷ []) routers) stable suspect hasHighest highest
+      → (r ≡ 9) × (stable .after ≡ stable .before) × (suspect .after ≡ suspect .before) × (hasHighest .after ≡ hasHighest .before)
+      × (highest .after ≡ highest .before) × (ranks ≡ five) × (routers ≡ 9 ∷ 9 ∷ 9 ∷ [])

@@ -19,7 +19,7 @@ use Rattle.plan_rules.specs.Refused.{unlessRefused}
 use Rattle.plan_rules.specs.Converted.{converted, widenRefusal, narrowRefusal}
 use Rattle.steady_rules.specs.Steady.{steadyCount}
 use Rattle.hopset_rules.specs.HopSet.{hopSet}
-use Rattle.call_rules.specs.Refusals.{egressListRefusal, compareRefusal, reliesRefusal, verdictRefusal, steadyRefusal, hopSetRefusal, runRefusal}
+use Rattle.call_rules.specs.Refusals.{egressListRefusal, compareRefusal, reliesRefusal, verdictRefusal, steadyRefusal, hopSetRefusal, runRefusal, figuresRefusal}
 use Rattle.call_compare.specs.Compare.{whichBetter, hasMargin, marginNumber}
 use Rattle.route_explain_rules.specs.declared.explanation.Values.{Values}
 use Rattle.route_explain_rules.specs.Explained.{explained}
@@ -29,6 +29,7 @@ use Rattle.call_verdict.specs.Verdict.{sizeOf, labelsAfter, ranksAfter, tableAf
 use Rattle.call_steady.specs.Steady.{numbersAfter}
 use Rattle.call_run.specs.Run.{runApplied, runRounds, runExhausted, runTable}
 use Rattle.call_convert.specs.Convert.{convertBuffer}
+use Rattle.call_figures.specs.Figures.{planFigures, rankCountsAfter, routerCountsAfter, hasRank, rankOf}
 
 -- a result variable of a call whose refusal is `number`: "unchanged" if refused, else the value
 abbrev pub VariableHolds : {A : Type 0} (number : ℕ) (variable : Lent A) (value : A) → Type 0
@@ -141,3 +142,19 @@ WidenExport plan r out = ConvertWritten 4 plan (widenRefusal plan (length (out .
 
 abbrev pub NarrowExport : (plan : List ℕ) (r : ℕ) (out : Lent (List ℕ)) (size : Lent ℕ) → Type 0
 NarrowExport plan r out = ConvertWritten 2 plan (narrowRefusal plan (length (out .before))) r out
+
+-- rrp_figures: the stable lists, the suspect lists, 1 if there is a highest rank among the stable ones, else 0, that rank, 0 where there is
+-- none; the counts by rank and by router, every byte of the buffers. `number` is the call's refusal.
+pub record FiguresWritten (number : ℕ) (plan : List ℕ) (r : ℕ) (ranks routers : Lent (List ℕ))
+    (stable suspect hasHighest highest : Lent ℕ) : Type 0 where
+  pub numbered : r ≡ number
+  pub byRank : ranks .after ≡ rankCountsAfter number plan (ranks .before)
+  pub byRouter : routers .after ≡ routerCountsAfter number plan (routers .before)
+  pub stable-are : VariableHolds number stable (planFigures plan .stable)
+  pub suspect-are : VariableHolds number suspect (planFigures plan .suspect)
+  pub flagged : VariableHolds number hasHighest (flag (hasRank (planFigures plan .highest)))
+  pub ranked : VariableHolds number highest (rankOf (planFigures plan .highest))
+
+abbrev pub FiguresExport : (plan : List ℕ) (r : ℕ) (ranks routers : Lent (List ℕ)) (stable suspect hasHighest highest : Lent ℕ) → Type 0
+FiguresExport plan r ranks routers =
+    FiguresWritten (figuresRefusal plan (ranks .before) (routers .before)) plan r ranks routers

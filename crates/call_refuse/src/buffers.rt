@@ -7,7 +7,7 @@ ghost use mathlib.Core.List.{List};
 ghost use Prim.Native.Nat.{ℕ, _*_, _≤_, _<_};
 ghost use Rattle.plan_read.specs.Checked.{Checked};
 ghost use Rattle.net_rules.specs.Decoded.{decoded};
-ghost use Rattle.call_rules.specs.Refusals.{buffersOk, verdictRefusal, tableChecks};
+ghost use Rattle.call_rules.specs.Refusals.{buffersOk, verdictRefusal, tableChecks, figuresRefusal};
 
 fn buffers_ok(n: usize, labels: &[u8], ranks: &[u8], table: &[u8], cycle: &[u8]) -> bool
     requires { ⌜ n < 256 ⌝ }
@@ -57,6 +57,24 @@ pub fn table_refusal(net: Network, rows: &[u64; 64], table: &[u8]) -> u8
     }
     if !net_tables::table_ok(net, rows, table) {
         return 10;
+    }
+    0
+}
+
+// Rows up to 9 of the figures over all lists, which are lent buffers for the counts by rank and by router.
+pub fn figures_refusal(checked: CheckedPlan, ranks: &[u8], routers: &[u8]) -> u8
+    ensures { λ r. ⌜ ((plan : List ℕ) → Checked plan checked
+        → r ≡ figuresRefusal plan (now (ranks .entry)) (now (routers .entry))) ⌝ }
+{
+    if checked.refused != 0 {
+        return checked.refused;
+    }
+    let n = checked.n as usize;
+    if ranks.len() < n {
+        return 9;
+    }
+    if routers.len() < n {
+        return 9;
     }
     0
 }

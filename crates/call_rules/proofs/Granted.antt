@@ -23,9 +23,9 @@ use Rattle.net_rules.specs.FromPlan.{instanceOf}
 use Rattle.net_rules.specs.Opened.{Opened}
 use Rattle.net_tables.specs.TableBytes.{TableIn}
 use Rattle.steady_rules.specs.Steady.{groupedRouters, steadyCount}
-use Rattle.call_rules.specs.Refusals.{sequenceOk, askedChecks, egressListRefusal, compareRefusal, reliesRefusal, routerRefusal, sequenceRefusal, buffersOk, verdictRefusal, steadyRefusal, hopSetRefusal, tableChecks}
+use Rattle.call_rules.specs.Refusals.{sequenceOk, askedChecks, egressListRefusal, compareRefusal, reliesRefusal, routerRefusal, sequenceRefusal, buffersOk, verdictRefusal, steadyRefusal, hopSetRefusal, tableChecks, countsOk, figuresRefusal}
 use Rattle.call_rules.specs.InOrder.{InOrder}
-use Rattle.call_rules.proofs.InOrder.{asked-in-order, list-in-order, compare-in-order, relies-in-order, verdict-in-order, steady-in-order, hop-set-in-order}
+use Rattle.call_rules.proofs.InOrder.{asked-in-order, list-in-order, compare-in-order, relies-in-order, verdict-in-order, steady-in-order, hop-set-in-order, figures-in-order}
 
 pub few-routers : (plan : List ℕ) → planRefusal plan ≡ 0 → routerCount plan ≤ 64
 few-routers plan h = passed plan h .count .most
@@ -184,6 +184,18 @@ pub hop-set-asked : (plan : List ℕ) (k : ℕ) → hopSetRefusal plan k ≡ 0 �
 hop-set-asked plan k h =
     let g = granted (hop-set-in-order plan k) h in
     record { planOk = g .planOk; list = ltb-true _ _ (g .callOk); few = leb-true _ _ (g .fewOk) }
+
+pub record FiguresAsked (plan ranks routers : List ℕ) : Type 0 where
+  pub planOk : planRefusal plan ≡ 0
+  pub ranksLong : routerCount plan ≤ length ranks
+  pub routersLong : routerCount plan ≤ length routers
+
+pub figures-asked : (plan ranks routers : List ℕ) → figuresRefusal plan ranks routers ≡ 0 → FiguresAsked plan ranks routers
+unfolding countsOk
+figures-asked plan ranks routers h =
+    let g = granted (figures-in-order plan ranks routers) h in
+    let q : (routerCount plan ≤ length ranks) × (routerCount plan ≤ length routers) = simp facts at (g .longOk) in
+    record { planOk = g .planOk; ranksLong = q .0; routersLong = q .1 }
 
 pub table-asked : (I : Instance) (table : List ℕ) → tableChecks I table ≡ 0 → TableIn I table
 unfolding tableChecks

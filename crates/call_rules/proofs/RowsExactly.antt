@@ -22,10 +22,10 @@ use Rattle.net_rules.specs.FromPlan.{instanceOf}
 use Rattle.net_tables.specs.TableBytes.{readRoute, tableOf, tableRule}
 use Rattle.steady_rules.specs.Steady.{groupedRouters, steadyCount}
 use Rattle.net_tables.proofs.TableBytes.{entry-other, entry-itself, entry-none, entry-far, entry-near, table-held}
-use Rattle.call_rules.specs.Refusals.{hasList, hasRouter, sequenceOk, buffersOk, fewGrouped, numbersLong}
+use Rattle.call_rules.specs.Refusals.{hasList, hasRouter, sequenceOk, buffersOk, fewGrouped, numbersLong, countsOk}
 use Rattle.call_rules.specs.InOrder.{InOrder}
 use Rattle.call_rules.specs.RowsExactly.{RowsExactly, BuffersLong, egressAt, senderAt, TableFacts, CallRows}
-use Rattle.call_rules.proofs.InOrder.{list-in-order, compare-in-order, relies-in-order, verdict-in-order, steady-in-order, hop-set-in-order, activate-in-order, run-in-order}
+use Rattle.call_rules.proofs.InOrder.{list-in-order, compare-in-order, relies-in-order, verdict-in-order, steady-in-order, hop-set-in-order, activate-in-order, run-in-order, figures-in-order}
 
 -- no row of a plan's own has the number of a call's
 plan-no-call : (plan : List ℕ) → 8 ≤ planRefusal plan → (planRefusal plan ≡ 13 → ⊥) → ⊥
@@ -243,6 +243,14 @@ module _ (plan : List ℕ) where
   numbers-tested : (k : ℕ) (out : List ℕ) → Tested (2 * steadyCount (instanceOf plan k) ≤ length out) (numbersLong (instanceOf plan k) out)
   numbers-tested k out = record { shown = leb-true _ _; holds = le-leb _ _ }
 
+  counts-tested : (ranks routers : List ℕ) → Tested ((n ≤ length ranks) × (n ≤ length routers)) (countsOk n ranks routers)
+  unfolding countsOk
+  counts-tested ranks routers =
+      record {
+        shown = λ h. let q : (n ≤ length ranks) × (n ≤ length routers) = simp facts at h in q;
+        holds = λ h. both _ _ (le-leb n _ (h .0)) (le-leb n _ (h .1));
+      }
+
   long-tested : (table : List ℕ) → Tested (2 * n ≤ length table) (leb (2 * n) (length table))
   long-tested table = record { shown = leb-true _ _; holds = le-leb _ _ }
 
@@ -265,4 +273,6 @@ module _ (plan : List ℕ) where
             exactly plan _ _ _ _ _ (activate-in-order plan k table w) (router-tested k w) unasked (long-tested table) (rule-tested k table);
         run = λ k acts table.
             exactly plan _ _ _ _ _ (run-in-order plan k table acts) (sequence-tested k acts) unasked (long-tested table) (rule-tested k table);
+        figures = λ ranks routers.
+            exactly plan _ _ _ _ _ (figures-in-order plan ranks routers) unasked unasked (counts-tested ranks routers) (λ _. unasked);
       }

@@ -86,3 +86,11 @@ activateRefusal plan k w table = askedChecks plan (hasList plan k && hasRouter p
 unfoldable pub runRefusal : List ℕ → ℕ → List ℕ → List ℕ → ℕ
 runRefusal plan k acts table =
     askedChecks plan (hasList plan k && sequenceOk acts (routerCount plan)) (tableChecks (instanceOf plan k) table)
+
+-- Row 9 (document 02, "The plan's year in figures"): "The call needs n bytes for the counts by rank and n for those by router". It takes no
+-- list and no router, so that row 8 does not stand for it.
+unfoldable pub countsOk : ℕ → List ℕ → List ℕ → Bool
+countsOk n ranks routers = leb n (length ranks) && leb n (length routers)
+
+unfoldable pub figuresRefusal : List ℕ → List ℕ → List ℕ → ℕ
+figuresRefusal plan ranks routers = planChecks plan (refuse (countsOk (routerCount plan) ranks routers) 9 0)

@@ -14,7 +14,7 @@ use Rattle.route_rules.specs.Instance.{Instance}
 use Rattle.route_rules.specs.Rounds.{ActsBelow}
 use Rattle.net_rules.specs.FromPlan.{instanceOf}
 use Rattle.steady_rules.specs.Steady.{groupedRouters, steadyCount}
-use Rattle.call_rules.specs.Refusals.{egressListRefusal, compareRefusal, reliesRefusal, verdictRefusal, steadyRefusal, hopSetRefusal, activateRefusal, runRefusal}
+use Rattle.call_rules.specs.Refusals.{egressListRefusal, compareRefusal, reliesRefusal, verdictRefusal, steadyRefusal, hopSetRefusal, activateRefusal, runRefusal, figuresRefusal}
 
 -- `number` is the refusal of a call on the plan: row 8 asks that `Asked` holds, row 15 that `Few` does, row 9 that `Long` does, row 10 that
 -- `Rule` does. `Unit` is for a row that does not stand for the call: nothing fails it.
@@ -74,3 +74,7 @@ pub record CallRows (plan : List ℕ) : Type 0 where
   pub run : (k : ℕ) (acts table : List ℕ)
       → RowsExactly plan ((k < listCount plan) × ActsBelow (routerCount plan) acts) Unit (2 * routerCount plan ≤ length table)
       (TableFacts (instanceOf plan k) table) (runRefusal plan k acts table)
+  -- "The call needs n bytes for the counts by rank and n for those by router": it takes neither a list nor a router
+  pub figures : (ranks routers : List ℕ)
+      → RowsExactly plan Unit Unit ((routerCount plan ≤ length ranks) × (routerCount plan ≤ length routers)) Unit
+      (figuresRefusal plan ranks routers)

@@ -8,7 +8,7 @@ use lib.ListN.{take, drop}
 use Rattle.base.specs.Bytes.{bytesOn}
 use Rattle.call_query.specs.EgressList.{egressListStart, egressListSize, ListPartOf}
 use Rattle.checker_examples.specs.Questions.{Question, Answer, reliesIs, hopSetIs, Admitted, Example, example, Hold}
-use Rattle.checker_examples.specs.Questions.{check, size, list, compare, relies, explain, verdict, steady, hopSet, activate, run}
+use Rattle.checker_examples.specs.Questions.{check, size, list, compare, relies, explain, verdict, steady, hopSet, activate, run, figures}
 use Rattle.checker_examples.proofs.Questions.{answerTo}
 
 -- a part of a slice starts at one place alone
@@ -31,6 +31,7 @@ only-answer (steady k r numbers c) = cc
 only-answer (hopSet k r c) = ap hopSetIs (c .answer)
 only-answer (activate k w table r after c) = cc
 only-answer (run k acts limit table r after c) = cc
+only-answer (figures r ranks routers c) = cc
 
 abbrev pub worked : Example → Answer
 worked (example plan question answer) = answerTo plan question

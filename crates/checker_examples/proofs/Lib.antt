@@ -11,3 +11,4 @@ pub mod WideExamples
 pub mod NobodyExamples
 pub mod HopExamples
 pub mod ExplainExamples
+pub mod FiguresExamples

@@ -28,7 +28,7 @@ use Rattle.graph_ranks.specs.Rank.{rankOver, ranksByChains, rank}
 use Rattle.graph_cycle.specs.Cycle.{start, next, walk, metAgainAt, metFirstAt, repeatedPart, cycleIn, cycle}
 use Rattle.route_theorems.specs.Settled.{chooseAll, chosenAfter, settledTable}
 use Rattle.net_tables.specs.TableBytes.{readRoute, tableOf, tableBytes, activateBytes, runBytes}
-use Rattle.call_rules.specs.Refusals.{sequenceOk, egressListRefusal, compareRefusal, reliesRefusal, buffersOk, verdictRefusal, steadyChecks, steadyRefusal, hopSetRefusal, tableChecks, activateRefusal, runRefusal}
+use Rattle.call_rules.specs.Refusals.{sequenceOk, egressListRefusal, compareRefusal, reliesRefusal, buffersOk, verdictRefusal, steadyChecks, steadyRefusal, hopSetRefusal, tableChecks, activateRefusal, runRefusal, countsOk, figuresRefusal}
 use Rattle.route_explain_rules.specs.Explained.{againstOwn, byOffer, onReflector, onClient, explained}
 use Rattle.route_explain_rules.specs.Values.{bare, valuesOf}
 use Rattle.route_explain_rules.specs.declared.explanation.Explanation.the-variants as explanations
@@ -47,10 +47,12 @@ use Rattle.steady_rules.specs.Steady.{steadyNumbers}
 use Rattle.call_steady.specs.Steady.{numberBytes, steadyAnswer, numbersAfter}
 use Rattle.hopset_rules.specs.HopSet.{serves, setOf, reflectorsIn, servesBy, lowestBy, leastSize, hopSet}
 use Rattle.call_hopset.specs.HopSet.{hopSetAnswer}
+use Rattle.figures_rules.specs.Figures.{stableLists, suspectLists, highestStable, stableWith, groupedLists, figuresOf}
+use Rattle.call_figures.specs.Figures.{rankCounts, routerCounts, rankCountsLeft, routerCountsLeft, figuresAnswer, rankCountsAfter, routerCountsAfter}
 use Rattle.call_run.specs.Activate.{activateTable}
 use Rattle.call_run.specs.Run.{runApplied, runRounds, runExhausted, runTable}
-use Rattle.checker_examples.specs.Questions.{Question, checkAsked, sizeAsked, listAsked, compareToldAsked, reliesAsked, explainAsked, verdictAsked, steadyAsked, hopSetAsked, activateAsked, runAsked}
-use Rattle.checker_examples.specs.Questions.{Answer, checkIs, sizeIs, listIs, compareIs, reliesIs, explainIs, verdictIs, steadyIs, hopSetIs, activateIs, runIs}
+use Rattle.checker_examples.specs.Questions.{Question, checkAsked, sizeAsked, listAsked, compareToldAsked, reliesAsked, explainAsked, verdictAsked, steadyAsked, hopSetAsked, activateAsked, runAsked, figuresAsked}
+use Rattle.checker_examples.specs.Questions.{Answer, checkIs, sizeIs, listIs, compareIs, reliesIs, explainIs, verdictIs, steadyIs, hopSetIs, activateIs, runIs, figuresIs}
 
 -- the answer, by those definitions
 unfoldable pub answerTo : List ℕ → Question → Answer
@@ -84,6 +86,9 @@ answerTo plan (runAsked k acts limit table) =
     let number = runRefusal plan k acts table in
     runIs number (runApplied number acts limit) (runRounds number plan acts limit) (runExhausted number acts limit)
     (runTable plan k acts limit table)
+answerTo plan (figuresAsked ranks routers) =
+    let number = figuresRefusal plan ranks routers in
+    figuresIs (figuresAnswer number plan) (rankCountsAfter number plan ranks) (routerCountsAfter number plan routers)
 
 -- to unfold this is to unfold them all
 unfoldable pub allRules : List ℕ → Question → Answer
@@ -95,6 +100,8 @@ unfolding
     steadyRefusal steadyChecks steadyAnswer numberBytes numbersAfter joined
     numbersWhere solves carried completed solutions overruled keepsOwn steadyNumbers
     hopSetRefusal hopSetAnswer serves setOf reflectorsIn servesBy lowestBy leastSize hopSet
+    countsOk figuresRefusal stableLists suspectLists highestStable stableWith groupedLists figuresOf
+    rankCounts routerCounts rankCountsLeft routerCountsLeft figuresAnswer rankCountsAfter routerCountsAfter
     activateTable runApplied runRounds runExhausted runTable
     buffersOk tableChecks sequenceOk readRoute tableOf tableBytes activateBytes runBytes chooseAll chosenAfter settledTable
     start next walk metAgainAt metFirstAt repeatedPart cycleIn cycle rankOver ranksByChains rank together label stable grouped closing acted roundsFrom rounds

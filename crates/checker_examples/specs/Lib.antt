@@ -10,3 +10,4 @@ pub mod WideExamples
 pub mod NobodyExamples
 pub mod HopExamples
 pub mod ExplainExamples
+pub mod FiguresExamples

@@ -26,6 +26,8 @@ use Rattle.call_steady.specs.declared.steady.SteadyAnswer.{SteadyAnswer}
 use Rattle.call_steady.specs.Steady.{SteadyCall}
 use Rattle.call_hopset.specs.declared.hop_set.HopSetAnswer.{HopSetAnswer}
 use Rattle.call_hopset.specs.HopSet.{HopSetCall}
+use Rattle.call_figures.specs.declared.figures.FiguresAnswer.{FiguresAnswer}
+use Rattle.call_figures.specs.Figures.{FiguresCall}
 use Rattle.call_run.specs.Activate.{Activates}
 use Rattle.call_run.specs.declared.run.RunAnswer.{RunAnswer}
 use Rattle.call_run.specs.Run.{Runs}
@@ -43,6 +45,7 @@ pub data Question : Type 0 where
   hopSetAsked : (list : ℕ) → Question
   activateAsked : (list router : ℕ) (table : List ℕ) → Question
   runAsked : (list : ℕ) (sequence : List ℕ) (limit : ℕ) (table : List ℕ) → Question
+  figuresAsked : (ranks routers : List ℕ) → Question
 
 -- a comparison of two routes that their own egress routers told
 abbrev pub compareAsked : (router first second : ℕ) → Question
@@ -61,6 +64,7 @@ pub data Answer : Type 0 where
   hopSetIs : (answer : HopSetAnswer) → Answer
   activateIs : (refusal : ℕ) (table : List ℕ) → Answer
   runIs : (refusal applied rounds : ℕ) (exhausted : Bool) (table : List ℕ) → Answer
+  figuresIs : (answer : FiguresAnswer) (ranks routers : List ℕ) → Answer
 
 -- what the contract of the call admits as its answer; a list's numbers are `part`, a part of the caller's own slice
 pub data Admitted (plan : List ℕ) : Question → Answer → Type 0 where
@@ -83,6 +87,8 @@ pub data Admitted (plan : List ℕ) : Question → Answer → Type 0 where
       → Admitted plan (activateAsked k w table) (activateIs r after)
   run : (k : ℕ) (acts : List ℕ) (limit : ℕ) (table : List ℕ) (r : RunAnswer) (after : List ℕ) → Runs plan k acts limit table r after
       → Admitted plan (runAsked k acts limit table) (runIs (r .refused) (r .applied) (r .rounds) (r .exhausted) after)
+  figures : (r : FiguresAnswer) (ranks routers : Lent (List ℕ)) → FiguresCall plan r ranks routers
+      → Admitted plan (figuresAsked (ranks .before) (routers .before)) (figuresIs r (ranks .after) (routers .after))
 
 -- a plan, a question and the answer that the papers give
 pub data Example : Type 0 where

@@ -8,7 +8,9 @@ use lib.Dec.{ltb}
 use lib.ListN.{length, take, drop}
 use lib.Seq.{take-at}
 use borrow.Author.Tests.{ltb-true}
+use Rattle.base.specs.Tab.{tab}
 use Rattle.base.proofs.Numbers.{both-left}
+use Rattle.base.proofs.Tab.{tab-cong}
 use Rattle.plan_contents.specs.Header.{routerCount}
 use Rattle.plan_rules.specs.Distances.{TwoOrFour}
 use Rattle.plan_rules.specs.Lists.{listCountIn}
@@ -32,7 +34,7 @@ use Rattle.net_rules.specs.FromPlan.{instanceOf}
 use Rattle.net_rules.proofs.FromConverted.{converted-instance}
 use Rattle.net_tables.specs.TableBytes.{activateBytes, runBytes}
 use Rattle.net_verdict.specs.Assessed.{found, labelsLeft, ranksLeft, tableLeft, cycleLeft}
-use Rattle.call_rules.specs.Refusals.{sequenceOk, askedChecks, egressListRefusal, compareRefusal, reliesRefusal, verdictRefusal, buffersOk, steadyChecks, steadyRefusal, fewGrouped, hopSetRefusal, tableChecks, activateRefusal, runRefusal}
+use Rattle.call_rules.specs.Refusals.{sequenceOk, askedChecks, egressListRefusal, compareRefusal, reliesRefusal, verdictRefusal, buffersOk, steadyChecks, steadyRefusal, fewGrouped, hopSetRefusal, tableChecks, activateRefusal, runRefusal, countsOk, figuresRefusal}
 use Rattle.call_rules.proofs.Granted.{list-asked, relies-asked, verdict-asked, steady-asked, hop-set-asked}
 use Rattle.call_query.specs.declared.size.SizeAnswer.{SizeAnswer}
 use Rattle.call_query.specs.declared.relies.ReliesAnswer.the-variants as reliances
@@ -53,6 +55,11 @@ use Rattle.call_hopset.specs.declared.hop_set.HopSetAnswer.the-variants as sets
 use Rattle.call_hopset.specs.HopSet.{hopSetAnswer}
 use Rattle.hopset_rules.specs.HopSet.{hopSet}
 use Rattle.call_steady.specs.Steady.{numberBytes, steadyAnswer, numbersAfter, SteadyCall}
+use Rattle.figures_rules.specs.Figures.{stableWith, groupedLists, figuresOf}
+use Rattle.figures_rules.proofs.SameLists.{figures-same, ranks-same, routers-same}
+use Rattle.call_figures.specs.declared.figures.FiguresAnswer.{FiguresAnswer}
+use Rattle.call_figures.specs.declared.figures.FiguresAnswer.the-variants as figures
+use Rattle.call_figures.specs.Figures.{planFigures, rankCounts, routerCounts, rankCountsLeft, routerCountsLeft, figuresAnswer, rankCountsAfter, routerCountsAfter, FiguresCall}
 use Rattle.call_run.specs.declared.run.RunAnswer.{RunAnswer}
 use Rattle.call_run.specs.Activate.{activateTable}
 use Rattle.call_run.specs.Run.{runApplied, runRounds, runExhausted, runTable, Runs}
@@ -190,6 +197,39 @@ module _ (plan result : List ℕ) (ok : planRefusal plan ≡ 0) (ok′ : planRef
             ∙ sym (s .written),
       )
 
+  -- the figures, of the same networks list by list
+  figures-refusal : (a b : List ℕ) → figuresRefusal result a b ≡ figuresRefusal plan a b
+  unfolding figuresRefusal
+  figures-refusal a b =
+      plan-passes result _ ok′ ∙ ap (λ n. refuse (countsOk n a b) 9 0) count ∙ sym (plan-passes plan _ ok)
+
+  figures-counted : planFigures result ≡ planFigures plan
+  figures-counted = ap (figuresOf (instanceOf result)) lists ∙ figures-same (instanceOf result) (instanceOf plan) (listCount plan) network
+
+  ranks-counted : (a : List ℕ) → rankCountsLeft result a ≡ rankCountsLeft plan a
+  unfolding rankCountsLeft rankCounts
+  ranks-counted a =
+      ap₂ (λ n m. tab (stableWith (instanceOf result) m) n ++ drop n a) count lists
+      ∙ ap (λ t. t ++ drop (routerCount plan) a)
+      (tab-cong _ _ (routerCount plan) (λ r l. ranks-same (instanceOf result) (instanceOf plan) (listCount plan) network r))
+
+  routers-counted : (b : List ℕ) → routerCountsLeft result b ≡ routerCountsLeft plan b
+  unfolding routerCountsLeft routerCounts
+  routers-counted b =
+      ap₂ (λ n m. tab (groupedLists (instanceOf result) m) n ++ drop n b) count lists
+      ∙ ap (λ t. t ++ drop (routerCount plan) b)
+      (tab-cong _ _ (routerCount plan) (λ w l. routers-same (instanceOf result) (instanceOf plan) (listCount plan) network w))
+
+  same-figures : (ranks routers : List ℕ) (r r′ : FiguresAnswer) (a b a′ b′ : List ℕ) → FiguresCall plan r (left ranks a) (left routers b)
+      → FiguresCall result r′ (left ranks a′) (left routers b′) → (r′ ≡ r) × (a′ ≡ a) × (b′ ≡ b)
+  unfolding figuresAnswer rankCountsAfter routerCountsAfter
+  same-figures ranks routers r r′ a b a′ b′ s s′ =
+      let same = figures-refusal ranks routers in (
+        s′ .answer ∙ ap₂ (λ x f. unlessRefused x (figures.Refused x) (figures.Counted f)) same figures-counted ∙ sym (s .answer),
+        s′ .byRank ∙ ap₂ (λ x l. unlessRefused x ranks l) same (ranks-counted ranks) ∙ sym (s .byRank),
+        s′ .byRouter ∙ ap₂ (λ x l. unlessRefused x routers l) same (routers-counted routers) ∙ sym (s .byRouter),
+      )
+
   pub same-calls : SameCalls plan result
   unfolding relied compared hopSetAnswer activateTable
   same-calls =
@@ -220,6 +260,7 @@ module _ (plan result : List ℕ) (ok : planRefusal plan ≡ 0) (ok′ : planRef
             s′ .answer
             ∙ by-network k _ _ sets.Refused (λ I. sets.Named (hopSet I)) (hop-set-refusal k) (λ z. hop-set-asked plan k z .list)
             ∙ sym (s .answer);
+        figures = same-figures;
         activate =
             λ k w table r r′ after after′ s s′. (
               s′ .number ∙ activate-refusal k w table ∙ sym (s .number),

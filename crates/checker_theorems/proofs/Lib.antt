@@ -20,3 +20,4 @@ pub mod RefusedCalls
 pub mod SteppedPlans
 pub mod HopSets
 pub mod HopSetsExamples
+pub mod Figures

@@ -8,6 +8,7 @@ use Rattle.call_query.specs.Size.{sizeRouters, sizeLists}
 use Rattle.call_verdict.specs.Verdict.{verdictAnswer, labelsAfter, ranksAfter, tableAfter, cycleAfter}
 use Rattle.call_steady.specs.Steady.{steadyAnswer, numbersAfter}
 use Rattle.call_hopset.specs.HopSet.{hopSetAnswer}
+use Rattle.call_figures.specs.Figures.{figuresAnswer, rankCountsAfter, routerCountsAfter}
 use Rattle.call_run.specs.Activate.{activateTable}
 use Rattle.call_run.specs.Run.{runApplied, runRounds, runExhausted, runTable}
 use Rattle.call_convert.specs.Convert.{convertLength, convertBuffer}
@@ -18,6 +19,7 @@ pub refused-calls : RefusedCalls
 unfolding
     egressListStart egressListSize sizeRouters sizeLists verdictAnswer labelsAfter ranksAfter tableAfter cycleAfter
     steadyAnswer numbersAfter hopSetAnswer activateTable runApplied runRounds runExhausted runTable convertLength convertBuffer
+    figuresAnswer rankCountsAfter routerCountsAfter
 refused-calls =
     record {
       list = λ plan k part s ne. (
@@ -44,6 +46,15 @@ refused-calls =
       );
       steady = λ plan k r out s ne. (s .answer ∙ when-refused _ _ _ ne, s .counted ∙ when-refused _ _ _ ne, s .written ∙ when-refused _ _ _ ne);
       hopSet = λ plan k r s ne. (s .answer ∙ when-refused _ _ _ ne, s .named ∙ when-refused _ _ _ ne);
+      figures = λ plan r ranks routers s ne. (
+        s .answer ∙ when-refused _ _ _ ne,
+        s .stable ∙ when-refused _ _ _ ne,
+        s .suspect ∙ when-refused _ _ _ ne,
+        s .hasHighest ∙ when-refused _ _ _ ne,
+        s .highest ∙ when-refused _ _ _ ne,
+        s .byRank ∙ when-refused _ _ _ ne,
+        s .byRouter ∙ when-refused _ _ _ ne,
+      );
       activate = λ plan k w table r after s ne. (s .number, s .bytes ∙ when-refused _ _ _ ne);
       run = λ plan k acts limit table r after s ne. (
         s .number,

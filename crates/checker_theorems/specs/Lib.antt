@@ -15,3 +15,4 @@ pub mod DelayedExamples
 pub mod RefusedCalls
 pub mod HopSets
 pub mod HopSetsExamples
+pub mod Figures

@@ -11,7 +11,7 @@ use denote.Ref.{RefT, ptr, now}
 use Rattle.base.specs.Bytes.{bytesOn}
 use Rattle.base.specs.Lent.{Lent}
 use Rattle.plan_rules.specs.Refusal.{planRefusal}
-use Rattle.call_rules.specs.Refusals.{egressListRefusal, compareRefusal, reliesRefusal, verdictRefusal, steadyRefusal, hopSetRefusal, activateRefusal, runRefusal}
+use Rattle.call_rules.specs.Refusals.{egressListRefusal, compareRefusal, reliesRefusal, verdictRefusal, steadyRefusal, hopSetRefusal, activateRefusal, runRefusal, figuresRefusal}
 use Rattle.call_compare.specs.declared.compare.CompareAnswer.{CompareAnswer}
 use Rattle.call_compare.specs.declared.compare.CompareAnswer.the-variants.{Refused}
 use Rattle.call_query.specs.declared.relies.ReliesAnswer.{ReliesAnswer}
@@ -35,6 +35,9 @@ use Rattle.route_explain_rules.specs.declared.explanation.Explanation.{Explanat
 use Rattle.route_explain_rules.specs.declared.explanation.Explanation.the-variants as explanations
 use Rattle.route_explain_rules.specs.Values.{bare, valuesOf}
 use Rattle.call_explain.specs.Explain.{Explains}
+use Rattle.call_figures.specs.declared.figures.FiguresAnswer.{FiguresAnswer}
+use Rattle.call_figures.specs.declared.figures.FiguresAnswer.the-variants as reports
+use Rattle.call_figures.specs.Figures.{figuresStable, figuresSuspect, figuresHasHighest, figuresHighest, FiguresCall}
 use Rattle.call_run.specs.Activate.{Activates}
 use Rattle.call_run.specs.Run.{Runs}
 use Rattle.plan_rules.specs.Converted.{widenRefusal, narrowRefusal}
@@ -67,6 +70,12 @@ pub record RefusedCalls : Type 0 where
       → (r ≡ steadies.Refused (steadyRefusal plan k (out .before))) × (countOf r ≡ 0) × (out .after ≡ out .before)
   pub hopSet : (plan : List ℕ) (k : ℕ) (r : HopSetAnswer) → HopSetCall plan k r → (hopSetRefusal plan k ≡ 0 → ⊥)
       → (r ≡ sets.Refused (hopSetRefusal plan k)) × (setNamed r ≡ 0)
+  -- both lent buffers too
+  pub figures : (plan : List ℕ) (r : FiguresAnswer) (ranks routers : Lent (List ℕ)) → FiguresCall plan r ranks routers
+      → (figuresRefusal plan (ranks .before) (routers .before) ≡ 0 → ⊥)
+      → (r ≡ reports.Refused (figuresRefusal plan (ranks .before) (routers .before)))
+      × (figuresStable r ≡ 0) × (figuresSuspect r ≡ 0) × (figuresHasHighest r ≡ false) × (figuresHighest r ≡ 0)
+      × (ranks .after ≡ ranks .before) × (routers .after ≡ routers .before)
   pub activate : (plan : List ℕ) (k w : ℕ) (table : List ℕ) (r : ℕ) (after : List ℕ) → Activates plan k w table r after
       → (activateRefusal plan k w table ≡ 0 → ⊥) → (r ≡ activateRefusal plan k w table) × (after ≡ table)
   pub run : (plan : List ℕ) (k : ℕ) (acts : List ℕ) (limit : ℕ) (table : List ℕ) (r : RunAnswer) (after : List ℕ)

@@ -8,6 +8,7 @@ use plan_read::parts::part;
 use plan_read::refusal::CheckedPlan;
 use plan_routers::CLIENT;
 ghost use mathlib.Core.Path.{_≡_};
+ghost use mathlib.Core.List.{List};
 ghost use Prim.Native.Nat.{ℕ, _*_, _≤_, _<_};
 ghost use lib.Dec.{eqb};
 ghost use lib.ListN.{length, getD, replicate};
@@ -121,6 +122,23 @@ pub fn open_plan(plan: &[u8], checked: CheckedPlan, list: usize, rows: &mut [u64
         reflectors: roles.reflectors,
         skips: special.skips,
         hop: special.hop,
+        listed,
+    }
+}
+
+// The same plan opened with another of its lists: only who is listed is read anew.
+pub fn with_list(plan: &[u8], checked: CheckedPlan, net: Network, other: usize) -> Network
+    requires { ⌜ Accepted (now plan) checked × (other < listCount (now plan)) ⌝ }
+    ensures { λ r. ⌜ ((k : ℕ) (rows distances : List ℕ) → Opened (now (plan .entry)) k net rows distances
+        → Opened (now (plan .entry)) other r rows distances) ⌝ }
+{
+    let listed = listed_word(list_numbers(plan, checked, other));
+    Network {
+        n: net.n,
+        width: net.width,
+        reflectors: net.reflectors,
+        skips: net.skips,
+        hop: net.hop,
         listed,
     }
 }

@@ -7,7 +7,7 @@ ghost use Rattle.plan_rules.specs.Refusal.{planRefusal};
 ghost use Rattle.call_run.specs.Activate.{Activates};
 ghost use Rattle.links_rules.specs.Distances.{DistancesCall};
 ghost use Rattle.c_rules.specs.Exports.{SizeExport, ListExport, CompareExport, ReliesExport, ExplainExport};
-ghost use Rattle.c_rules.specs.Exports.{VerdictExport, SteadyExport, HopSetExport, RunExport, WidenExport, NarrowExport};
+ghost use Rattle.c_rules.specs.Exports.{VerdictExport, SteadyExport, HopSetExport, RunExport, WidenExport, NarrowExport, FiguresExport};
 
 #[no_mangle]
 pub extern "C" fn rrp_check(plan: &[u8]) -> u8
@@ -130,6 +130,30 @@ pub extern "C" fn rrp_hop_set(plan: &[u8], list: usize, set: &mut u64) -> u8
     ensures { λ r. ⌜ HopSetExport (now (plan .entry)) list r (lent set) ⌝ }
 {
     c_query::hop_set(plan, list, set)
+}
+
+#[no_mangle]
+pub extern "C" fn rrp_figures(
+    plan: &[u8],
+    by_rank: &mut [u8],
+    by_router: &mut [u8],
+    stable: &mut u64,
+    suspect: &mut u64,
+    has_highest: &mut u8,
+    highest: &mut u64,
+) -> u8
+    ensures { λ r. ⌜ FiguresExport (now (plan .entry)) r (lent «by_rank») (lent «by_router»)
+        (lent stable) (lent suspect) (lent «has_highest») (lent highest) ⌝ }
+{
+    c_figures::figures(
+        plan,
+        by_rank,
+        by_router,
+        stable,
+        suspect,
+        has_highest,
+        highest,
+    )
 }
 
 #[no_mangle]

@@ -3,24 +3,16 @@ own."""
 
 from __future__ import annotations
 
-import sys
 from argparse import ArgumentParser, Namespace
 from collections import Counter
-from collections.abc import Iterable, Iterator
-from time import monotonic
 
-from ..auditing import CHANGED, FALSE, KINDS, LINES, PLAN_SUFFIXES, RIGHT, STRAY, UNFILED
+from ..auditing import CHANGED, FALSE, KINDS, LINES, RIGHT, STRAY, UNFILED
 from ..auditing import UNREADABLE, Finding, find, judge_all
-from ..errors import RrpError
 from ..filing import SUFFIX
 from ..output import write_json
+from ..plan_folders import NAMES, no_plan
+from ..progress import with_progress
 from ..verdict_files import digest_of, lines_of
-
-_NAMES = " or ".join(PLAN_SUFFIXES)
-
-#: The progress bar: its width, and the seconds from one showing to the next.
-_WIDTH = 30
-_SECONDS = 0.1
 
 
 def arguments(parser: ArgumentParser) -> None:
@@ -29,7 +21,7 @@ def arguments(parser: ArgumentParser) -> None:
     lines = "take a verdict of lines alone for right: those of the verdict program, or an older rrp"
     parser.add_argument("--lines", action="store_true", help=lines)
     parser.epilog = (
-        f"A plan is a file whose name ends in {_NAMES}, or that has a verdict beside it: a file of "
+        f"A plan is a file whose name ends in {NAMES}, or that has a verdict beside it: a file of "
         f"its name with {SUFFIX} added, as rrp file writes it. A verdict is right; changed, if the "
         "plan is another than the one filed, or its SHA-256 was altered, and every verdict, rank "
         "and route is the same; of "
@@ -43,8 +35,8 @@ def run(options: Namespace) -> int:
     """Judges all plans, and says what is not right and how much is."""
     found = find(options.directory)
     if not found.plans and not found.findings:
-        raise RrpError(f"{options.directory} has no plan: no name there ends in {_NAMES}")
-    judged = _with_progress(judge_all(found.plans), len(found.plans))
+        raise no_plan(options.directory)
+    judged = with_progress(judge_all(found.plans), len(found.plans), _is_wrong, "not right")
     findings = sorted([*found.findings, *judged], key=lambda finding: finding.path)
     sound = {RIGHT, LINES} if options.lines else {RIGHT}
     told = [finding for finding in findings if finding.kind not in sound]
@@ -105,19 +97,5 @@ def _values(finding: Finding) -> dict[str, object]:
     return values
 
 
-def _with_progress(findings: Iterable[Finding], total: int) -> Iterator[Finding]:
-    """The findings, with a bar while they come if standard error is a terminal."""
-    if not sys.stderr.isatty():
-        yield from findings
-        return
-    shown, wrong = 0.0, 0
-    for done, finding in enumerate(findings, 1):
-        wrong += finding.kind != RIGHT
-        if monotonic() - shown >= _SECONDS:
-            shown = monotonic()
-            bar = f"[{'#' * (_WIDTH * done // total):.<{_WIDTH}}]"
-            sys.stderr.write(f"\r{bar} {done:,} of {total:,} plans, {wrong:,} not right")
-            sys.stderr.flush()
-        yield finding
-    sys.stderr.write("\r\x1b[K")
-    sys.stderr.flush()
+def _is_wrong(finding: Finding) -> bool:
+    return finding.kind != RIGHT

@@ -72,6 +72,17 @@ class TextErrors(RrpError):
         return [_values(problem) for problem in self.problems]
 
 
+def first_problem(failure: RrpError) -> str | None:
+    """That a plan's text has errors, and the first of them, in one line. None where that is not
+    what failed."""
+    if not isinstance(failure, TextErrors):
+        return None
+    count, first = len(failure.problems), failure.problems[0]
+    errors = "1 error" if count == 1 else f"{count} errors"
+    where = f"line {first.word.line.number}: {cut_names(first.message)}"
+    return f"the plan's text has {errors}, as in {where}"
+
+
 def _values(problem: Problem) -> dict[str, object]:
     word = problem.word
     return {

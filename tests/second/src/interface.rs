@@ -177,6 +177,31 @@ pub struct VerdictFields {
     pub size: u64,
 }
 
+/// What the figures of a plan give beside the counts.
+#[derive(Clone, Copy)]
+pub struct FigureFields {
+    pub stable: Lent<u64>,
+    pub suspect: Lent<u64>,
+    /// 1 if some list is stable, else 0.
+    pub has_highest: Flag,
+    /// The highest rank among the stable lists; 0 if there is none.
+    pub highest: Lent<u64>,
+}
+
+impl FigureFields {
+    pub fn new([stable, suspect]: [u64; 2], has_highest: u8, highest: u64) -> Self {
+        let [stable, suspect, highest] = [stable, suspect, highest].map(Lent::new);
+        FigureFields { stable, suspect, has_highest: Flag::new(has_highest), highest }
+    }
+
+    pub fn put(&mut self, [stable, suspect]: [u64; 2], highest: Option<u64>) {
+        self.stable.value = stable;
+        self.suspect.value = suspect;
+        self.has_highest.value = u8::from(highest.is_some());
+        self.highest.value = highest.unwrap_or(0);
+    }
+}
+
 #[derive(Clone, Copy)]
 pub struct RunFields {
     pub applied: u64,
@@ -215,6 +240,10 @@ pub trait Checker {
     /// Gives the number of a smallest set of routers that makes the list stable once they have
     /// the hop step.
     fn hop_set(&mut self, plan: &[u8], list: usize, set: &mut Lent<u64>) -> u8;
+
+    /// Writes how many stable lists had each rank as their highest, and for each router in how
+    /// many lists it was in a group of two or more.
+    fn figures(&mut self, plan: &[u8], by_rank: &mut [u8], by_router: &mut [u8], fields: &mut FigureFields) -> u8;
 
     fn activate(&mut self, plan: &[u8], list: usize, router: usize, table: &mut [u8]) -> u8;
 

@@ -3,8 +3,8 @@
 
 use crate::harness::plans::small_plans::star;
 use crate::interface::{
-    Acts, Checker, CompareFields, ExplainFields, Handed, Lent, ListFields, RunFields, SizeFields, VerdictBuffers,
-    VerdictFields,
+    Acts, Checker, CompareFields, ExplainFields, FigureFields, Handed, Lent, ListFields, RunFields, SizeFields,
+    VerdictBuffers, VerdictFields,
 };
 use crate::oracle::plan::STEPPING;
 use std::ffi::{c_char, c_int, c_void, CStr, CString};
@@ -103,6 +103,19 @@ functions! {
 
     fn rrp_hop_set(plan: *const u8, plan_len: usize, list: usize, set: *mut u64);
 
+    fn rrp_figures(
+        plan: *const u8,
+        plan_len: usize,
+        by_rank: *mut u8,
+        by_rank_len: usize,
+        by_router: *mut u8,
+        by_router_len: usize,
+        stable: *mut u64,
+        suspect: *mut u64,
+        has_highest: *mut u8,
+        highest: *mut u64,
+    );
+
     fn rrp_activate(plan: *const u8, plan_len: usize, list: usize, router: usize, table: *mut u8, table_len: usize);
 
     fn rrp_run(
@@ -170,6 +183,11 @@ impl Library {
     /// Whether the library names smallest sets of routers to give the hop step.
     pub fn names_hop_sets(&self) -> bool {
         self.rrp_hop_set.is_some()
+    }
+
+    /// Whether the library gives the figures of a plan.
+    pub fn gives_figures(&self) -> bool {
+        self.rrp_figures.is_some()
     }
 }
 
@@ -264,6 +282,24 @@ impl Checker for Library {
     fn hop_set(&mut self, plan: &[u8], list: usize, set: &mut Lent<u64>) -> u8 {
         // SAFETY: as above.
         unsafe { self.rrp_hop_set.expect(MISSING)(plan.as_ptr(), plan.len(), list, &mut set.value) }
+    }
+
+    fn figures(&mut self, plan: &[u8], by_rank: &mut [u8], by_router: &mut [u8], fields: &mut FigureFields) -> u8 {
+        // SAFETY: as above; the two buffers do not overlap.
+        unsafe {
+            self.rrp_figures.expect(MISSING)(
+                plan.as_ptr(),
+                plan.len(),
+                by_rank.as_mut_ptr(),
+                by_rank.len(),
+                by_router.as_mut_ptr(),
+                by_router.len(),
+                &mut fields.stable.value,
+                &mut fields.suspect.value,
+                &mut fields.has_highest.value,
+                &mut fields.highest.value,
+            )
+        }
     }
 
     fn activate(&mut self, plan: &[u8], list: usize, router: usize, table: &mut [u8]) -> u8 {

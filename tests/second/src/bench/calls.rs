@@ -4,7 +4,7 @@ use crate::harness::comparison::arguments;
 use crate::harness::plans::draft::Draft;
 use crate::harness::random::Random;
 use crate::interface::{
-    Acts, Checker, CompareFields, ExplainFields, Flag, Handed, Lent, ListFields, RunFields, SizeFields,
+    Acts, Checker, CompareFields, ExplainFields, FigureFields, Flag, Handed, Lent, ListFields, RunFields, SizeFields,
     VerdictBuffers, VerdictFields,
 };
 use crate::oracle::mark::Mark;
@@ -50,10 +50,15 @@ pub fn explain(checker: &mut dyn Checker, plan: &[u8]) {
 
 /// A verdict; says whether it is stable.
 pub fn verdict(checker: &mut dyn Checker, plan: &[u8]) -> bool {
+    verdict_of(checker, plan, 0)
+}
+
+/// .. of one list.
+pub fn verdict_of(checker: &mut dyn Checker, plan: &[u8], list: usize) -> bool {
     let (mut labels, mut ranks, mut table, mut cycle) = ([0; 64], [0; 64], [0; 128], [0; 64]);
     let lent = VerdictBuffers { labels: &mut labels, ranks: &mut ranks, table: &mut table, cycle: &mut cycle };
     let mut fields = VerdictFields { stable: Flag::new(0), size: 0 };
-    assert_eq!(checker.verdict(black_box(plan), 0, lent, &mut fields), 0);
+    assert_eq!(checker.verdict(black_box(plan), list, lent, &mut fields), 0);
     black_box((labels, ranks, table, cycle, fields.size));
     fields.stable.value == 1
 }
@@ -69,6 +74,13 @@ pub fn hop_set(checker: &mut dyn Checker, plan: &[u8]) {
     let mut set = Lent::new(0);
     assert_eq!(checker.hop_set(black_box(plan), 0, &mut set), 0);
     black_box(set.value);
+}
+
+pub fn figures(checker: &mut dyn Checker, plan: &[u8]) {
+    let (mut by_rank, mut by_router) = ([0; 64], [0; 64]);
+    let mut fields = FigureFields::new([0; 2], 0, 0);
+    assert_eq!(checker.figures(black_box(plan), &mut by_rank, &mut by_router, &mut fields), 0);
+    black_box((by_rank, by_router, fields.stable.value, fields.suspect.value, fields.highest.value));
 }
 
 pub fn activate(checker: &mut dyn Checker, plan: &[u8], table: &[u8]) {

@@ -4,7 +4,8 @@
 //! while slows both sides.
 
 use super::calls::{
-    activate, check, compare, convert, distances, explain, hop_set, list, relies, size, steady, verdict, Run,
+    activate, check, compare, convert, distances, explain, figures, hop_set, list, relies, size, steady, verdict,
+    verdict_of, Run,
 };
 use super::shapes::{full_sheet, one_group, ring_and_chords, threes_and_others, two_parts, Shape, SIZES};
 use super::tight::Tight;
@@ -17,6 +18,7 @@ use crate::harness::random::Random;
 use crate::interface::Checker;
 use crate::library::Library;
 use crate::oracle::mark::{Mark, MARKS};
+use crate::oracle::plan::{CLIENT, MOST_LISTS};
 use std::hint::black_box;
 
 /// The activations of a run, unless its line says another number.
@@ -225,6 +227,23 @@ fn time_hop_sets(bench: &Bench) {
     bench.line("hop set, 12 in one group, n = 64", 1, |checker| hop_set(checker, &plan));
 }
 
+/// The figures of a plan of 64 lists, every fifth client in each from another one on, and so many
+/// verdicts beside them.
+fn time_figures(bench: &Bench, random: &mut Random) {
+    let mut draft = Shape::mesh(64).draft(random, false);
+    let first = draft.roles.iter().filter(|role| **role != CLIENT).count();
+    draft.lists = (0..MOST_LISTS).map(|list| (first + list % 5..64).step_by(5 + list / 5).collect()).collect();
+    let plan = draft.bytes();
+    let bench = Bench { other: bench.other.filter(Library::gives_figures), ..*bench };
+    bench.line("figures, 64 lists, n = 64", 1, |checker| figures(checker, &plan));
+    let verdicts = |checker: &mut dyn Checker| (0..MOST_LISTS).for_each(|list| _ = verdict_of(checker, &plan, list));
+    bench.line("64 verdicts beside figures, n = 64", 1, verdicts);
+    bench.growth("figures over 64 verdicts, n = 64", [&false, &true], |&are_figures, checker| match are_figures {
+        true => figures(checker, &plan),
+        false => verdicts(checker),
+    });
+}
+
 /// The same plans of either mark, and how many times as long those of RRP2 take.
 fn time_widths(bench: &Bench, random: &mut Random) {
     for n in [8, 64] {
@@ -271,6 +290,7 @@ pub fn bench(word: &str, other: Option<Library>) {
     time_skips(&bench, &mut random);
     time_steps(&bench, &mut random);
     time_hop_sets(&bench);
+    time_figures(&bench, &mut random);
     time_widths(&bench, &mut random);
     time_conversions(&bench, &mut random);
     time_steady(&bench, &mut random);

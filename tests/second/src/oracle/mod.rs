@@ -4,6 +4,7 @@
 
 mod convert;
 pub mod delayed;
+pub mod figures;
 pub mod hop_set;
 mod lines;
 pub mod links;
@@ -15,9 +16,10 @@ pub mod tables;
 pub mod verdict;
 
 use crate::interface::{
-    store, Acts, Checker, CompareFields, Compared, ExplainFields, Explained, Flag, Handed, Lent, ListFields,
-    RunFields, SizeFields, VerdictBuffers, VerdictFields,
+    store, Acts, Checker, CompareFields, Compared, ExplainFields, Explained, FigureFields, Flag, Handed, Lent,
+    ListFields, RunFields, SizeFields, VerdictBuffers, VerdictFields,
 };
+use figures::Figures;
 pub use lines::{margin_line, verdict_lines};
 use mark::Mark;
 use plan::Plan;
@@ -187,6 +189,24 @@ impl<R: Rules> Oracle<R> {
         hop_set::hop_set(&self.rules, plan, list)
     }
 
+    fn try_figures(
+        &mut self,
+        plan: &[u8],
+        by_rank: &mut [u8],
+        by_router: &mut [u8],
+        fields: &mut FigureFields,
+    ) -> Result<(), u8> {
+        let reading = self.reading(plan);
+        let plan = plan_of(&reading)?;
+        long_enough(by_rank, plan.n)?;
+        long_enough(by_router, plan.n)?;
+        let figures = Figures::of(&self.rules, plan);
+        fill(by_rank, (0..plan.n).map(|rank| figures.lists_of_rank(rank)));
+        fill(by_router, (0..plan.n).map(|router| figures.lists_with(router)));
+        fields.put([figures.stable(), figures.suspect()], figures.highest());
+        Ok(())
+    }
+
     fn try_activate(&mut self, plan: &[u8], list: usize, router: usize, table: &mut [u8]) -> Result<(), u8> {
         let reading = self.reading(plan);
         let case = case_of(plan_of(&reading)?, list, &[router])?;
@@ -264,6 +284,10 @@ impl<R: Rules> Checker for Oracle<R> {
 
     fn hop_set(&mut self, plan: &[u8], list: usize, set: &mut Lent<u64>) -> u8 {
         store(self.try_hop_set(plan, list), &mut set.value)
+    }
+
+    fn figures(&mut self, plan: &[u8], by_rank: &mut [u8], by_router: &mut [u8], fields: &mut FigureFields) -> u8 {
+        store(self.try_figures(plan, by_rank, by_router, fields), &mut ())
     }
 
     fn activate(&mut self, plan: &[u8], list: usize, router: usize, table: &mut [u8]) -> u8 {

@@ -4,6 +4,7 @@
 
 mod convert;
 mod distance;
+mod figures;
 mod hop_set;
 mod links;
 mod reader;
@@ -12,11 +13,12 @@ mod steady;
 mod verdict;
 
 use crate::interface::{
-    store, Acts, Checker, CompareFields, Compared, ExplainFields, Explained, Flag, Handed, Lent, ListFields,
-    RunFields, SizeFields, VerdictBuffers, VerdictFields,
+    store, Acts, Checker, CompareFields, Compared, ExplainFields, Explained, FigureFields, Flag, Handed, Lent,
+    ListFields, RunFields, SizeFields, VerdictBuffers, VerdictFields,
 };
 use convert::{narrow, widen};
 use distance::Distance;
+use figures::{count, Counted};
 use hop_set::hop_set as hop_set_of;
 use links::distances;
 use reader::{check, read};
@@ -125,6 +127,11 @@ fn hop_set<D: Distance>(plan: &[u8], list: usize) -> Result<u64, u8> {
     hop_set_of(&network::<D>(plan, list)?)
 }
 
+fn figures<D: Distance>(plan: &[u8], by_rank: &mut [u8], by_router: &mut [u8]) -> Result<Counted, u8> {
+    let network = network::<D>(plan, 0)?;
+    count(network, by_rank, by_router)
+}
+
 fn activate<D: Distance>(plan: &[u8], list: usize, router: usize, table: &mut [u8]) -> Result<(), u8> {
     let network = network::<D>(plan, list)?;
     let router = network.bodies.router(router)?;
@@ -194,6 +201,11 @@ impl Checker for Tight {
 
     fn hop_set(&mut self, plan: &[u8], list: usize, set: &mut Lent<u64>) -> u8 {
         store(by_mark!(hop_set(plan, list)), &mut set.value)
+    }
+
+    fn figures(&mut self, plan: &[u8], by_rank: &mut [u8], by_router: &mut [u8], fields: &mut FigureFields) -> u8 {
+        let counted = by_mark!(figures(plan, by_rank, by_router));
+        store(counted.map(|counted| fields.put(counted.lists, counted.highest)), &mut ())
     }
 
     fn activate(&mut self, plan: &[u8], list: usize, router: usize, table: &mut [u8]) -> u8 {

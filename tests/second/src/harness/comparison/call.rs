@@ -2,8 +2,8 @@
 //! leaves: results, buffers, and the bytes around them.
 
 use crate::interface::{
-    Acts, Checker, CompareFields, Compared, ExplainFields, Flag, Handed, Lent, ListFields, RunFields, SizeFields,
-    VerdictBuffers, VerdictFields,
+    Acts, Checker, CompareFields, Compared, ExplainFields, FigureFields, Flag, Handed, Lent, ListFields, RunFields,
+    SizeFields, VerdictBuffers, VerdictFields,
 };
 
 /// One call, with the content of its buffers before it.
@@ -40,6 +40,10 @@ pub enum Call {
     },
     HopSet {
         list: usize,
+    },
+    /// The buffers are the counts by rank and those by router.
+    Figures {
+        buffers: [Vec<u8>; 2],
     },
     Activate {
         list: usize,
@@ -80,8 +84,8 @@ pub struct Answer {
     /// Every byte of every lent buffer after the call.
     pub buffers: Vec<Vec<u8>>,
     /// The bytes before and after each buffer, each result variable of one byte and those of
-    /// a comparison, an explanation, a count of steady tables, a set and a conversion, the plan,
-    /// the sequence and the links are as they were.
+    /// a comparison, an explanation, a count of steady tables, a set, figures and a conversion,
+    /// the plan, the sequence and the links are as they were.
     pub surroundings_kept: bool,
 }
 
@@ -184,6 +188,7 @@ pub fn perform(checker: &mut dyn Checker, plan: &[u8], call: &Call, prior: u64) 
             let refusal = checker.hop_set(&lent_plan, *list, &mut set);
             Answer::new(refusal, [set.value.into()]).beside(set)
         }
+        Call::Figures { buffers } => perform_figures(checker, &lent_plan, buffers, prior),
         Call::Activate { list, router, table } => perform_activate(checker, &lent_plan, *list, *router, table),
         Call::Run { list, sequence, limit, table } => {
             let acts = Acts { sequence, limit: *limit };
@@ -229,6 +234,16 @@ fn perform_verdict(
     let refusal = checker.verdict(plan, list, VerdictBuffers { labels, ranks, table, cycle }, &mut fields);
     let results = [fields.stable.value.into(), fields.size.into()];
     Answer::new(refusal, results).with(&lent).beside(fields.stable)
+}
+
+fn perform_figures(checker: &mut dyn Checker, plan: &[u8], buffers: &[Vec<u8>; 2], prior: u64) -> Answer {
+    let mut fields = FigureFields::new([prior, !prior], prior as u8, prior >> 8);
+    let mut lent = buffers.each_ref().map(|buffer| Guarded::new(buffer));
+    let [by_rank, by_router] = lent.each_mut().map(Guarded::lent);
+    let refusal = checker.figures(plan, by_rank, by_router, &mut fields);
+    let FigureFields { stable, suspect, has_highest, highest } = fields;
+    let results = [stable.value.into(), suspect.value.into(), has_highest.value.into(), highest.value.into()];
+    Answer::new(refusal, results).with(&lent).beside(stable).beside(suspect).beside(has_highest).beside(highest)
 }
 
 fn perform_activate(checker: &mut dyn Checker, plan: &[u8], list: usize, router: usize, table: &[u8]) -> Answer {

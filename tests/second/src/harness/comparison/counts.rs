@@ -52,6 +52,7 @@ pub struct Counts {
     pub explanations: Explanations,
     pub steady: SteadyCounts,
     pub hop_sets: HopSetCounts,
+    pub figures: FigureCounts,
     /// Calls made on the checker alone, to hold one against another.
     pub calls_alone: u64,
     pub series: u64,
@@ -204,6 +205,46 @@ impl fmt::Display for HopSetCounts {
     }
 }
 
+/// What was asked and given of the figures of plans.
+#[derive(Default)]
+pub struct FigureCounts {
+    pub calls: u64,
+    /// Plans with stable lists alone, with suspect ones alone, and with both.
+    pub plans: [u64; 3],
+    /// The most lists of one plan that a router was in groups in.
+    pub most: u8,
+    /// The most ranks of one plan that are the highest of some list.
+    pub ranks: usize,
+}
+
+impl FigureCounts {
+    /// The figures of a plan of n routers, which are not refused.
+    pub fn count_plan(&mut self, answer: &Answer, n: usize) {
+        let kind = match (answer.fields[0], answer.fields[1]) {
+            (_, 0) => 0,
+            (0, _) => 1,
+            _ => 2,
+        };
+        let [by_rank, by_router] = [0, 1].map(|which| &answer.buffers[which][..n]);
+        self.plans[kind] += 1;
+        self.most = self.most.max(by_router.iter().copied().max().unwrap_or(0));
+        self.ranks = self.ranks.max(by_rank.iter().filter(|count| **count > 0).count());
+    }
+}
+
+impl fmt::Display for FigureCounts {
+    fn fmt(&self, out: &mut fmt::Formatter) -> fmt::Result {
+        let [stable, suspect, both] = self.plans;
+        write!(
+            out,
+            "calls for figures {}, plans with stable lists alone {stable}, with suspect ones alone ",
+            self.calls
+        )?;
+        write!(out, "{suspect}, with both {both}; a router in groups in up to {} lists, ", self.most)?;
+        write!(out, "highest ranks of one plan up to {}", self.ranks)
+    }
+}
+
 impl Counts {
     pub fn count(&mut self, call: &Call, answer: &Answer) {
         self.calls += 1;
@@ -213,6 +254,7 @@ impl Counts {
             (Call::Explain { .. }, 0) => self.explanations.count(answer),
             (Call::Steady { .. }, _) => self.steady.calls += 1,
             (Call::HopSet { .. }, _) => self.hop_sets.calls += 1,
+            (Call::Figures { .. }, _) => self.figures.calls += 1,
             _ => (),
         }
     }
@@ -256,6 +298,7 @@ impl fmt::Display for Counts {
         writeln!(out, "{}", self.explanations)?;
         writeln!(out, "{}", self.steady)?;
         writeln!(out, "{}", self.hop_sets)?;
+        writeln!(out, "{}", self.figures)?;
         writeln!(
             out,
             "pairs relied on and explained {}, calls on the checker alone {}",

@@ -8,6 +8,7 @@ mod convert_calls;
 pub mod counts;
 pub mod delays;
 pub mod empty_lists;
+mod figure_calls;
 mod hop_set_calls;
 pub mod hop_step;
 pub mod plan_calls;

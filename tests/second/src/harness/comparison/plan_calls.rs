@@ -6,6 +6,7 @@ use super::compare::{Comparison, Mismatch, Outcome};
 use super::convert_calls;
 use super::delays;
 use super::empty_lists;
+use super::figure_calls;
 use super::hop_set_calls;
 use super::hop_step;
 use super::preferences::Preferences;
@@ -48,7 +49,7 @@ fn refused(comparison: &mut Comparison, random: &mut Random, bytes: &[u8]) -> Ou
 }
 
 /// One call of each kind with arguments that need fit nothing.
-fn loose_calls(random: &mut Random) -> [Call; 9] {
+fn loose_calls(random: &mut Random) -> [Call; 10] {
     let mut number = |bound: usize| arguments::mostly_below(random, bound);
     let list = number(2);
     let (router, first, second) = (number(4), number(4), number(4));
@@ -59,6 +60,7 @@ fn loose_calls(random: &mut Random) -> [Call; 9] {
     };
     let buffers = [buffer(), buffer(), buffer(), buffer()];
     let (table, sequence, out) = (buffer(), buffer(), buffer());
+    let figures = [table.clone(), out.clone()];
     let limit = random.word();
     [
         Call::List { list },
@@ -68,6 +70,7 @@ fn loose_calls(random: &mut Random) -> [Call; 9] {
         Call::Verdict { list, buffers },
         Call::Steady { list, out },
         Call::HopSet { list },
+        Call::Figures { buffers: figures },
         Call::Activate { list, router, table: table.clone() },
         Call::Run { list, sequence, limit, table },
     ]
@@ -85,6 +88,7 @@ fn sound(comparison: &mut Comparison, random: &mut Random, bytes: &[u8], plan: &
     let verdicts = verdicts_of_lists(comparison, random, bytes, plan)?;
     steady_calls::compare(comparison, random, bytes, plan, &verdicts)?;
     hop_set_calls::compare(comparison, bytes, plan, &verdicts)?;
+    figure_calls::compare(comparison, random, bytes, plan, &verdicts)?;
     let list = random.below(plan.lists.len());
     hop_step::compare_with_all(comparison, random, bytes, list)?;
     for _ in 0..3 {

@@ -4,6 +4,7 @@ use super::compare_slips;
 use super::convert_slips::{self, Asked};
 use super::empty_list_slips::{self, EmptyListSlip};
 use super::explain_slips;
+use super::figure_slips;
 use super::hop_set_slips;
 use super::parent_slips;
 use super::sheet_slips;
@@ -11,8 +12,8 @@ use super::slips::Slip;
 use super::steady_slips;
 use crate::harness::plans::draft::Bodies;
 use crate::interface::{
-    Acts, Checker, CompareFields, ExplainFields, Handed, Lent, ListFields, RunFields, SizeFields, VerdictBuffers,
-    VerdictFields,
+    Acts, Checker, CompareFields, ExplainFields, FigureFields, Handed, Lent, ListFields, RunFields, SizeFields,
+    VerdictBuffers, VerdictFields,
 };
 use crate::oracle::mark::Mark;
 use crate::oracle::plan;
@@ -150,6 +151,13 @@ impl Checker for Careless {
         match self.slip {
             Slip::HopSet(slip) => hop_set_slips::hop_set(slip, &mut self.inner, (plan, list), set),
             _ => self.inner.hop_set(plan, list, set),
+        }
+    }
+
+    fn figures(&mut self, plan: &[u8], by_rank: &mut [u8], by_router: &mut [u8], fields: &mut FigureFields) -> u8 {
+        match self.slip {
+            Slip::Figures(slip) => figure_slips::figures(slip, &mut self.inner, plan, [by_rank, by_router], fields),
+            _ => self.inner.figures(plan, by_rank, by_router, fields),
         }
     }
 

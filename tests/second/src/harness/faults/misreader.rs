@@ -1,8 +1,8 @@
 //! Checkers that, in one call, take a plan for another, as a slip has it.
 
 use crate::interface::{
-    Acts, Checker, CompareFields, ExplainFields, Handed, Lent, ListFields, RunFields, SizeFields, VerdictBuffers,
-    VerdictFields,
+    Acts, Checker, CompareFields, ExplainFields, FigureFields, Handed, Lent, ListFields, RunFields, SizeFields,
+    VerdictBuffers, VerdictFields,
 };
 use crate::oracle::rules::Right;
 use crate::oracle::Oracle;
@@ -19,6 +19,7 @@ pub enum PlanCall {
     Verdict,
     Steady,
     HopSet,
+    Figures,
     Activate,
     Run,
     Widen,
@@ -27,13 +28,14 @@ pub enum PlanCall {
 
 pub const WITHOUT_DISTANCES: [PlanCall; 3] = [PlanCall::Check, PlanCall::Size, PlanCall::List];
 
-pub const BY_DISTANCES: [PlanCall; 8] = [
+pub const BY_DISTANCES: [PlanCall; 9] = [
     PlanCall::Compare,
     PlanCall::Relies,
     PlanCall::Explain,
     PlanCall::Verdict,
     PlanCall::Steady,
     PlanCall::HopSet,
+    PlanCall::Figures,
     PlanCall::Activate,
     PlanCall::Run,
 ];
@@ -109,6 +111,11 @@ impl<F: Fn(&[u8]) -> Option<Vec<u8>>> Checker for Misreader<F> {
     fn hop_set(&mut self, plan: &[u8], list: usize, set: &mut Lent<u64>) -> u8 {
         let (inner, plan) = self.read(PlanCall::HopSet, plan);
         inner.hop_set(plan, list, set)
+    }
+
+    fn figures(&mut self, plan: &[u8], by_rank: &mut [u8], by_router: &mut [u8], fields: &mut FigureFields) -> u8 {
+        let (inner, plan) = self.read(PlanCall::Figures, plan);
+        inner.figures(plan, by_rank, by_router, fields)
     }
 
     fn activate(&mut self, plan: &[u8], list: usize, router: usize, table: &mut [u8]) -> u8 {

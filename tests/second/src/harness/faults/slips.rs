@@ -3,6 +3,7 @@
 
 use super::convert_slips::ConvertSlip;
 use super::empty_list_slips::EmptyListSlip;
+use super::figure_slips::FigureSlip;
 use super::hop_set_slips::HopSetSlip;
 use super::hop_slips::HopSlip;
 use super::parent_slips::ParentSlip;
@@ -83,6 +84,7 @@ pub enum Slip {
     Hop(HopSlip),
     Steady(SteadySlip),
     HopSet(HopSetSlip),
+    Figures(FigureSlip),
     EightBeforeThirteen,
     EntryWithoutAWayRefused,
     TransposedDistances,
@@ -116,7 +118,7 @@ pub enum Slip {
 }
 
 /// All but those in the check of a client's parents, in the converter, for an empty list, with
-/// the hop step, and in the calls for steady tables and for hop sets.
+/// the hop step, and in the calls for steady tables, for hop sets and for figures.
 pub const SLIPS: [Slip; 96] = [
     Slip::FirstActOnly,
     Slip::ActLeavesTable,

@@ -1,0 +1,2 @@
+pub mod AllLists
+pub mod Reporting

@@ -1,0 +1,5 @@
+pub mod Examples
+pub mod Sums
+pub mod GroupSizes
+pub mod Meaning
+pub mod SameLists

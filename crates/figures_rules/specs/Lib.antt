@@ -1,0 +1,4 @@
+pub mod Sums
+pub mod Figures
+pub mod Meaning
+pub mod Examples
