@@ -8,70 +8,68 @@ use plan_read::parts::part;
 use plan_read::refusal::CheckedPlan;
 use plan_routers::CLIENT;
 ghost use mathlib.Core.Path.{_≡_};
+ghost use mathlib.Core.Bool.{cond, not, _||_};
 ghost use mathlib.Core.List.{List};
-ghost use Prim.Native.Nat.{ℕ, _*_, _≤_, _<_};
+ghost use Prim.Native.Nat.{ℕ, _*_, _^_, _≤_, _<_};
+ghost use lib.Bits.{bitOr};
 ghost use lib.Dec.{eqb};
 ghost use lib.ListN.{length, getD, replicate};
 ghost use Rattle.base.specs.Bits.{bitN, bits};
 ghost use Rattle.plan_contents.specs.Contents.{distancesBody};
-ghost use Rattle.plan_rules.specs.Routers.{reflectorIn};
+ghost use Rattle.plan_rules.specs.Routers.{role, reflectorIn};
 ghost use Rattle.plan_rules.specs.Sessions.{sessionCount, sessionFirst, sessionSecond, inSession};
 ghost use Rattle.plan_rules.specs.EgressLists.{listCount};
 ghost use Rattle.plan_read.specs.Checked.{Accepted};
-ghost use Rattle.net_rules.specs.FromPlan.{named};
+ghost use Rattle.net_rules.specs.FromPlan.{skipsIn, hopIn, named};
 ghost use Rattle.net_rules.specs.Opened.{Opened};
-ghost use Rattle.net_read.specs.Roles.{specialIn, skipping, stepping};
 
 // The routers by what their role says of them: bit v of a word stands for router v.
 struct RoleWords {
     reflectors: u64,
-    special: u64,
-}
-
-// The reflectors, and those of them whose role is not 1: few, so that only their roles are asked for more. s is the body of kind 1.
-fn role_words(s: &[u8], n: usize) -> RoleWords
-    requires { ⌜ (n ≤ 64) × (length (now s) ≡ 5 * n) ⌝ }
-    ensures { λ r. ⌜ ((v : ℕ) → eqb (bitN (r .reflectors) v) 1 ≡ reflectorIn (now (s .entry)) n v)
-        × ((v : ℕ) → eqb (bitN (r .special) v) 1 ≡ specialIn (now (s .entry)) n v) ⌝ }
-{
-    let mut reflectors = 0;
-    let mut special = 0;
-    let mut v = 0;
-    while v < n {
-        let role = s[5 * v];
-        reflectors = base::bits::with_bit_if(reflectors, v, role != CLIENT);
-        special = base::bits::with_bit_if(special, v, CLIENT < role);
-        v += 1;
-    }
-    RoleWords {
-        reflectors,
-        special,
-    }
-}
-
-// What else the roles of reflectors say, as bits.
-struct SpecialWords {
     skips: u64,
     hop: u64,
 }
 
-// Of these routers, those that skip their clients and those with the hop step.
-fn special_words(s: &[u8], special: u64) -> SpecialWords
-    requires { ⌜ ((v : ℕ) → bitN special v ≡ 1 → (v < 64) × (5 * v < length (now s))) ⌝ }
-    ensures { λ r. ⌜ ((v : ℕ) → eqb (bitN (r .skips) v) 1 ≡ skipping (now (s .entry)) special v)
-        × ((v : ℕ) → eqb (bitN (r .hop) v) 1 ≡ stepping (now (s .entry)) special v) ⌝ }
+// The words with router v added, by its role. Most routers have role 1 or 2, and of these no more is asked.
+fn with_role(words: RoleWords, v: usize, role: u8) -> RoleWords
+    requires { ⌜ (v < 64) × (role ≤ 5) ⌝ }
+    ensures { λ r. ⌜ (r .reflectors ≡ cond (not (eqb role 2)) (bitOr (words .reflectors) (2 ^ v)) (words .reflectors))
+        × (r .skips ≡ cond (eqb role 3 || eqb role 5) (bitOr (words .skips) (2 ^ v)) (words .skips))
+        × (r .hop ≡ cond (eqb role 4 || eqb role 5) (bitOr (words .hop) (2 ^ v)) (words .hop)) ⌝ }
 {
-    let mut skips = 0;
-    let mut hop = 0;
-    let mut left = special;
-    while left != 0 {
-        let v = base::bits::lowest_bit(left);
-        let role = s[5 * v];
-        skips = base::bits::with_bit_if(skips, v, plan_routers::skips_clients(role));
-        hop = base::bits::with_bit_if(hop, v, plan_routers::has_step(role));
-        left = base::bits::without_lowest(left);
+    let reflectors = base::bits::with_bit_if(words.reflectors, v, role != CLIENT);
+    if role <= CLIENT {
+        return RoleWords {
+            reflectors,
+            skips: words.skips,
+            hop: words.hop,
+        };
     }
-    SpecialWords { skips, hop }
+    RoleWords {
+        reflectors,
+        skips: base::bits::with_bit_if(words.skips, v, plan_routers::skips_clients(role)),
+        hop: base::bits::with_bit_if(words.hop, v, plan_routers::has_step(role)),
+    }
+}
+
+// The reflectors, those of them that skip their clients, and those with the hop step; s is the body of kind 1.
+fn role_words(s: &[u8], n: usize) -> RoleWords
+    requires { ⌜ (n ≤ 64) × (length (now s) ≡ 5 * n) × ((v : ℕ) → v < n → role (now s) v ≤ 5) ⌝ }
+    ensures { λ r. ⌜ ((v : ℕ) → eqb (bitN (r .reflectors) v) 1 ≡ reflectorIn (now (s .entry)) n v)
+        × ((v : ℕ) → eqb (bitN (r .skips) v) 1 ≡ skipsIn (now (s .entry)) n v)
+        × ((v : ℕ) → eqb (bitN (r .hop) v) 1 ≡ hopIn (now (s .entry)) n v) ⌝ }
+{
+    let mut words = RoleWords {
+        reflectors: 0,
+        skips: 0,
+        hop: 0,
+    };
+    let mut v = 0;
+    while v < n {
+        words = with_role(words, v, s[5 * v]);
+        v += 1;
+    }
+    words
 }
 
 // The routers that a list's numbers name.
@@ -111,17 +109,15 @@ pub fn open_plan(plan: &[u8], checked: CheckedPlan, list: usize, rows: &mut [u64
     ensures { λ r. ⌜ Opened (now (plan .entry)) list r (now (rows .exit)) (distancesBody (now (plan .entry))) ⌝ }
 {
     let n = checked.n as usize;
-    let routers = part(plan, checked, ROUTERS);
-    let roles = role_words(routers, n);
-    let special = special_words(routers, roles.special);
+    let roles = role_words(part(plan, checked, ROUTERS), n);
     neighbour_rows(part(plan, checked, SESSIONS), rows);
     let listed = listed_word(list_numbers(plan, checked, list));
     Network {
         n,
         width: checked.width as usize,
         reflectors: roles.reflectors,
-        skips: special.skips,
-        hop: special.hop,
+        skips: roles.skips,
+        hop: roles.hop,
         listed,
     }
 }

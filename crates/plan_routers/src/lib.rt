@@ -24,11 +24,12 @@ pub fn skips_clients(role: u8) -> bool
     role == SKIPPING || role == BOTH
 }
 
-// Whether a router of this role has the hop step.
+// Whether a router of this role, one that is admitted, has the hop step: the two roles with it are the highest.
 pub fn has_step(role: u8) -> bool
+    requires { ⌜ role ≤ 5 ⌝ }
     ensures { λ r. ⌜ r ≡ (eqb role 4 || eqb role 5) ⌝ }
 {
-    role == STEPPING || role == BOTH
+    STEPPING <= role
 }
 
 pub fn is_reflector(s: &[u8], v: usize) -> bool

@@ -14,6 +14,13 @@ shared-slice-read-has-step c =
     let given = c .before .before .before .pre in
     omega (arith, ap length (c .before .part .ensures .bytes), routers-length _ (passed _ (given .0 .ok)))
 
+-- a role of a plan that is not refused is admitted
+has-step-requires : tie.Need-has-step-requires
+has-step-requires c κs =
+    let part = c .before in
+    let given = part .before .before .pre in
+    rw (part .part .ensures .bytes) (passed _ (given .0 .ok) .routers .roleMost _ (given .1))
+
 returns : tie.Need-returns
 returns c =
     let part = c .before .before in
@@ -23,4 +30,4 @@ returns c =
 pub has-step-spec : {M : Type 1} → statement M
 has-step-spec =
     tie.close
-    (tie.spec (λ c κs. search needs) (λ c. search needs) shared-slice-read-has-step (λ c κs. search needs) returns)
+    (tie.spec (λ c κs. search needs) (λ c. search needs) shared-slice-read-has-step has-step-requires returns)
