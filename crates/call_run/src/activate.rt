@@ -1,5 +1,7 @@
 // One activation of a router on the caller's table.
 
+use net_activate::activations::activate_in_one_pass;
+use net_activate::activations::takes_step;
 use plan_contents::entries::DISTANCES;
 ghost use Rattle.call_run.specs.Activate.{Activates};
 
@@ -19,6 +21,10 @@ pub fn activate(plan: &[u8], list: usize, router: usize, table: &mut [u8]) -> u8
         return refused;
     }
     let distances = plan_read::parts::part(plan, checked, DISTANCES);
-    net_activate::activations::activate(net, &rows, distances, router, table);
+    if takes_step(net, router) {
+        net_activate::activations::activate(net, &rows, distances, router, table);
+        return 0;
+    }
+    activate_in_one_pass(net, &rows, distances, router, table);
     0
 }

@@ -2,3 +2,4 @@ pub mod OnePass
 pub mod TwoPasses
 pub mod Numbers
 pub mod MayAdvertise
+pub mod Acts

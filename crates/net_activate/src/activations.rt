@@ -6,16 +6,18 @@ use net_rules::NO_ROUTER;
 use net_rules::Network;
 use net_tables::RouteBytes;
 ghost use mathlib.Core.Path.{_≡_};
-ghost use mathlib.Core.Bool.{cond};
+ghost use mathlib.Core.Bool.{false, cond};
 ghost use mathlib.Core.List.{List};
 ghost use mathlib.Core.Option.{none, some};
 ghost use Prim.Native.Nat.{ℕ, _+_, _*_, _≤_, _<_, min, max};
+ghost use lib.ListN.{length};
 ghost use Rattle.base.specs.Bits.{bitN};
 ghost use Rattle.plan_rules.specs.Distances.{highest, numberAt, TwoOrFour, DistanceTable};
 ghost use Rattle.route_rules.specs.Instance.{via};
+ghost use Rattle.route_rules.specs.Preference.{hasStep};
 ghost use Rattle.route_rules.specs.Activation.{reflects, advertises};
 ghost use Rattle.net_rules.specs.Decoded.{decoded, instance};
-ghost use Rattle.net_tables.specs.TableBytes.{RouteBelow, RoutesIn, TableIn, routeAt, routeOf, activateBytes};
+ghost use Rattle.net_tables.specs.TableBytes.{RouteBelow, RoutesIn, TableIn, routeAt, routeOf, putRoute, activateBytes};
 ghost use Rattle.net_activate.specs.OnePass.{senderMark, routeKey, Numbers, numbersOf, noKey, toldKey, leastKey, ownRoute, ownRoutes, chosenKey, keyRoute};
 ghost use Rattle.net_rules.specs.WellFormed.{WellFormed};
 
@@ -220,6 +222,14 @@ fn best_direct(
     least
 }
 
+// Whether w is a reflector with the hop step. Who activates routers asks this, so that the code of the pass for the step stays out of theirs.
+pub fn takes_step(net: Network, w: usize) -> bool
+    requires { ⌜ w < 64 ⌝ }
+    ensures { λ r. ⌜ ((rows distances : List ℕ) → r ≡ hasStep (decoded net rows distances) w) ⌝ }
+{
+    base::bits::has_bit(net.reflectors & net.hop, w)
+}
+
 // The key of what unlisted w chooses, `none` for nothing. With the hop step a route that its own egress advertises comes first.
 fn chosen(
     net: Network,
@@ -234,7 +244,7 @@ fn chosen(
     ensures { λ r. ⌜ r ≡ chosenKey (numbersOf net (now (distances .entry)) w) (instance net (rows .entry) (distances .entry)) w
         (routeAt (now (table .entry))) ⌝ }
 {
-    if base::bits::has_bit(net.reflectors & net.hop, w) {
+    if takes_step(net, w) {
         let direct = best_direct(net, rows, distances, w, table, none);
         if direct < none {
             return direct;
@@ -243,23 +253,58 @@ fn chosen(
     best_heard(net, rows, distances, w, table, none)
 }
 
+// Writes the route of a router to itself.
+fn put_own(table: &mut [u8], w: usize)
+    requires { ⌜ (w < 64) × (2 * w + 2 ≤ length (now table)) ⌝ }
+    ensures { λ _. ⌜ now (table .exit) ≡ putRoute (now (table .entry)) w (via w w) ⌝ }
+{
+    let own = RouteBytes {
+        egress: w as u8,
+        sender: w as u8,
+    };
+    net_tables::put_route(table, w, own);
+}
+
+// Writes the route of a key, where `none` is that of nothing.
+fn put_best(table: &mut [u8], w: usize, key: usize, none: usize)
+    requires { ⌜ 2 * w + 2 ≤ length (now table) ⌝ }
+    ensures { λ _. ⌜ ((N : Numbers) → none ≡ noKey N → now (table .exit) ≡ putRoute (now (table .entry)) w (keyRoute N key)) ⌝ }
+{
+    let best = key_route(key, none);
+    net_tables::put_route(table, w, best);
+}
+
 // The act of router w on a table that obeys its rule.
 pub fn activate(net: Network, rows: &[u64; 64], distances: &[u8], w: usize, table: &mut [u8])
     requires { ⌜ WellFormed net (now rows) (now distances) × (w < net .n) × TableIn (instance net rows distances) (now table) ⌝ }
     ensures { λ _. ⌜ now (table .exit) ≡ activateBytes (instance net (rows .entry) (distances .entry)) w (now (table .entry)) ⌝ }
 {
     if base::bits::has_bit(net.listed, w) {
-        net_tables::put_route(
-            table,
-            w,
-            RouteBytes {
-                egress: w as u8,
-                sender: w as u8,
-            },
-        );
+        put_own(table, w);
         return;
     }
     let none = no_key(net.width);
-    let best = key_route(chosen(net, rows, distances, w, table, none), none);
-    net_tables::put_route(table, w, best);
+    let key = chosen(net, rows, distances, w, table, none);
+    put_best(table, w, key, none);
+}
+
+// .. of one that has not the hop step: one pass is enough.
+pub fn activate_in_one_pass(
+    net: Network,
+    rows: &[u64; 64],
+    distances: &[u8],
+    w: usize,
+    table: &mut [u8],
+)
+    requires { ⌜ WellFormed net (now rows) (now distances) × (w < net .n) × TableIn (instance net rows distances) (now table)
+        × (hasStep (instance net rows distances) w ≡ false) ⌝ }
+    ensures { λ _. ⌜ now (table .exit) ≡ activateBytes (instance net (rows .entry) (distances .entry)) w (now (table .entry)) ⌝ }
+{
+    if base::bits::has_bit(net.listed, w) {
+        put_own(table, w);
+        return;
+    }
+    let none = no_key(net.width);
+    let key = best_heard(net, rows, distances, w, table, none);
+    put_best(table, w, key, none);
 }

@@ -3,6 +3,9 @@
 pub mod tally;
 
 use crate::tally::RoundTally;
+use net_activate::activations::activate;
+use net_activate::activations::activate_in_one_pass;
+use net_activate::activations::takes_step;
 use net_rules::Network;
 ghost use Prim.Native.Nat.{_<_};
 ghost use Rattle.route_rules.specs.Rounds.{ActsBelow};
@@ -45,7 +48,11 @@ pub fn apply(
             };
         }
         let router = base::wide(sequence[i]);
-        net_activate::activations::activate(net, rows, distances, router, table);
+        if takes_step(net, router) {
+            activate(net, rows, distances, router, table);
+        } else {
+            activate_in_one_pass(net, rows, distances, router, table);
+        }
         tally = tally.act(n, router);
         left -= 1;
         i += 1;

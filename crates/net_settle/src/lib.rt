@@ -1,5 +1,8 @@
 // The settled table, by activating every router once, in the order of its rank.
 
+use net_activate::activations::activate;
+use net_activate::activations::activate_in_one_pass;
+use net_activate::activations::takes_step;
 use net_rules::NO_ROUTER;
 use net_rules::Network;
 use net_tables::RouteBytes;
@@ -60,10 +63,13 @@ fn settle_rank(
     let n = net.n;
     let mut w = 0;
     while w < n {
-        if base::wide(ranks[w]) == r {
-            net_activate::activations::activate(net, rows, distances, w, table);
+        if base::wide(ranks[w]) != r {
+            w += 1;
+        } else if takes_step(net, w) {
+            activate(net, rows, distances, w, table);
             w += 1;
         } else {
+            activate_in_one_pass(net, rows, distances, w, table);
             w += 1;
         }
     }

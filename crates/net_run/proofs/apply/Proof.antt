@@ -2,6 +2,7 @@
 use Prim.Native.Nat.{_+_, _-_, _≤_, _<_}
 use native.Mathlib.Omega.{arith}
 use mathlib.Core.Path.{_≡_, _∙_, sym, ap, subst₂}
+use mathlib.Core.Logic.{⊎-elim}
 use borrow.Author.Needs.{needs}
 use borrow.Author.Tests.{lt-ltb, le-ltb}
 use lib.ListN.{length, getD, take}
@@ -45,33 +46,50 @@ returns c =
       bytes = r .bytes ∙ ap (λ k. runBytes (network d) (a .table .now) (take k (a .sequence .now))) e;
     }
 
+-- the next act is one of a router of the plan, on a table that obeys its rule
+module _ (c : tie.After-wide Inv-loop μ-loop) where
+  abbrev turn : tie.In-loop Inv-loop μ-loop
+  turn = c .before .before .before
+
+  abbrev start : tie.Start Inv-loop μ-loop
+  start = entry (turn .before)
+
+  below : c .wide .result < start .args .net .n
+  below = omega (arith, c .wide .ensures .0, router-below turn)
+
 activate-requires : tie.Need-activate-requires Inv-loop μ-loop
-activate-requires c κs =
-    let d = c .before .before .before .before in
-    (entry (d .before) .pre .0, rw (c .before .wide .ensures .0) (entry (d .before) .pre .2 _ (omega (arith, d .loop-test .taken))), d .before .loop .inv .1 .legal)
+activate-requires c κs = let w = c .before .before .before in (start w .pre .0, below w, turn w .before .loop .inv .1 .legal)
+
+activate-in-one-pass-requires : tie.Need-activate-in-one-pass-requires Inv-loop μ-loop
+activate-in-one-pass-requires c κs =
+    let e = c .before in
+    let w = e .before .before in
+    let a = start w .args in
+    (start w .pre .0, below w, turn w .before .loop .inv .1 .legal, sym (e .before .takes-step .ensures (a .rows .now) (a .distances .now)) ∙ e .if2 .left)
+
+-- with the hop step or without, the act leaves what the rule says
+acted : (c : tie.Joined2 Inv-loop μ-loop) → let w = c .before .before in
+    c .if2 .table ≡ activateBytes (network (turn w .before)) (w .wide .result) (turn w .before .loop .table)
+acted c = ⊎-elim (λ g. g .5 ∙ g .2 .ensures) (λ g. g .5 ∙ g .2 .ensures) (c .if2 .came)
 
 act-requires : tie.Need-act-requires Inv-loop μ-loop
 act-requires c κs =
-    let d = c .before .before .before .before .before .before .before in
-    let r = d .before .loop .inv .1 in (
-      entry (d .before) .pre .0 .count,
-      rw (c .before .before .before .before .wide .ensures .0) (entry (d .before) .pre .2 _ (omega (arith, d .loop-test .taken))),
-      r .waits,
-      omega (arith, r .few, d .loop-test .taken, entry (d .before) .good),
-    )
+    let w = c .before .before in
+    let r = turn w .before .loop .inv .1 in
+    (start w .pre .0 .count, below w, r .waits, omega (arith, r .few, turn w .loop-test .taken, start w .good))
 
 loop-again : tie.Need-loop-again Inv-loop μ-loop
 loop-again c =
-    let f = c .before .before .before in
-    let d = f .before .before .before .before .before in
-    let a = entry (d .before) .args in
+    let w = c .before .before .before in
+    let d = turn w in
+    let a = start w .args in
     let I = network (d .before) in
-    let w = f .before .before .wide .ensures .0 in (
-      omega (arith, d .before .loop .inv .0, f .before .before .before .before .if1 .left),
+    let e = w .wide .ensures .0 in (
+      omega (arith, d .before .loop .inv .0, w .before .before .if1 .left),
       subst₂ (Ran I (a .sequence .now) (a .table .now) (d .before .loop .i + 1))
-          (sym (f .activate .ensures ∙ ap (λ x. activateBytes I x (d .before .loop .table)) w))
-          (sym (c .act .ensures ∙ ap (tallyAct (a .net .n) (tallied (d .before .loop .tally))) w))
-          (ran-more _ _ _ _ _ _ (d .before .loop .inv .1) (d .loop-test .taken) (entry (d .before) .pre .0 .count) (router-below d)),
+          (sym (acted (c .before) ∙ ap (λ x. activateBytes I x (d .before .loop .table)) e))
+          (sym (c .act .ensures ∙ ap (tallyAct (a .net .n) (tallied (d .before .loop .tally))) e))
+          (ran-more _ _ _ _ _ _ (d .before .loop .inv .1) (d .loop-test .taken) (start w .pre .0 .count) (router-below d)),
     )
 
 returns-2 : tie.Need-returns-2 Inv-loop μ-loop
@@ -101,7 +119,9 @@ apply-spec =
     returns
     (λ c. search needs)
     (λ c κs. search needs)
+    (λ c κs. omega (arith, below c, start c .pre .0 .count))
     activate-requires
+    activate-in-one-pass-requires
     act-requires
     (λ c. search needs)
     (λ c. search needs)

@@ -1,14 +1,9 @@
 use Prim.Native.Nat.{ℕ}
 use native.Mathlib.Omega.{arith}
-use mathlib.Core.Path.{_≡_, _∙_, sym}
+use mathlib.Core.Path.{_∙_, sym}
 use mathlib.Core.Logic.{⊎-elim}
 use borrow.Author.Needs.{needs}
-use lib.Bits.{bitAnd}
-use lib.Dec.{eqb}
-use Rattle.base.specs.Bits.{bitN}
-use Rattle.base.proofs.SetBits.{set-and}
 use Rattle.route_rules.specs.Instance.{Instance, Route}
-use Rattle.route_rules.specs.Preference.{hasStep}
 use Rattle.net_rules.specs.Decoded.{decoded}
 use Rattle.net_tables.specs.TableBytes.{routeAt}
 use Rattle.net_activate.specs.OnePass.{Numbers, numbersOf}
@@ -26,25 +21,20 @@ module _ (c : tie.Start) where
   abbrev view : ℕ → Route
   view = routeAt (c .args .table .now)
 
-  -- the test of the code is whether w has the step
-  step : eqb (bitN (bitAnd (c .args .net .reflectors) (c .args .net .hop)) (c .args .w)) 1 ≡ hasStep instance (c .args .w)
-  unfolding hasStep
-  step = set-and (c .args .net .reflectors) (c .args .net .hop) (c .args .w)
-
 returns : tie.Need-returns
 returns c =
     let i = c .before .before in
-    let d = i .before .before .before .before .before in
+    let d = i .before .before .before .before in
     let direct = c .before .best-direct .ensures in
     direct
     ∙ sym (chosen-direct (numbers d) (instance d) (d .args .w) (view d)
-    (sym (i .before .has-bit .ensures ∙ step d) ∙ i .if1 .taken) (omega (arith, direct, d .pre .3, c .if2 .taken)))
+    (sym (i .before .takes-step .ensures (d .args .rows .now) (d .args .distances .now)) ∙ i .if1 .taken) (omega (arith, direct, d .pre .3, c .if2 .taken)))
 
 returns-2 : tie.Need-returns-2
 returns-2 c =
     let h = c .before .before in
-    let d = h .before .before .before .before in
-    let has-step = h .has-bit .ensures ∙ step d in
+    let d = h .before .before .before in
+    let has-step = h .takes-step .ensures (d .args .rows .now) (d .args .distances .now) in
     c .best-heard .ensures
     ∙ sym (⊎-elim
     (λ g. chosen-passed (numbers d) (instance d) (d .args .w) (view d) (sym has-step ∙ g .0 .taken) (omega (arith, g .1 .ensures, d .pre .3, g .2 .left)))
