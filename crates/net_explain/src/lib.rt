@@ -21,8 +21,7 @@ fn on_reflector(net: Network, rows: &[u64; 64], distances: &[u8], w: usize, v: u
     let own = net_offers::best_client(net, rows, distances, w);
     let other = net_offers::best_client(net, rows, distances, v);
     let offer = net_offers::offered(net, v, other);
-    let behind = net_offers::behind(net, w, v);
-    net_offers::by_offer(distances, net.width, net.n, w, offer, own, behind)
+    net_offers::by_offer(net, distances, w, v, offer, own)
 }
 
 // .. a client.

@@ -6,7 +6,7 @@ use route_explain_rules::explanation::Explanation;
 use route_explain_rules::explanation::Reason;
 use route_explain_rules::explanation::Rule;
 ghost use mathlib.Core.Path.{_≡_};
-ghost use mathlib.Core.Bool.{Bool, true, not, _&&_};
+ghost use mathlib.Core.Bool.{true, not, _&&_};
 ghost use mathlib.Core.List.{List};
 ghost use Prim.Native.Nat.{ℕ, _≤_, _<_};
 ghost use Rattle.base.specs.Best.{keepBest};
@@ -103,7 +103,7 @@ pub fn offered(net: Network, v: usize, own: u8) -> u8
 
 // Whether the hop step puts the offer of v behind an own best client of w: w has the step, and v, which is not listed, passes the offer
 // on, while a best client is told by its own egress router.
-pub fn behind(net: Network, w: usize, v: usize) -> bool
+fn behind(net: Network, w: usize, v: usize) -> bool
     requires { ⌜ (w < 64) × (v < 64) ⌝ }
     ensures { λ r. ⌜ ((rows distances : List ℕ)
         → r ≡ (hasStep (decoded net rows distances) w && not (decoded net rows distances .listed v))) ⌝ }
@@ -111,62 +111,62 @@ pub fn behind(net: Network, w: usize, v: usize) -> bool
     base::bits::has_bit(net.reflectors & net.hop, w) && !base::bits::has_bit(net.listed, v)
 }
 
-// Rule 3 where w has a way to its neighbour's offer, and `own` is its own best client: the numbers of ways are their distances. The offer
-// is told by its own egress router or not, and `behind` says what the hop step makes of that.
+// Rule 3 where w has a way to the offer of its neighbour v, and `own` is its own best client: the numbers of ways are their distances. What
+// the hop step makes of a nearer offer is asked last.
 fn against_own(
+    net: Network,
     distances: &[u8],
-    width: usize,
-    n: usize,
     w: usize,
+    v: usize,
     offer: usize,
     own: u8,
-    behind: bool,
 ) -> Explanation
-    requires { ⌜ (w < n) × DistanceTable width (now distances) n × (offer < n) × RouterBelow n (asRouter own) ⌝ }
-    ensures { λ r. ⌜ ((I : Instance) (d : Bool) → Measured I width (now (distances .entry)) n → I .way w offer ≡ true
-        → WayTo I w (asRouter own) → behind ≡ (hasStep I w && not d) → r ≡ againstOwn I w d offer (asRouter own)) ⌝ }
+    requires { ⌜ (net .n ≤ 64) × (w < net .n) × (v < net .n) × DistanceTable (net .width) (now distances) (net .n)
+        × (offer < net .n) × RouterBelow (net .n) (asRouter own) ⌝ }
+    ensures { λ r. ⌜ ((rows : List ℕ) → let I = decoded net rows (now (distances .entry)) in I .way w offer ≡ true
+        → WayTo I w (asRouter own) → r ≡ againstOwn I w (I .listed v) offer (asRouter own)) ⌝ }
 {
     if own == NO_ROUTER {
         return Explanation::Yes(Rule::AnyOffer(offer));
     }
     let client = base::wide(own);
-    let to_offer = plan_distances::number(distances, width, n, w, offer);
-    let to_client = plan_distances::number(distances, width, n, w, client);
-    if net_prefer::nearer(to_offer, to_client, offer, client) {
-        if behind {
-            return Explanation::No(Reason::OfferNotBetter);
-        }
-        return Explanation::Yes(Rule::BetterOffer(
-            offer,
-            client,
-            net_prefer::difference(to_offer, to_client),
-        ));
+    let to_offer = plan_distances::number(distances, net.width, net.n, w, offer);
+    let to_client = plan_distances::number(distances, net.width, net.n, w, client);
+    if !net_prefer::nearer(to_offer, to_client, offer, client) {
+        return Explanation::No(Reason::OfferNotBetter);
     }
-    Explanation::No(Reason::OfferNotBetter)
+    if behind(net, w, v) {
+        return Explanation::No(Reason::OfferNotBetter);
+    }
+    Explanation::Yes(Rule::BetterOffer(
+        offer,
+        client,
+        net_prefer::difference(to_offer, to_client),
+    ))
 }
 
-// Rule 3 on the offer of a neighbouring reflector, where `own` is the own best client of w, and `behind` as above.
+// Rule 3 on the offer of v, a neighbouring reflector, where `own` is the own best client of w.
 pub fn by_offer(
+    net: Network,
     distances: &[u8],
-    width: usize,
-    n: usize,
     w: usize,
+    v: usize,
     offer: u8,
     own: u8,
-    behind: bool,
 ) -> Explanation
-    requires { ⌜ (w < n) × DistanceTable width (now distances) n × RouterBelow n (asRouter offer) × RouterBelow n (asRouter own) ⌝ }
-    ensures { λ r. ⌜ ((I : Instance) (d : Bool) → Measured I width (now (distances .entry)) n → WayTo I w (asRouter own)
-        → behind ≡ (hasStep I w && not d) → r ≡ byOffer I w d (asRouter offer) (asRouter own)) ⌝ }
+    requires { ⌜ (net .n ≤ 64) × (w < net .n) × (v < net .n) × DistanceTable (net .width) (now distances) (net .n)
+        × RouterBelow (net .n) (asRouter offer) × RouterBelow (net .n) (asRouter own) ⌝ }
+    ensures { λ r. ⌜ ((rows : List ℕ) → let I = decoded net rows (now (distances .entry)) in WayTo I w (asRouter own)
+        → r ≡ byOffer I w (I .listed v) (asRouter offer) (asRouter own)) ⌝ }
 {
     if offer == NO_ROUTER {
         return Explanation::No(Reason::NoOffer);
     }
     let egress = base::wide(offer);
-    if !plan_distances::has_way(distances, width, n, w, egress) {
+    if !plan_distances::has_way(distances, net.width, net.n, w, egress) {
         return Explanation::No(Reason::NoWayToTheOffer);
     }
-    against_own(distances, width, n, w, egress, own, behind)
+    against_own(net, distances, w, v, egress, own)
 }
 
 // Whether an answer is yes.

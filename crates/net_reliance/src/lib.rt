@@ -34,8 +34,7 @@ fn reflector_relies(
         return false;
     }
     let offer = net_offers::offered(net, v, other);
-    let behind = net_offers::behind(net, w, v);
-    net_offers::says_yes(net_offers::by_offer(distances, net.width, net.n, w, offer, own, behind))
+    net_offers::says_yes(net_offers::by_offer(net, distances, w, v, offer, own))
 }
 
 // Whether w relies on v, where `own` and `other` are the best clients of those that are reflectors.

@@ -1,6 +1,6 @@
 -- Each way is a case of rule 3.
 use native.Mathlib.Omega.{arith}
-use mathlib.Core.Path.{_≡_, refl, _∙_, sym, ap, ap₂}
+use mathlib.Core.Path.{_≡_, _∙_, sym, ap, ap₂}
 use borrow.Author.Needs.{needs}
 use lib.Dec.{eqb}
 use Rattle.base.proofs.Numbers.{yes, no}
@@ -44,27 +44,26 @@ offer-is c =
 
 by-offer-requires : tie.Need-by-offer-requires
 by-offer-requires c κs =
-    let d = c .before .before .before .before .before .before .before .before in
+    let d = c .before .before .before .before .before .before .before in
     let p = d .pre in (
+      p .0 .count,
       p .1,
+      p .2,
       p .0 .pairs,
-      rw (offer-is (c .before)) (offer-below (instance d) _ (p .2)),
+      rw (offer-is c) (offer-below (instance d) _ (p .2)),
       rw (p .3 .client) (bestClient-below (instance d) _),
     )
 
 returns-3 : tie.Need-returns-3
 returns-3 c =
     let said = c .before in
-    let put = said .before in
-    let g = put .before .before in
+    let g = said .before .before in
     let e = g .before .before .before in
     let d = e .before .before .before in
     c .says-yes .ensures
-    ∙ ap isYes
-    (said .by-offer .ensures (instance d) _ (record { dist = refl; way = refl }) (rw (d .pre .3 .client) (own-way-to (instance d) _))
-    (put .behind .ensures (d .args .rows .now) (d .args .distances .now)))
+    ∙ ap isYes (said .by-offer .ensures (d .args .rows .now) (rw (d .pre .3 .client) (own-way-to (instance d) _)))
     ∙ by-offer-says (instance d) _ _ _ _
-    ∙ ap₂ (betterOffer (instance d) (d .args .w) (instance d .listed (d .args .v))) (offer-is (put .before)) (d .pre .3 .client)
+    ∙ ap₂ (betterOffer (instance d) (d .args .w) (instance d .listed (d .args .v))) (offer-is (said .before)) (d .pre .3 .client)
     ∙ sym (offer-neighbour (instance d) _ _ (d .pre .3 .unlisted) (d .pre .3 .reflector) (yes _ (e .before .has-bit .ensures) (e .if1 .left)) (yes _ (g .before .has-bit2 .ensures) (g .if2 .left)))
 
 pub reflector-relies-spec : {M : Type 1} → statement M
@@ -78,7 +77,6 @@ reflector-relies-spec =
     (λ c. search needs)
     (λ c κs. search needs)
     returns-2
-    (λ c κs. search needs)
     (λ c κs. search needs)
     by-offer-requires
     (λ c κs. search needs)
