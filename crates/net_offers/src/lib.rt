@@ -138,11 +138,7 @@ fn against_own(
     if behind(net, w, v) {
         return Explanation::No(Reason::OfferNotBetter);
     }
-    Explanation::Yes(Rule::BetterOffer(
-        offer,
-        client,
-        net_prefer::difference(to_offer, to_client),
-    ))
+    Explanation::Yes(Rule::BetterOffer(offer, client, net_prefer::difference(to_offer, to_client)))
 }
 
 // Rule 3 on the offer of v, a neighbouring reflector, where `own` is the own best client of w.
