@@ -194,7 +194,8 @@ uint8_t rrp_verdict(const uint8_t *plan, size_t plan_len, size_t list, uint8_t *
  * first, of those in groups of two or more, which are the routers that share their label of rrp_verdict with another: it is set if that
  * router holds its best client's own route, from that client itself. No two of the tables have one number. Needs two bytes of out for
  * each number. out[2 * i] and the byte after it become the i-th number, low byte first, the numbers rising. The table of a stable list
- * has the number 0. Refusals 1 to 9, 13 and 15; 15 comes before 9. */
+ * has the number 0. That a suspect list's table is listed is no promise that activations lead to it. Refusals 1 to 9, 13 and 15; 15
+ * comes before 9. */
 uint8_t rrp_steady(const uint8_t *plan, size_t plan_len, size_t list, uint8_t *out, size_t out_len, uint64_t *count);
 
 /* Names a smallest set of routers that makes the plan stable for a list once their roles 1 and 3 become 4 and 5. Bit i of *set is for the

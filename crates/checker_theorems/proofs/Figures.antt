@@ -22,11 +22,12 @@ use Rattle.plan_rules.proofs.Passed.{passed}
 use Rattle.plan_rules.proofs.Refused.{when-given}
 use Rattle.route_rules.specs.Instance.{Instance}
 use Rattle.net_rules.specs.FromPlan.{instanceOf}
+use Rattle.steady_rules.specs.Steady.{groupedIn}
 use Rattle.net_verdict.specs.Assessed.{isStable, labelsOf, highestOf, found, labelsLeft, ranksLeft, tableLeft, cycleLeft}
 use Rattle.figures_rules.specs.declared.report.Highest.{Highest}
 use Rattle.figures_rules.specs.declared.report.Highest.the-variants.{Absent, Of}
 use Rattle.figures_rules.specs.Sums.{groupSize}
-use Rattle.figures_rules.specs.Figures.{stableLists, suspectLists, highestStable, stableWith, inGroup, groupedLists, figuresOf}
+use Rattle.figures_rules.specs.Figures.{stableLists, suspectLists, highestStable, stableWith, groupedLists, figuresOf}
 use Rattle.figures_rules.specs.Meaning.{labelOf, IsHighest, FiguresMean}
 use Rattle.figures_rules.proofs.Sums.{total-cong, count-iff}
 use Rattle.figures_rules.proofs.GroupSizes.{shares-two, size-cong, sizes-cong}
@@ -136,7 +137,7 @@ module _ (plan : List ℕ) (r : FiguresAnswer) (ranks routers : Lent (List ℕ))
 
     -- "in a group of two or more": two or more have the label that is written
     grouped-same : (w : ℕ) → w < n
-        → (1 ≤ inGroup (nets k) w) ↔ (1 ≤ flag (leb 2 (groupSize (writtenLabel verdicts k) n (writtenLabel verdicts k w))))
+        → (1 ≤ groupedIn (nets k) w) ↔ (1 ≤ flag (leb 2 (groupSize (writtenLabel verdicts k) n (writtenLabel verdicts k w))))
     grouped-same w o =
         rw (label-same w o, size-cong (writtenLabel verdicts k) (labelOf (nets k)) n label-same (labelOf (nets k) w))
         (Iff·trans (means .grouped k w l o) (shares-two (labelOf (nets k)) n w o))

@@ -11,10 +11,11 @@ use Rattle.graph_cycle.specs.Cycle.{start, next, walk, metAgainAt, metFirstAt, 
 use Rattle.route_rules.specs.Preference.{nearer, hasStep, hops, prefers, prefersBy}
 use Rattle.route_rules.specs.Reliance.{listedClientOf, bestClient, offer, betterOffer, relies}
 use Rattle.route_rules.specs.Examples.{among, network}
+use Rattle.steady_rules.specs.Examples.{pair}
 use Rattle.net_verdict.specs.Assessed.{isStable, labelsOf, highestOf, cycleOf}
 use Rattle.figures_rules.specs.Sums.{total, groupSize, groupSizes}
 use Rattle.figures_rules.specs.Figures.{stableLists, suspectLists, highestStable, stableWith, groupedLists, figuresOf}
-use Rattle.figures_rules.specs.Examples.{pair, twoGroups, FiguresExamples}
+use Rattle.figures_rules.specs.Examples.{twoGroups, FiguresExamples}
 
 pub figures-examples : FiguresExamples
 unfolding

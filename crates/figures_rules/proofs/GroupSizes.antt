@@ -15,11 +15,11 @@ use Rattle.graph_groups.specs.Groups.{label}
 use Rattle.graph_groups.proofs.Sharing.{label-upto}
 use Rattle.route_rules.specs.Instance.{Instance}
 use Rattle.route_rules.specs.Reliance.{reliance}
+use Rattle.steady_rules.specs.Steady.{groupedIn, LabelShared}
 use Rattle.net_verdict.specs.Assessed.{labelsOf}
 use Rattle.steady_rules.proofs.Members.{shares-label}
 use Rattle.figures_rules.specs.Sums.{groupSize, sizeFromTwo, groupSizes}
-use Rattle.figures_rules.specs.Figures.{inGroup}
-use Rattle.figures_rules.specs.Meaning.{labelOf, SharesLabel}
+use Rattle.figures_rules.specs.Meaning.{labelOf}
 use Rattle.figures_rules.proofs.Sums.{total-cong, total-flags, total-counts, count-iff, count-one, count-at}
 
 module _ (label : ℕ → ℕ) (n : ℕ) where
@@ -33,7 +33,7 @@ module _ (label : ℕ → ℕ) (n : ℕ) where
 
   -- another router has the label of w exactly if two or more have it
   module _ (w : ℕ) (l : w < n) where
-    two-of : SharesLabel label n w → 2 ≤ groupSize label n (label w)
+    two-of : LabelShared label n w → 2 ≤ groupSize label n (label w)
     unfolding groupSize
     two-of s =
         omega (
@@ -44,10 +44,10 @@ module _ (label : ℕ → ℕ) (n : ℕ) where
               (λ v o h. flag-one (label v) (label w) (ap label (sym (flag-same w v h)))),
         )
 
-    other : {k : ℕ} (x : Nth (has (label w)) n k) → (w ≡ x .at → ⊥) → SharesLabel label n w
+    other : {k : ℕ} (x : Nth (has (label w)) n k) → (w ≡ x .at → ⊥) → LabelShared label n w
     other x d = record { other = x .at; below = x .below; differs = d; shares = sym (flag-same (label (x .at)) (label w) (x .yes)) }
 
-    of-two : 2 ≤ groupSize label n (label w) → SharesLabel label n w
+    of-two : 2 ≤ groupSize label n (label w) → LabelShared label n w
     unfolding groupSize
     of-two h =
         let first : Nth (has (label w)) n 0 = nth (has (label w)) n 0 (omega arith) in
@@ -57,7 +57,7 @@ module _ (label : ℕ → ℕ) (n : ℕ) where
         (λ (d : first .at ≡ w → ⊥). other first (λ e. d (sym e)))
         (eq-or-ne (first .at) w)
 
-    pub shares-two : SharesLabel label n w ↔ (1 ≤ flag (leb 2 (groupSize label n (label w))))
+    pub shares-two : LabelShared label n w ↔ (1 ≤ flag (leb 2 (groupSize label n (label w))))
     shares-two =
         (λ s. rw (le-leb 2 _ (two-of s)) (omega arith), λ h. of-two (leb-true 2 _ (flag-yes _ h)))
 
@@ -88,7 +88,7 @@ module _ (label : ℕ → ℕ) (n : ℕ) where
           (eq-or-ne (label w) x)
 
   -- the routers that share their label are as many as the sizes of the groups of two or more sum to
-  pub sizes-count : (g : ℕ → ℕ) → ((w : ℕ) → w < n → label w < n) → ((w : ℕ) → w < n → (1 ≤ g w) ↔ SharesLabel label n w)
+  pub sizes-count : (g : ℕ → ℕ) → ((w : ℕ) → w < n → label w < n) → ((w : ℕ) → w < n → (1 ≤ g w) ↔ LabelShared label n w)
       → count g n ≡ groupSizes label n
   unfolding groupSizes
   sizes-count g below shares =
@@ -114,10 +114,10 @@ module _ (I : Instance) where
   unfolding labelsOf
   label-of w l = getD-tab (label (closure (reliance I) (I .n))) (I .n) 0 w l
 
-  pub grouped-shares : (w : ℕ) → w < I .n → (1 ≤ inGroup I w) ↔ SharesLabel (labelOf I) (I .n) w
+  pub grouped-shares : (w : ℕ) → w < I .n → (1 ≤ groupedIn I w) ↔ LabelShared (labelOf I) (I .n) w
   grouped-shares w l = (there, back)
     where
-      there : 1 ≤ inGroup I w → SharesLabel (labelOf I) (I .n) w
+      there : 1 ≤ groupedIn I w → LabelShared (labelOf I) (I .n) w
       there h =
           let s = shares-label I w l .0 h in
           record {
@@ -127,7 +127,7 @@ module _ (I : Instance) where
             shares = label-of w l ∙ s .shares ∙ sym (label-of (s .other) (s .below));
           }
 
-      back : SharesLabel (labelOf I) (I .n) w → 1 ≤ inGroup I w
+      back : LabelShared (labelOf I) (I .n) w → 1 ≤ groupedIn I w
       back s =
           shares-label I w l .1 (record {
             other = s .other;
@@ -136,7 +136,7 @@ module _ (I : Instance) where
             shares = sym (label-of w l) ∙ s .shares ∙ label-of (s .other) (s .below);
           })
 
-  pub grouped-sizes : count (inGroup I) (I .n) ≡ groupSizes (labelOf I) (I .n)
+  pub grouped-sizes : count (groupedIn I) (I .n) ≡ groupSizes (labelOf I) (I .n)
   grouped-sizes =
-      sizes-count (labelOf I) (I .n) (inGroup I)
+      sizes-count (labelOf I) (I .n) (groupedIn I)
       (λ w l. omega (arith, label-of w l, label-upto (closure (reliance I) (I .n)) w)) grouped-shares

@@ -16,13 +16,14 @@ use Rattle.graph_ranks.specs.Rank.{rank}
 use Rattle.graph_ranks.proofs.RankRule.{rank-below}
 use Rattle.route_rules.specs.Instance.{Instance}
 use Rattle.route_rules.specs.Reliance.{reliance}
+use Rattle.steady_rules.specs.Steady.{groupedIn, LabelShared}
 use Rattle.net_verdict.specs.Assessed.{isStable, highestOf}
 use Rattle.steady_rules.proofs.Members.{reliance-apart}
 use Rattle.figures_rules.specs.declared.report.Highest.{Highest}
 use Rattle.figures_rules.specs.declared.report.Highest.the-variants.{Absent, Of}
 use Rattle.figures_rules.specs.Sums.{total, groupSizes}
-use Rattle.figures_rules.specs.Figures.{stableLists, suspectLists, higherOf, highestStable, stableWith, inGroup, groupedLists}
-use Rattle.figures_rules.specs.Meaning.{labelOf, SharesLabel, IsHighest, GreatestCounted, EveryFiguresMean}
+use Rattle.figures_rules.specs.Figures.{stableLists, suspectLists, higherOf, highestStable, stableWith, groupedLists}
+use Rattle.figures_rules.specs.Meaning.{labelOf, IsHighest, GreatestCounted, EveryFiguresMean}
 use Rattle.figures_rules.proofs.Sums.{total-cong, total-flags, total-counts, count-some, count-at}
 use Rattle.figures_rules.proofs.GroupSizes.{grouped-shares, grouped-sizes}
 
@@ -39,7 +40,7 @@ module _ (I : Instance) where
       )
 
   -- a list is stable exactly if no router is in a group of two or more
-  pub stable-grouped : (isStable I ≡ true) ↔ ((w : ℕ) → w < I .n → inGroup I w ≡ 0)
+  pub stable-grouped : (isStable I ≡ true) ↔ ((w : ℕ) → w < I .n → groupedIn I w ≡ 0)
   unfolding isStable
   stable-grouped = (none, all)
     where
@@ -47,15 +48,15 @@ module _ (I : Instance) where
           ↔ ((i j : ℕ) → i < I .n → j < I .n → 1 ≤ together (closure (reliance I) (I .n)) i j → i ≡ j)
       single = stable-groups (closure (reliance I) (I .n)) (I .n)
 
-      none : isStable I ≡ true → (w : ℕ) → w < I .n → inGroup I w ≡ 0
+      none : isStable I ≡ true → (w : ℕ) → w < I .n → groupedIn I w ≡ 0
       none s w l =
-          ⊎-elim (λ (h : 0 < inGroup I w).
+          ⊎-elim (λ (h : 0 < groupedIn I w).
           let o : Other (closure (reliance I) (I .n)) (I .n) w = grouped-other (closure (reliance I) (I .n)) (I .n) w h in
           absurd (o .differs (single .0 s w (o .at) l (o .below) (o .shares))))
-          (λ (h : inGroup I w ≤ 0). omega arith)
-          (lt-or-le 0 (inGroup I w))
+          (λ (h : groupedIn I w ≤ 0). omega arith)
+          (lt-or-le 0 (groupedIn I w))
 
-      all : ((w : ℕ) → w < I .n → inGroup I w ≡ 0) → isStable I ≡ true
+      all : ((w : ℕ) → w < I .n → groupedIn I w ≡ 0) → isStable I ≡ true
       all h =
           single .1 (λ i j l m t.
           ⊎-elim (λ (e : i ≡ j). e)
@@ -237,9 +238,9 @@ module _ (nets : ℕ → Instance) where
       router-sum : total (groupedLists nets m) n ≡ total (λ k. groupSizes (labelOf (nets k)) n) m
       unfolding groupedLists
       router-sum =
-          total-counts (λ k w. inGroup (nets k) w) n m
+          total-counts (λ k w. groupedIn (nets k) w) n m
           ∙ total-cong _ _ m (λ k l.
-          subst (λ x. count (inGroup (nets k)) x ≡ groupSizes (labelOf (nets k)) x) (same k l) (grouped-sizes (nets k)))
+          subst (λ x. count (groupedIn (nets k)) x ≡ groupSizes (labelOf (nets k)) x) (same k l) (grouped-sizes (nets k)))
 
 pub figures-mean : EveryFiguresMean
 unfolding stableLists suspectLists stableWith groupedLists
@@ -250,10 +251,10 @@ figures-mean nets n m one same =
       rankSum = rank-sum nets m n one same;
       routerSum = router-sum nets m n one same;
       grouped = λ k w l o.
-          subst (λ x. (1 ≤ inGroup (nets k) w) ↔ SharesLabel (labelOf (nets k)) x w) (same k l)
+          subst (λ x. (1 ≤ groupedIn (nets k) w) ↔ LabelShared (labelOf (nets k)) x w) (same k l)
           (grouped-shares (nets k) w (omega (arith, same k l)));
       stable = λ k l.
-          subst (λ x. (isStable (nets k) ≡ true) ↔ ((w : ℕ) → w < x → inGroup (nets k) w ≡ 0)) (same k l) (stable-grouped (nets k));
+          subst (λ x. (isStable (nets k) ≡ true) ↔ ((w : ℕ) → w < x → groupedIn (nets k) w ≡ 0)) (same k l) (stable-grouped (nets k));
       highest = highest-is nets m;
       counted = λ r. Iff·trans (highest-is nets m r) (greatest nets m r);
       absent = absent-is nets m;

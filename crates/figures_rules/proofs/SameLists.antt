@@ -7,8 +7,9 @@ use lib.Dec.{eqb}
 use Rattle.base.specs.Seek.{flag}
 use Rattle.base.proofs.Seek.{count-cong}
 use Rattle.route_rules.specs.Instance.{Instance}
+use Rattle.steady_rules.specs.Steady.{groupedIn}
 use Rattle.net_verdict.specs.Assessed.{isStable, highestOf}
-use Rattle.figures_rules.specs.Figures.{stableLists, suspectLists, higherOf, highestStable, stableWith, inGroup, groupedLists, figuresOf}
+use Rattle.figures_rules.specs.Figures.{stableLists, suspectLists, higherOf, highestStable, stableWith, groupedLists, figuresOf}
 
 module _ (nets others : ℕ → Instance) where
   highest-same : (m : ℕ) → ((k : ℕ) → k < m → nets k ≡ others k) → highestStable nets m ≡ highestStable others m
@@ -33,4 +34,4 @@ module _ (nets others : ℕ → Instance) where
 
     pub routers-same : (w : ℕ) → groupedLists nets m w ≡ groupedLists others m w
     unfolding groupedLists
-    routers-same w = count-cong _ _ m (λ k l. ap (λ I. inGroup I w) (h k l))
+    routers-same w = count-cong _ _ m (λ k l. ap (λ I. groupedIn I w) (h k l))

@@ -7,29 +7,28 @@ use lib.ListN.{getD}
 use Rattle.base.specs.Tab.{tab}
 use Rattle.route_rules.specs.Instance.{Instance}
 use Rattle.route_rules.specs.Examples.{network}
+use Rattle.steady_rules.specs.Steady.{groupedIn}
+use Rattle.steady_rules.specs.Examples.{pair}
 use Rattle.net_verdict.specs.Assessed.{labelsOf, cycleOf}
 use Rattle.figures_rules.specs.declared.report.Highest.the-variants.{Absent, Of}
 use Rattle.figures_rules.specs.Sums.{total, groupSize, groupSizes}
-use Rattle.figures_rules.specs.Figures.{stableLists, suspectLists, highestStable, stableWith, inGroup, groupedLists, figuresOf}
+use Rattle.figures_rules.specs.Figures.{stableLists, suspectLists, highestStable, stableWith, groupedLists, figuresOf}
 
--- M3's network with each of the lists: reflectors 0 and 1, and a client of each, 2 and 3, nearer to the other reflector
-unfoldable pub pair : (lists : List (List ℕ)) → ℕ → Instance
-pair lists k =
-    network 4 (0 ∷ 1 ∷ []) [] [] (getD lists k [])
-    ((1 ∷ 2 ∷ []) ∷ (0 ∷ 3 ∷ []) ∷ (0 ∷ []) ∷ (1 ∷ []) ∷ [])
-    ((0 ∷ 30 ∷ 10 ∷ 6 ∷ []) ∷ (30 ∷ 0 ∷ 6 ∷ 10 ∷ []) ∷ []) []
+-- M3's network with each of the lists
+abbrev pub pairWith : (lists : List (List ℕ)) → ℕ → Instance
+pairWith lists k = pair [] (getD lists k [])
 
 -- list 2,3, which is suspect; lists 3, 0, nobody and 3 again, with the highest ranks 3, 2, 1 and 3
 abbrev pub year : ℕ → Instance
-year = pair ((2 ∷ 3 ∷ []) ∷ (3 ∷ []) ∷ (0 ∷ []) ∷ [] ∷ (3 ∷ []) ∷ [])
+year = pairWith ((2 ∷ 3 ∷ []) ∷ (3 ∷ []) ∷ (0 ∷ []) ∷ [] ∷ (3 ∷ []) ∷ [])
 
 -- list 2,3 twice
 abbrev pub suspects : ℕ → Instance
-suspects = pair ((2 ∷ 3 ∷ []) ∷ (2 ∷ 3 ∷ []) ∷ [])
+suspects = pairWith ((2 ∷ 3 ∷ []) ∷ (2 ∷ 3 ∷ []) ∷ [])
 
 -- list 2,3, then every router listed, so that none relies on another
 abbrev pub everyone : ℕ → Instance
-everyone = pair ((2 ∷ 3 ∷ []) ∷ (0 ∷ 1 ∷ 2 ∷ 3 ∷ []) ∷ [])
+everyone = pairWith ((2 ∷ 3 ∷ []) ∷ (0 ∷ 1 ∷ 2 ∷ 3 ∷ []) ∷ [])
 
 -- Reflectors 0 to 3 in two pairs, 0 with 1 and 2 with 3, where 0 relies on 3 too: clients 4 of 2, 5 of 1 and 3, 6 of 0. With list 4,5,6
 -- there are two groups of two, of which the cycle shows one; with list 4,5 that of 2 and 3 alone.
@@ -64,7 +63,7 @@ pub record FiguresExamples : Type 0 where
   pub noneByRank : tab (stableWith suspects 2) 4 ≡ 0 ∷ 0 ∷ 0 ∷ 0 ∷ []  -- a cycle's length for a rank: 0 0 2 0
   pub noSuspectRank : stableWith year 5 4 ≡ 0  -- chains of a suspect list counted as ranks: 1
   -- "it was in a group of two or more": both groups, of which the cycle shows one
-  pub inGroups : tab (inGroup (twoGroups 0)) 7 ≡ 1 ∷ 1 ∷ 1 ∷ 1 ∷ 0 ∷ 0 ∷ 0 ∷ []  -- of one or more: 1 everywhere
+  pub inGroups : tab (groupedIn (twoGroups 0)) 7 ≡ 1 ∷ 1 ∷ 1 ∷ 1 ∷ 0 ∷ 0 ∷ 0 ∷ []  -- of one or more: 1 everywhere
   pub cycleIsOne : cycleOf (twoGroups 0) ≡ 0 ∷ 1 ∷ []
   -- "for each router in how many lists"
   pub byRouter : tab (groupedLists twoGroups 2) 7 ≡ 1 ∷ 1 ∷ 2 ∷ 2 ∷ 0 ∷ 0 ∷ 0 ∷ []  -- by cycles: 1 1 1 1 0 0 0; list 0 alone: 1 1 1 1 0 0 0

@@ -4,10 +4,8 @@ use Prim.Native.Nat.{ℕ, zero, suc, max}
 use mathlib.Core.Bool.{not, cond, _&&_}
 use lib.Dec.{eqb}
 use Rattle.base.specs.Seek.{flag, count}
-use Rattle.graph_groups.specs.Closure.{closure}
-use Rattle.graph_groups.specs.Groups.{grouped}
 use Rattle.route_rules.specs.Instance.{Instance}
-use Rattle.route_rules.specs.Reliance.{reliance}
+use Rattle.steady_rules.specs.Steady.{groupedIn}
 use Rattle.net_verdict.specs.Assessed.{isStable, highestOf}
 use Rattle.figures_rules.specs.declared.report.Highest.{Highest}
 use Rattle.figures_rules.specs.declared.report.Highest.the-variants.{Absent, Of}
@@ -35,13 +33,9 @@ highestStable nets (suc m) = cond (isStable (nets m)) (higherOf (highestStable n
 unfoldable pub stableWith : (nets : ℕ → Instance) → ℕ → (rank : ℕ) → ℕ
 stableWith nets m rank = count (λ k. flag (isStable (nets k) && eqb (highestOf (nets k)) rank)) m
 
--- "it was in a group of two or more": router w, in one network; 0 is no
-abbrev pub inGroup : Instance → ℕ → ℕ
-inGroup I w = grouped (closure (reliance I) (I .n)) (I .n) w
-
 -- "for each router in how many lists it was in a group of two or more"
 unfoldable pub groupedLists : (nets : ℕ → Instance) → ℕ → (w : ℕ) → ℕ
-groupedLists nets m w = count (λ k. inGroup (nets k) w) m
+groupedLists nets m w = count (λ k. groupedIn (nets k) w) m
 
 -- what the report returns beside the counts by rank and by router
 unfoldable pub figuresOf : (nets : ℕ → Instance) → ℕ → Figures

@@ -5,21 +5,15 @@ use mathlib.Core.Bool.{true, false}
 use mathlib.Core.Logic.{_↔_}
 use lib.ListN.{getD}
 use Rattle.route_rules.specs.Instance.{Instance}
+use Rattle.steady_rules.specs.Steady.{groupedIn, LabelShared}
 use Rattle.net_verdict.specs.Assessed.{isStable, labelsOf, highestOf}
 use Rattle.figures_rules.specs.declared.report.Highest.the-variants.{Absent, Of}
 use Rattle.figures_rules.specs.Sums.{total, groupSizes}
-use Rattle.figures_rules.specs.Figures.{stableLists, suspectLists, highestStable, stableWith, inGroup, groupedLists}
+use Rattle.figures_rules.specs.Figures.{stableLists, suspectLists, highestStable, stableWith, groupedLists}
 
 -- the label that the verdict of a network gives router w
 abbrev pub labelOf : Instance → ℕ → ℕ
 labelOf I w = getD (labelsOf I) w 0
-
--- another router with the label of w, where `label` gives each router's
-pub record SharesLabel (label : ℕ → ℕ) (n w : ℕ) : Type 0 where
-  pub other : ℕ
-  pub below : other < n
-  pub differs : w ≡ other → ⊥
-  pub shares : label w ≡ label other
 
 -- "the highest rank among the stable ones" is r: some stable list has it as its highest, and none has a higher one
 pub record IsHighest (nets : ℕ → Instance) (m r : ℕ) : Type 0 where
@@ -44,8 +38,8 @@ pub record FiguresMean (nets : ℕ → Instance) (n m : ℕ) : Type 0 where
   -- "The routers' counts sum to the sizes of all such groups over all lists, counted from the verdicts.": from their labels
   pub routerSum : total (groupedLists nets m) n ≡ total (λ k. groupSizes (labelOf (nets k)) n) m
   -- a router is in a group of two or more exactly if another has its label, and a list is stable exactly if no router is in one
-  pub grouped : (k w : ℕ) → k < m → w < n → (1 ≤ inGroup (nets k) w) ↔ SharesLabel (labelOf (nets k)) n w
-  pub stable : (k : ℕ) → k < m → (isStable (nets k) ≡ true) ↔ ((w : ℕ) → w < n → inGroup (nets k) w ≡ 0)
+  pub grouped : (k w : ℕ) → k < m → w < n → (1 ≤ groupedIn (nets k) w) ↔ LabelShared (labelOf (nets k)) n w
+  pub stable : (k : ℕ) → k < m → (isStable (nets k) ≡ true) ↔ ((w : ℕ) → w < n → groupedIn (nets k) w ≡ 0)
   -- "the highest rank among the stable ones": it is the greatest rank with a count
   pub highest : (r : ℕ) → (highestStable nets m ≡ Of r) ↔ IsHighest nets m r
   pub counted : (r : ℕ) → (highestStable nets m ≡ Of r) ↔ GreatestCounted (stableWith nets m) r

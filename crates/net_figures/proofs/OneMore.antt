@@ -22,12 +22,13 @@ use Rattle.graph_ranks.specs.Rank.{highestRank}
 use Rattle.route_rules.specs.Instance.{Instance}
 use Rattle.net_reliance.specs.RelianceRows.{RelianceRows}
 use Rattle.net_groups.specs.GroupRows.{GroupRows}
+use Rattle.steady_rules.specs.Steady.{groupedIn}
 use Rattle.net_verdict.specs.Assessed.{isStable, highestOf}
 use Rattle.net_verdict.proofs.Relations.{rows-within, rows-acyclic, highest-same}
 use Rattle.figures_rules.specs.declared.report.Figures.{Figures}
 use Rattle.figures_rules.specs.declared.report.Highest.{Highest}
 use Rattle.figures_rules.specs.declared.report.Highest.the-variants.{Absent}
-use Rattle.figures_rules.specs.Figures.{stableLists, suspectLists, higherOf, highestStable, stableWith, inGroup, groupedLists, figuresOf}
+use Rattle.figures_rules.specs.Figures.{stableLists, suspectLists, higherOf, highestStable, stableWith, groupedLists, figuresOf}
 use Rattle.figures_rules.proofs.Sums.{flag-once}
 use Rattle.figures_rules.proofs.Meaning.{highest-below, stable-grouped}
 use Rattle.net_figures.specs.Counted.{oneMore, Raised, ListCounted}
@@ -156,6 +157,6 @@ module _ (nets : ℕ → Instance) (m : ℕ) where
   unfolding stableWith count
   ranks-more r = ap (λ x. stableWith nets m r + x) (flag-once (isStable (nets m) && eqb (highestOf (nets m)) r))
 
-  pub routers-more : (w : ℕ) → groupedLists nets (suc m) w ≡ groupedLists nets m w + min 1 (inGroup (nets m) w)
+  pub routers-more : (w : ℕ) → groupedLists nets (suc m) w ≡ groupedLists nets m w + min 1 (groupedIn (nets m) w)
   unfolding groupedLists count
   routers-more w = refl

@@ -8,9 +8,10 @@ use lib.ListN.{length, getD, drop}
 use Rattle.base.specs.Lent.{Lent}
 use Rattle.base.specs.Seek.{flag}
 use Rattle.route_rules.specs.Instance.{Instance}
+use Rattle.steady_rules.specs.Steady.{groupedIn}
 use Rattle.net_verdict.specs.Assessed.{isStable, highestOf}
 use Rattle.figures_rules.specs.declared.report.Figures.{Figures}
-use Rattle.figures_rules.specs.Figures.{higherOf, inGroup}
+use Rattle.figures_rules.specs.Figures.{higherOf}
 
 -- the figures with one list more, whose network is I
 unfoldable pub oneMore : Instance → Figures → Figures
@@ -40,4 +41,4 @@ pub record Countable (n : ℕ) (known : Figures) (byRank byRouter : List ℕ) : 
 pub record ListCounted (I : Instance) (known r : Figures) (byRank byRouter : Lent (List ℕ)) : Type 0 where
   pub figures : r ≡ oneMore I known
   pub ranks : Raised (λ rank. flag (isStable I && eqb (highestOf I) rank)) (I .n) (byRank .before) (byRank .after)
-  pub routers : Raised (λ w. min 1 (inGroup I w)) (I .n) (byRouter .before) (byRouter .after)
+  pub routers : Raised (λ w. min 1 (groupedIn I w)) (I .n) (byRouter .before) (byRouter .after)
