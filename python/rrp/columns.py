@@ -3,7 +3,7 @@ that are cut where they get too wide."""
 
 from __future__ import annotations
 
-from collections.abc import Iterable
+from collections.abc import Iterable, Iterator, Sequence
 
 #: So wide are tables side by side, and lines that are cut at blanks. No name is broken.
 COLUMNS = 110
@@ -39,6 +39,14 @@ def left(text: str, columns: int) -> str:
 def right(text: str, columns: int) -> str:
     """A text with blanks before it, up to so many columns."""
     return " " * (columns - width(text)) + text
+
+
+def row_lines(rows: Sequence[Sequence[str]]) -> Iterator[str]:
+    """Rows in columns, a line each. The last column is as wide as it is."""
+    *columns, _ = zip(*rows)
+    widths = [widest(column) for column in columns]
+    for *cells, last in rows:
+        yield "  ".join([*map(left, cells, widths), last])
 
 
 def wrapped(start: str, items: Iterable[str]) -> list[str]:

@@ -15,10 +15,10 @@ from typing import TextIO
 
 from . import __version__
 from .errors import RrpError
-from .usage import Parser, too_many, unknown_command
+from .usage import Parser, may_be_rest, too_many, unknown_command
 
 #: The subcommands with a line of help. Each is a module of its name, `_` for `-`, with `arguments`
-#: and `run`.
+#: and `run`; if it takes several words of a kind, also after options, `REST` names these.
 COMMANDS = {
     "check": "judge a plan for each of its lists",
     "show": "name the lists, or explain the verdict for one",
@@ -26,6 +26,8 @@ COMMANDS = {
     "steady": "show the tables that no activation changes, side by side",
     "hop-set": "name a smallest set of reflectors to load the hop step on",
     "run": "activate routers one by one, and say what changes",
+    "sweep": "judge every failure of a link, a session or a router",
+    "diff": "compare two plans, or a plan with its changed self, by name",
     "dot": "write who relies on whom as a Graphviz picture",
     "pack": "write a text plan as bytes",
     "unpack": "write a plan as text",
@@ -88,7 +90,10 @@ def _options(words: list[str]) -> Namespace:
     if command not in COMMANDS and (command or not {"-h", "--help", "--version"} & set(words)):
         raise unknown_command(parser, command, list(COMMANDS))
     options, extra = parser.parse_known_args(words)
-    if extra:
+    rest = getattr(_module(options.command), "REST", None)
+    if rest and may_be_rest(extra, words):
+        getattr(options, rest).extend(extra)
+    elif extra:
         raise too_many(parsers[options.command], extra, words)
     return options
 
@@ -109,7 +114,7 @@ def _parser(words: list[str]) -> tuple[Parser, dict[str, Parser]]:
         prog="rrp",
         description="Checks BGP route-reflection plans, over a proved library.",
         epilog="Exit status: 0 stable, 1 some list is suspect, 2 error. "
-        "A plan is text or bytes, told apart by its first bytes; - is standard input.",
+        "A plan is text, JSON or bytes, told apart by its first bytes; - is standard input.",
     )
     parser.add_argument("--version", action="version", version=f"rrp {__version__}")
     subparsers = parser.add_subparsers(dest="command", metavar="COMMAND", required=True)

@@ -88,20 +88,32 @@ class Effect(NamedTuple):
         return not self.after.stable and self._same()
 
     def _same(self) -> bool:
-        """Whether the verdicts are the same in all but the routers of the list, which are no part
-        of what is settled; `members` has what changes of them."""
-        if self.before is None:
+        """Whether the verdicts are the same, by name, in all but the routers of the list, which are
+        no part of what is settled; `members` has what changes of them."""
+        if self.before is None or not _same_verdict(self.before, self.after):
             return False
-        return self.before == self.after._replace(egresses=self.before.egresses)
+        if self.moved or self.ranked:
+            return False
+        return _group_sets(self.before) == _group_sets(self.after)
 
     @property
     def label(self) -> str | None:
         """What is as before, in two words; None where the verdict is another."""
-        if self.before is None or verdict_words(self.before) != verdict_words(self.after):
+        if self.before is None or not _same_verdict(self.before, self.after):
             return None
         if self.as_before:
             return "as before"
         return "same verdict" if self.after.stable else "same cycle"
+
+    def rows(self) -> list[tuple[str, ...]]:
+        """The list with its verdict: one row if that is the same, else one for it before and one
+        after. What changes beside it is below."""
+        name, new = self.after.name, verdict_words(self.after)
+        rows = [(name, self.label or "after", new)]
+        if self.label is None:
+            old = "not there" if self.before is None else verdict_words(self.before)
+            rows = [(name, "before", old), ("", "after", new)]
+        return [*rows, *(("", "", line) for line in self.lines())]
 
     def lines(self) -> list[str]:
         """Where a suspect list may rest, what changes beside the verdict, and who ends without a
@@ -123,7 +135,7 @@ class Effect(NamedTuple):
     def _group_lines(self) -> Iterator[str]:
         if self.before is None or self.before.stable or self.after.stable:
             return
-        if self.before.groups != self.after.groups:
+        if _group_sets(self.before) != _group_sets(self.after):
             for when, verdict in (("before", self.before), ("after", self.after)):
                 for group in verdict.groups:
                     yield f"routers that rely on one another {when}: {', '.join(group)}"
@@ -162,11 +174,13 @@ def effect_on(name: str, plan: Plan, changed: Plan) -> Effect:
 
 
 def effect(before: Verdict | None, after: Verdict, members: Members | None = Members()) -> Effect:
-    """What a change does to a list, of which these are the verdicts."""
+    """What a change does to a list, of which these are the verdicts. Routers that only one of them
+    has are not compared."""
     if before is None or before.table is None or after.table is None:
         return Effect(before, after, None, None, members)
-    moved = [Moved(router, before.table[router], after.table[router]) for router in after.table]
-    ranked = [Ranked(router, before.ranks[router], rank) for router, rank in after.ranks.items()]
+    both = [router for router in after.ranks if router in before.ranks]
+    moved = [Moved(router, before.table[router], after.table[router]) for router in both]
+    ranked = [Ranked(router, before.ranks[router], after.ranks[router]) for router in both]
     return Effect(
         before,
         after,
@@ -174,6 +188,19 @@ def effect(before: Verdict | None, after: Verdict, members: Members | None = Mem
         [each for each in ranked if each.before != each.after],
         members,
     )
+
+
+def _same_verdict(before: Verdict, after: Verdict) -> bool:
+    """Whether two verdicts are the same: the highest rank, or the cycle, wherever it starts."""
+    if before.highest != after.highest or len(before.cycle) != len(after.cycle):
+        return False
+    turns = [before.cycle[start:] + before.cycle[:start] for start in range(len(before.cycle))]
+    return after.cycle in (turns or [()])
+
+
+def _group_sets(verdict: Verdict) -> set[frozenset[str]]:
+    """The groups of two or more, whatever the order of the routers."""
+    return set(map(frozenset, verdict.groups))
 
 
 def _of(moved: Iterable[Moved], kind: str) -> list[Moved]:

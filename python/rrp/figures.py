@@ -12,10 +12,7 @@ from itertools import zip_longest
 from typing import NamedTuple
 
 from . import library
-from .errors import LibraryMissing, RrpError
 from .plan import Plan
-from .plan_folders import need_file
-from .text.problems import first_problem
 from .text.writing import identifier_text
 
 
@@ -56,15 +53,6 @@ class Counted(NamedTuple):
             "nobody_lists": self.nobody,
             "highest_rank": self.figures.highest,
         }
-
-
-class NotCounted(NamedTuple):
-    """What was not counted, as it is refused, has errors or cannot be read: why, in one line, and
-    as plain values."""
-
-    path: str
-    why: str
-    errors: list[dict[str, object]]
 
 
 class RouterSum(NamedTuple):
@@ -129,26 +117,6 @@ def counted(plan: Plan) -> Counted:
     """A plan that was read, counted."""
     nobody = sum(not plan.egresses(name) for name in plan.lists)
     return Counted(plan.source, plan.figures(), nobody, tuple(plan.model.identifiers))
-
-
-def count_file(path: str, found: bool = False) -> Counted | NotCounted:
-    """A plan's file, counted, unless it is refused, has errors or cannot be read. What was found in
-    a directory has to be a file."""
-    try:
-        if found:
-            need_file(path)
-        return counted(Plan.read(path))
-    except LibraryMissing:
-        raise
-    except RrpError as failure:
-        return not_counted(path, failure)
-
-
-def not_counted(path: str, failure: RrpError) -> NotCounted:
-    """Why something is not counted."""
-    problem = first_problem(failure)
-    why = str(failure).split("\n", 1)[0] if problem is None else f"{path}: {problem}"
-    return NotCounted(path, why, failure.as_json())
 
 
 def sums_of(plans: Sequence[Counted]) -> Sums:

@@ -4,6 +4,7 @@ from __future__ import annotations
 
 import os
 import sys
+from collections.abc import Iterable
 from contextlib import suppress
 
 from .errors import RrpError
@@ -31,6 +32,12 @@ def read_file(path: str | os.PathLike[str], what: str = "plan") -> tuple[str, by
     return name, data
 
 
+def need_file(path: str) -> None:
+    """Refuses what is there and no file, as a pipe, which may never end."""
+    if os.path.exists(path) and not os.path.isfile(path):
+        raise RrpError(f"{path} is no file")
+
+
 def write_file(path: str, data: bytes) -> None:
     """Writes a file whole; to standard output if the path is `-`."""
     if path == "-":
@@ -43,11 +50,12 @@ def write_file(path: str, data: bytes) -> None:
         raise RrpError(f"{path} cannot be written: {_reason(failure)}") from None
 
 
-def keep_input(source: str, output: str) -> None:
-    """Refuses to write a file that is read."""
-    with suppress(OSError, ValueError):
-        if "-" not in (source, output) and os.path.samefile(source, output):
-            raise RrpError(f"{output} is the plan that is read: name another file to write")
+def keep_input(source: str, output: str, sheets: Iterable[str] = ()) -> None:
+    """Refuses to write a file that is read, be it the plan or a sheet of it."""
+    for each, what in [(source, "the plan"), *((sheet, "a sheet") for sheet in sheets)]:
+        with suppress(OSError, ValueError):
+            if "-" not in (each, output) and os.path.samefile(each, output):
+                raise RrpError(f"{output} is {what} that is read: name another file to write")
 
 
 def _reason(failure: Exception) -> str:

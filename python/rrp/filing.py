@@ -11,7 +11,7 @@ from typing import NamedTuple
 from . import encoding
 from .files import read_file
 from .plan import Plan
-from .text import decode_text
+from .text import decode_text, is_json
 from .text.statements import FORMS
 from .verdict_differences import Names
 
@@ -44,13 +44,16 @@ def packed(data: bytes, name: str) -> Packed:
 
 
 def is_meant(data: bytes) -> bool:
-    """Whether content is meant as a plan: it starts as bytes do, or has a statement."""
-    return encoding.is_bytes(data) or _has_statement(data)
+    """Whether content is meant as a plan: it starts as bytes or as JSON do, or has a statement."""
+    if encoding.is_bytes(data):
+        return True
+    text = data.decode("utf-8-sig", "replace")
+    return is_json(text) or _has_statement(text)
 
 
-def _has_statement(data: bytes) -> bool:
+def _has_statement(text: str) -> bool:
     """Whether some line starts as a statement does."""
-    lines = data.decode("utf-8-sig", "replace").split("\n")
+    lines = text.split("\n")
     return any(word in FORMS for line in lines for word in line.split(maxsplit=1)[:1])
 
 

@@ -135,7 +135,8 @@ def tried_lines(plan: Plan, hop_set: HopSet, path: str) -> list[str]:
     file."""
     others = _on_others(plan, hop_set).words
     tried = [f"tried on the other lists: {others}"] if others else []
-    return [*hop_set.then_lines(), *tried, judge_line(path, hop_set.statements)]
+    judged = judge_line(path, [*plan.changes, *hop_set.statements])
+    return [*hop_set.then_lines(), *tried, judged]
 
 
 def judge_line(path: str, statements: Iterable[str]) -> str:

@@ -50,13 +50,34 @@ def sizes(plan: Plan) -> dict[str, int]:
 
 
 def plan_values(plan: Plan) -> dict[str, object]:
-    """Where a plan came from, its mark and its sizes, as plain values."""
-    return {"plan": plan.source, "mark": plan.mark, "sizes": sizes(plan)}
+    """Where a plan came from, its mark, its sizes and its changes, if any, as plain values."""
+    source = source_values(plan)
+    return {"plan": source.pop("plan"), "mark": plan.mark, "sizes": sizes(plan), **source}
+
+
+def source_values(plan: Plan) -> dict[str, object]:
+    """Where a plan came from and, if there are any, its changes, as plain values."""
+    return {"plan": plan.source, **({"set": plan.changes} if plan.changes else {})}
 
 
 def plan_line(plan: Plan) -> str:
-    """A line on a plan: where it came from and its sizes; and its mark, if that is RRP2."""
-    return sizes_line(plan) + (f", {plan.mark}" if plan.width == WIDE else "")
+    """A line on a plan: where it came from and its sizes; and its mark, if that is RRP2. Below it
+    are the plan's changes, a line each."""
+    mark = f", {plan.mark}" if plan.width == WIDE else ""
+    return "\n".join([f"{sizes_line(plan)}{mark}", *with_lines(plan)])
+
+
+def with_lines(plan: Plan) -> list[str]:
+    """The changes by which a plan differs from the one that was read, a line each."""
+    return [f"with {' '.join(text.split())}" for text in plan.changes]
+
+
+def write_start(plan: Plan) -> None:
+    """Writes what stands before an answer on one list: the notes, and with which changes the plan
+    is judged."""
+    write_notes(plan.notes)
+    for line in with_lines(plan):
+        print(line)
 
 
 def sizes_line(plan: Plan) -> str:
@@ -95,24 +116,32 @@ def verdict_lines(verdict: Verdict, rest: Rest | None = None) -> list[str]:
     return [verdict_words(verdict), *where, *without_route_lines(verdict)]
 
 
-def rest_lines(path: str, rests: Mapping[str, Rest | None]) -> list[str]:
+def rest_lines(
+    path: str, rests: Mapping[str, Rest | None], changes: Iterable[str] = ()
+) -> list[str]:
     """What is said once of suspect lists, by name, that have a table to rest in: that this is no
-    promise, and how to see the tables of the first such list."""
+    promise, and how to see the tables of the first such list, with the plan's changes."""
     if not any_table(rests.values()):
         return []
     name, rest = next((name, rest) for name, rest in rests.items() if any_table([rest]))
     what = "table" if len(rest.numbers) == 1 else "tables"
-    return [NO_PROMISE, f"to see the {what} of {name}: {list_command('steady', path, name)}"]
+    command = list_command("steady", path, name, changes)
+    return [NO_PROMISE, f"to see the {what} of {name}: {command}"]
 
 
-def list_command(command: str, path: str, name: str) -> str:
-    """A command on a list of a plan, as a shell takes it."""
-    return join(["rrp", command, path, *["--"] * name.startswith("-"), name])
+def list_command(command: str, path: str, name: str, changes: Iterable[str] = ()) -> str:
+    """A command on a list of a plan, with changes of it, as a shell takes it."""
+    return join(["rrp", command, path, *set_words(changes), *["--"] * name.startswith("-"), name])
+
+
+def set_words(changes: Iterable[str]) -> list[str]:
+    """Changes of a plan, as words of a command."""
+    return [word for each in changes for word in ("--set", each)]
 
 
 def set_command(path: str, statements: Iterable[str]) -> str:
     """The command that judges changes of a plan for all lists, as a shell takes it."""
-    return join(["rrp", "check", path, *(word for each in statements for word in ("--set", each))])
+    return join(["rrp", "check", path, *set_words(statements)])
 
 
 def without_route_lines(verdict: Verdict) -> list[str]:

@@ -25,6 +25,7 @@ if TYPE_CHECKING:
     from .figures import Figures
     from .hop_sets import HopSet
     from .steady import Steady
+    from .text import Draft
 
 #: A router or a list, by name or by number.
 Which = Union[str, int]
@@ -203,7 +204,8 @@ class Plan:
     """A plan that the library does not refuse, with names.
 
     `data` is the plan's bytes, `routers` and `lists` are the names in the order of the numbers,
-    `source` says where the plan came from, and `notes` has remarks for the planner, a line each.
+    `source` says where the plan came from, `notes` has remarks for the planner, a line each, and
+    `changes` has the statements by which the plan differs from the one that was read.
     """
 
     def __init__(
@@ -213,10 +215,14 @@ class Plan:
         lists: Sequence[str] | None = None,
         source: str = "the plan",
         notes: Sequence[str] = (),
+        changes: Sequence[str] = (),
+        draft: Draft | None = None,
     ) -> None:
         self.data = bytes(data)
         self.source = source
         self.notes = tuple(notes)
+        self.changes = tuple(changes)
+        self._draft = draft
         router_count, list_count = library.size(self.data)
         self.routers = _names(routers, "r", router_count)
         self.lists = _names(lists, "l", list_count)
@@ -233,7 +239,8 @@ class Plan:
 
     @classmethod
     def read(cls, path: str | os.PathLike[str]) -> Plan:
-        """Reads a plan from a file, text or bytes; from standard input if the path is `-`."""
+        """Reads a plan from a file, text, JSON or bytes; from standard input if the path is
+        `-`."""
         from .files import read_file
 
         name, data = read_file(path)
@@ -245,7 +252,8 @@ class Plan:
 
     @classmethod
     def parse(cls, text: str, filename: str = "plan") -> Plan:
-        """Reads a plan from text (docs/TEXT-PLANS.md). `TextErrors` has all problems of a text."""
+        """Reads a plan from text (docs/TEXT-PLANS.md), or from JSON (docs/plan.schema.json).
+        `TextErrors` has all problems of a text."""
         from .text import parse
         from .text.assembly import assemble
 
@@ -259,7 +267,32 @@ class Plan:
         except library.Refused as refused:
             raise library.Refused(refused.number, filename) from None
 
-    # The same plan with the hop step elsewhere, or of the other mark
+    # The same plan with changes, with the hop step elsewhere, or of the other mark
+
+    def changed(self, *statements: str) -> Plan:
+        """This plan with changes, each a statement as `rrp check --set` takes it: a link, a
+        distance, a session, a list or a reflector. `TextErrors` has all problems of them."""
+        from .text.changes import assemble_changed
+
+        changed = assemble_changed(self.draft, statements)
+        changed.changes = (*self.changes, *statements)
+        return changed
+
+    @property
+    def sheets(self) -> set[str]:
+        """The files of the sheets that the plan's text names and that were read."""
+        return set() if self._draft is None else self._draft.sheets()
+
+    @property
+    def draft(self) -> Draft:
+        """What the plan's text states, with its links. That of a plan without a text states every
+        distance."""
+        if self._draft is None:
+            from .text import parse
+            from .text.writing import write
+
+            self._draft = parse(write(self), self.source)
+        return self._draft
 
     def with_hop_step(self, routers: Iterable[Which]) -> Plan:
         """This plan with the hop step at some reflectors too. All else is the same."""
@@ -268,8 +301,7 @@ class Plan:
             if self.model.roles[number] == encoding.CLIENT:
                 name = cut_names(self.routers[number])
                 raise RrpError(f"{name} is a client, and only reflectors have the hop step")
-        changed = encoding.with_step(self.data, numbers)
-        return Plan(changed, self.routers, self.lists, self.source, self.notes)
+        return self._with_data(encoding.with_step(self.data, numbers))
 
     def widened(self) -> Plan:
         """This RRP1 plan as RRP2: the same in all but the bytes of a distance."""
@@ -288,7 +320,11 @@ class Plan:
             if refused.number == library.TOO_FAR_TO_NARROW and far:
                 raise TooFarToNarrow(self.source, *far[0], len(far)) from None
             raise library.Refused(refused.number, self.source) from None
-        return Plan(data, self.routers, self.lists, self.source, self.notes)
+        return self._with_data(data)
+
+    def _with_data(self, data: bytes) -> Plan:
+        """Other bytes of a plan of the same routers and lists."""
+        return Plan(data, self.routers, self.lists, self.source, self.notes, self.changes)
 
     def too_far_for_rrp1(self) -> list[tuple[str, str, int]]:
         """The distances that RRP1 does not hold, in the plan's order: from which router, to which,

@@ -7,10 +7,16 @@ from __future__ import annotations
 
 import os
 from collections.abc import Callable, Iterable, Iterator
-from typing import NamedTuple
+from typing import NamedTuple, TypeVar
 
-from .errors import RrpError
+from .errors import LibraryMissing, RrpError
+from .files import need_file
 from .filing import SUFFIX, verdict_path
+from .plan import Plan
+from .text.problems import first_problem
+
+#: What is found of a plan.
+_Found = TypeVar("_Found")
 
 PLAN_SUFFIXES = (".rrp", ".plan")
 
@@ -38,6 +44,15 @@ def walk(
     for folder, subfolders, names in os.walk(directory, onerror=failed):
         subfolders.sort()
         yield folder, set(names)
+
+
+class Failed(NamedTuple):
+    """A plan that is refused, has errors or cannot be read, or a directory that cannot be read or
+    has no plan: why, in one line, and as plain values."""
+
+    path: str
+    why: str
+    errors: list[dict[str, object]]
 
 
 class Files(NamedTuple):
@@ -81,10 +96,24 @@ def _below(directory: str, failures: list[tuple[str, RrpError]]) -> list[str]:
     return plans
 
 
-def need_file(path: str) -> None:
-    """Refuses what is there and no file, as a pipe, which may never end."""
-    if os.path.exists(path) and not os.path.isfile(path):
-        raise RrpError(f"{path} is no file")
+def of_file(work: Callable[[Plan], _Found], path: str, below: bool) -> _Found | Failed:
+    """What is found of the plan of a file, unless that is refused, has errors or cannot be read.
+    What lies below a directory has to be a file."""
+    try:
+        if below:
+            need_file(path)
+        return work(Plan.read(path))
+    except LibraryMissing:
+        raise
+    except RrpError as failure:
+        return failed(path, failure)
+
+
+def failed(path: str, failure: RrpError) -> Failed:
+    """Why something failed."""
+    problem = first_problem(failure)
+    why = str(failure).split("\n", 1)[0] if problem is None else f"{path}: {problem}"
+    return Failed(path, why, failure.as_json())
 
 
 def no_plan(directory: str) -> RrpError:

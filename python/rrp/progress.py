@@ -1,4 +1,4 @@
-"""A bar on the terminal while many plans are gone through."""
+"""A bar on the terminal while many plans, or failures of one, are gone through."""
 
 from __future__ import annotations
 
@@ -16,7 +16,11 @@ _SECONDS = 0.1
 
 
 def with_progress(
-    found: Iterable[_Found], total: int, wrong: Callable[[_Found], bool], words: str
+    found: Iterable[_Found],
+    total: int,
+    wrong: Callable[[_Found], bool],
+    words: str,
+    noun: str = "plans",
 ) -> Iterator[_Found]:
     """What is found of so many plans, with a bar while it comes if standard error is a terminal. It
     counts what is wrong, in these words."""
@@ -29,7 +33,7 @@ def with_progress(
         if monotonic() - shown >= _SECONDS:
             shown = monotonic()
             bar = f"[{'#' * (_WIDTH * done // total):.<{_WIDTH}}]"
-            sys.stderr.write(f"\r{bar} {done:,} of {total:,} plans, {count:,} {words}")
+            sys.stderr.write(f"\r{bar} {done:,} of {total:,} {noun}, {count:,} {words}")
             sys.stderr.flush()
         yield each
     sys.stderr.write("\r\x1b[K")

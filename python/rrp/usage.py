@@ -12,6 +12,7 @@ from .errors import RrpError, cut_names, nearest
 #: What to give for a word that is missing.
 _MISSING = {
     "PLAN": "name a file that has a plan",
+    "A": "name two plans, or one and a change of it with --set",
     "LIST": "rrp show PLAN names the lists of a plan",
     "ROUTER": "name two routers: the one that relies, and the other",
     "OTHER": "name two routers: the one that relies, and the other",
@@ -22,7 +23,6 @@ _MISSING = {
 
 #: What to do where there are too many words.
 _TOO_MANY = {
-    "rrp check": "check judges all lists of a plan; rrp show PLAN LIST explains one",
     "rrp audit": "audit one directory after the other",
 }
 
@@ -97,6 +97,15 @@ def too_many(parser: Parser, extra: list[str], words: Sequence[str]) -> UsageErr
         advice = f"put what belongs to {option} in quotes, as: {option} '{_joined(option, words)}'"
         return UsageError(parser, message, advice)
     return UsageError(parser, message, _TOO_MANY.get(parser.prog, parser.help_advice()))
+
+
+def may_be_rest(extra: Sequence[str], words: Sequence[str]) -> bool:
+    """Whether words that are left over may be more of those that a command takes several of. Not
+    where one is an option, nor where they seem to belong to a change without quotes."""
+    if any(word.startswith("-") and word != "-" for word in extra):
+        return False
+    values = [after for word, after in zip(words, words[1:]) if word == "--set"]
+    return all(len(value.split()) > 1 for value in values)
 
 
 def _is_before_command(parser: Parser, option: str, words: Sequence[str]) -> bool:

@@ -53,6 +53,29 @@ def _members(draw: random.Random, reflectors: int, clients: range) -> list[int]:
     return sorted(listed + draw.sample(range(reflectors), draw.choice([0, 0, 0, 1])))
 
 
+def linked_text(draw: random.Random, regions: int, links: int, lists: int) -> str:
+    """The text of a plan with a reflector and four clients in each region, each client with two
+    reflectors; as many links, those that join all routers first; and as many lists."""
+    names = [f"rr{region:02}" for region in range(regions)]
+    lines = [f"reflector {name} 10.0.0.{place}" for place, name in enumerate(names, 1)]
+    lines.append(" ".join(["mesh", *names]))
+    clients, joined = [], {}
+    for region, name in enumerate(names):
+        other = names[(region + 1) % regions]
+        joined.setdefault(frozenset((name, other)), draw.randint(20, 60))
+        for place in range(4):
+            clients.append(f"c{region:02}{place}")
+            lines.append(f"client {clients[-1]} 10.0.{region + 1}.{place} of {name} {other}")
+            joined[frozenset((name, clients[-1]))] = draw.randint(5, 20)
+    while len(joined) < links:
+        joined.setdefault(frozenset(draw.sample(names + clients, 2)), draw.randint(5, 60))
+    lines += [f"link {' '.join(sorted(ends))} {weight}" for ends, weight in joined.items()]
+    for number in range(lists):
+        egresses = draw.sample(clients, draw.randint(2, 6))
+        lines.append(" ".join(["list", f"list{number}", *egresses]))
+    return "\n".join([*lines, ""])
+
+
 def random_table(plan: Plan, egress_list: str, draw: random.Random) -> Table:
     """A table with left-over routes."""
     table, listed = plan.empty_table(egress_list), plan.egresses(egress_list)

@@ -15,7 +15,8 @@ from unittest import mock
 from rrp import Figures, Plan, Refused, library
 from rrp.encoding import Model, encode
 from rrp.figure_tables import figure_lines
-from rrp.figures import Counted, NotCounted, count_file, counted, sums_of
+from rrp.figures import Counted, counted, sums_of
+from rrp.plan_folders import Failed, of_file
 from rrp.plan_folders import files_of, is_plan
 
 from .folders import InFolder, write
@@ -261,7 +262,7 @@ class Files(InFolder):
 
     def test_a_pipe_that_is_found_is_not_waited_for(self) -> None:
         os.mkfifo("pipe.plan")
-        found = count_file("pipe.plan", found=True)
+        found = of_file(counted, "pipe.plan", below=True)
         self.assertEqual(found[:2], ("pipe.plan", "pipe.plan is no file"))
 
     def test_why_not(self) -> None:
@@ -273,10 +274,10 @@ class Files(InFolder):
             f"{YEAR}/damaged.plan": f"{YEAR}/damaged.plan: refused 5: {library.REFUSALS[5]}",
         }
         for path, why in cases.items():
-            found = count_file(path)
-            self.assertIsInstance(found, NotCounted)
+            found = of_file(counted, path, below=False)
+            self.assertIsInstance(found, Failed)
             self.assertEqual((found.path, found.why), (path, why))
-        self.assertEqual(len(count_file("slip.rrp").errors), 2)
+        self.assertEqual(len(of_file(counted, "slip.rrp", False).errors), 2)
 
     def test_a_missing_library_is_no_plan_that_is_not_counted(self) -> None:
         places = mock.patch.object(library, "places", lambda: ["/no/a.so"])

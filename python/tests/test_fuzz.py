@@ -6,8 +6,10 @@ RRP_FUZZ is how many inputs are tried.
 from __future__ import annotations
 
 import glob
+import json
 import os
 import random
+import shutil
 import tempfile
 import unittest
 
@@ -22,6 +24,9 @@ from rrp.verdict_files import entry
 from .support import EXAMPLES, FAULT, STORED_PLANS, TESTS, Answer, rrp
 
 COUNT = int(os.environ.get("RRP_FUZZ", "600"))
+
+#: Plans that are damaged as JSON.
+JSON_OF = ("m3.plan", "hop.rrp", "wide.rrp")
 
 _WORDS = (
     "reflector client mesh session link distance list wide of none no-client-reflection hop-step > "
@@ -117,6 +122,50 @@ class Fuzz(unittest.TestCase):
             changes = [random_line(self.draw) for _ in range(self.draw.randint(1, 3))]
             words = [word for change in changes for word in ("--set", change)]
             self.sound(rrp("check", plan, *words), changes)
+
+    def test_json(self) -> None:
+        texts = [rrp("unpack", f"{EXAMPLES}/{name}", "--json").output for name in JSON_OF]
+        texts += [json.dumps(json.loads(text)) for text in texts]
+        statuses = self.tried("plan.json", [text.encode() for text in texts], "plan.json")
+        self.assertEqual(statuses, {0, 1, 2})
+
+    def test_sheets(self) -> None:
+        for name in ("links.csv", "sessions.csv"):
+            with open(f"{EXAMPLES}/{name}", "rb") as file:
+                sheet = file.read()
+            statuses = self.tried(name, [sheet], f"{EXAMPLES}/sheets.rrp")
+            self.assertLessEqual({1, 2}, statuses)
+
+    def tried(self, name: str, inputs: list[bytes], plan: str) -> set[int]:
+        """Judges a plan in a folder with the examples' sheets, one file of which is damaged.
+        Returns the statuses that occur."""
+        statuses = set()
+        with tempfile.TemporaryDirectory() as folder:
+            for each in (f"{EXAMPLES}/links.csv", f"{EXAMPLES}/sessions.csv", plan):
+                if os.path.exists(each):
+                    shutil.copy(each, folder)
+            for _ in range(COUNT // 3):
+                data = damaged(self.draw.choice(inputs), self.draw)
+                with open(f"{folder}/{name}", "wb") as file:
+                    file.write(data)
+                answer = rrp("check", f"{folder}/{os.path.basename(plan)}")
+                self.sound(answer, data)
+                statuses.add(answer.status)
+        return statuses
+
+    def test_sweeps_and_comparisons(self) -> None:
+        with tempfile.TemporaryDirectory() as folder:
+            path = f"{folder}/input"
+            for _ in range(COUNT // 6):
+                data = random_input(self.inputs, self.draw)
+                with open(path, "wb") as file:
+                    file.write(data)
+                for words in (["sweep", path], ["diff", f"{EXAMPLES}/net.rrp", path]):
+                    answer = rrp(*words)
+                    self.assertIn(answer.status, (0, 1, 2), data)
+                    self.assertNotIn(FAULT, answer.errors, data)
+                    if answer.status == 2 and "\nnot judged: " not in answer.output:
+                        self.assertEqual(answer.output, "", data)
 
     def test_verdicts(self) -> None:
         due = entry(Plan.read(f"{EXAMPLES}/net.rrp").data)

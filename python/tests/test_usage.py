@@ -60,9 +60,24 @@ WRONG = (
         "put what belongs to --order in quotes, as: --order '0 1'",
     ),
     (
-        ["check", NET, "peering"],
-        "rrp check: peering is too much",
-        "check judges all lists of a plan; rrp show PLAN LIST explains one",
+        ["sweep", NET, "--set", *_LINK, "--links"],
+        "rrp sweep: lon-rr par-a 12 is too much",
+        "put what belongs to --set in quotes, as: --set 'link lon-rr par-a 12'",
+    ),
+    (
+        ["diff"],
+        "rrp diff: A is missing",
+        "name two plans, or one and a change of it with --set",
+    ),
+    (
+        ["diff", NET, NET, NET],
+        f"rrp diff: {NET} is too much",
+        "rrp diff --help says what it takes",
+    ),
+    (
+        ["sweep", NET, "--link", "--pair", "--rooters", "0"],
+        "rrp sweep: there is no option --rooters",
+        "did you mean --routers?",
     ),
     (
         ["run", NET, "0", "--rounds", "-1"],
@@ -107,8 +122,8 @@ class Usage(unittest.TestCase):
         self.assertIn("missing cannot be read", json.loads(answer.output)["errors"][0]["message"])
 
     def test_long_words_are_cut(self) -> None:
-        errors = rrp("check", NET, "x" * 65).errors
-        self.assertIn(f"rrp check: {'x' * 62}.. is too much\n", errors)
+        errors = rrp("show", NET, "0", "x" * 65).errors
+        self.assertIn(f"rrp show: {'x' * 62}.. is too much\n", errors)
 
     def test_version(self) -> None:
         self.assertEqual(rrp("--version"), (0, f"rrp {__version__}\n", ""))

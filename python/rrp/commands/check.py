@@ -1,32 +1,31 @@
-"""`rrp check PLAN`: the verdict for each list, and beside it the verdict after changes."""
+"""`rrp check PLAN`: the verdict for each list, and beside it the verdict after changes. Of several
+plans, a line each."""
 
 from __future__ import annotations
 
+import os
 from argparse import ArgumentParser, Namespace
 
-from ..columns import left, widest
-from ..effects import Effect, effect_on
+from ..columns import row_lines
+from ..effects import effect_on
 from ..encoding import NARROW, WIDE, longest
-from ..output import list_values, plan_line, plan_values, rest_lines, verdict_lines, verdict_words
+from ..inputs import PLAN_HELP, add_set, need_one_plan
+from ..output import list_values, plan_line, plan_values, rest_lines, verdict_lines
 from ..output import write_json, write_notes
 from ..plan import Plan, Verdict
 from ..rest import NO_PROMISE, Rest, any_table, rest_of
 
-SET_HELP = (
-    "judge a change beside what was; repeatable. The statement goes in place of what the plan has "
-    "on the same two routers, or of the list or the reflector of that name: link A B 12, "
-    "link A B none, distance A > B 12, session A B, session A B none, list NAME A B, list NAME for "
-    "nobody, reflector A hop-step, reflector A no-client-reflection hop-step, reflector A for "
-    "neither"
-)
-
 STRICT_HELP = "end with 1 also where a list is stable but leaves a router without a route"
+
+#: What words after options are more of.
+REST = "plans"
 
 
 def arguments(parser: ArgumentParser) -> None:
     """Adds what `check` takes."""
-    parser.add_argument("plan", metavar="PLAN", help="a plan, text or bytes; - is standard input")
-    parser.add_argument("--set", metavar="STATEMENT", action="append", default=[], help=SET_HELP)
+    what = f"{PLAN_HELP}; or a directory that has plans"
+    parser.add_argument("plans", metavar="PLAN", nargs="+", help=what)
+    add_set(parser, "judge a change of the plan, if it is one, beside what was")
     parser.add_argument("--strict", action="store_true", help=STRICT_HELP)
     parser.epilog = (
         "Routers that a stable list leaves without a route are named. Where nobody is in a list, "
@@ -35,23 +34,52 @@ def arguments(parser: ArgumentParser) -> None:
         "route are named; as before says that every rank and route is the same, and same cycle "
         "that a list is suspect with the cycle that it had, its routes not compared. "
         "Of a suspect list it is told in how many tables it may rest, which is no promise that its "
-        "routers get there; rrp steady PLAN LIST shows them. "
+        "routers get there; rrp steady PLAN LIST shows them. Several plans have a line each, with "
+        "the names of the suspect lists and of those that leave routers without a route. In a "
+        "directory and all below it, plans are the files that rrp audit takes for plans. "
         "Exit status: 0 all lists are stable, after the changes if any; 1 some list is suspect, "
-        "or with --strict some router ends without a route; 2 error."
+        "or with --strict some router ends without a route; 2 error, also where one of several "
+        "plans is not judged."
     )
 
 
 def run(options: Namespace) -> int:
     """Judges every list. Returns 0 if all are stable, after the changes if any, else 1. If strict,
     it also returns 1 where a router ends without a route."""
+    if len(options.plans) > 1 or os.path.isdir(options.plans[0]):
+        return _run_several(options)
     verdicts = _run_changed(options) if options.set else _run_plain(options)
     stable = all(verdict.stable for verdict in verdicts)
     lacking = options.strict and any(verdict.without_route for verdict in verdicts)
     return 0 if stable and not lacking else 1
 
 
+def _run_several(options: Namespace) -> int:
+    """Judges several plans, a line each. Returns 2 where one is not judged."""
+    from ..judging import Judged, judged, judged_rows, judged_sums, judged_words
+    from ..plan_folders import Failed
+    from ..several import of_all
+
+    need_one_plan(options)
+    found = of_all(judged, options.plans, "not judged")
+    plans = [each for each in found if isinstance(each, Judged)]
+    failures = [each for each in found if isinstance(each, Failed)]
+    if options.json:
+        errors = [error for each in failures for error in each.errors]
+        values = {"judged": [each.values() for each in plans], **judged_sums(found)}
+        write_json({**values, "errors": errors})
+    else:
+        for line in [*row_lines(judged_rows(found)), judged_words(found)]:
+            print(line)
+        if any(not os.path.exists(each.path) for each in failures):
+            print("check judges all lists of a plan: rrp show PLAN LIST explains one")
+    suspect = any(each.suspect or options.strict and each.lacking for each in plans)
+    return 2 if failures else 1 if suspect else 0
+
+
 def _run_plain(options: Namespace) -> tuple[Verdict, ...]:
-    plan = Plan.read(options.plan)
+    (path,) = options.plans
+    plan = Plan.read(path)
     verdicts = plan.verdicts()
     rests = {verdict.name: rest_of(plan, verdict) for verdict in verdicts}
     if options.json:
@@ -60,19 +88,17 @@ def _run_plain(options: Namespace) -> tuple[Verdict, ...]:
     else:
         write_notes(plan.notes)
         print(plan_line(plan))
-        _print_rows([row for each in verdicts for row in _rows(each, rests[each.name])])
-        for line in rest_lines(options.plan, rests):
+        rows = [row for each in verdicts for row in _rows(each, rests[each.name])]
+        for line in [*row_lines(rows), *rest_lines(path, rests)]:
             print(line)
     return verdicts
 
 
 def _run_changed(options: Namespace) -> tuple[Verdict, ...]:
-    from ..text.assembly import assemble
-    from ..text.changes import assemble_changed, other_roles
-    from ..text.reading import read_draft
+    from ..text.changes import other_roles
 
-    draft = read_draft(options.plan)
-    plan, changed = assemble(draft), assemble_changed(draft, options.set)
+    plan = Plan.read(*options.plans)
+    changed = plan.changed(*options.set)
     effects = [effect_on(name, plan, changed) for name in changed.lists]
     roles = other_roles(plan, changed)
     if options.json:
@@ -83,14 +109,13 @@ def _run_changed(options: Namespace) -> tuple[Verdict, ...]:
     else:
         write_notes(changed.notes)
         print(plan_line(changed))
-        for text in options.set:
-            print(f"with {' '.join(text.split())}")
         if plan.mark != changed.mark:
             why = f"{'a' if changed.width == WIDE else 'no'} distance is above {longest(NARROW):,}"
             print(f"the plan is then {changed.mark} and no longer {plan.mark}, as {why}")
         for line in (line for each in roles for line in each.lines()):
             print(line)
-        _print_rows([row for each in effects for row in _effect_rows(each)])
+        for line in row_lines([row for each in effects for row in each.rows()]):
+            print(line)
         if any_table(each.rest for each in effects):
             print(NO_PROMISE)
     return tuple(each.after for each in effects)
@@ -100,22 +125,3 @@ def _rows(verdict: Verdict, rest: Rest | None) -> list[tuple[str, ...]]:
     """A list with its verdict, and what more there is to say of it below."""
     first, *more = verdict_lines(verdict, rest)
     return [(verdict.name, first), *(("", line) for line in more)]
-
-
-def _effect_rows(found: Effect) -> list[tuple[str, ...]]:
-    """A list with its verdict: one row if that is the same, else one for it before and one after.
-    What changes beside it is below."""
-    name, new = found.after.name, verdict_words(found.after)
-    rows = [(name, found.label or "after", new)]
-    if found.label is None:
-        old = "not there" if found.before is None else verdict_words(found.before)
-        rows = [(name, "before", old), ("", "after", new)]
-    return [*rows, *(("", "", line) for line in found.lines())]
-
-
-def _print_rows(rows: list[tuple[str, ...]]) -> None:
-    """Prints rows in columns. The last one is as wide as it is."""
-    *columns, _ = zip(*rows)
-    widths = [widest(column) for column in columns]
-    for *cells, last in rows:
-        print("  ".join([*map(left, cells, widths), last]))

@@ -10,6 +10,7 @@ from ..files import keep_input, read_file, write_file
 from ..filing import is_meant
 from ..output import bytes_for_output, write_json
 from ..plan import Plan
+from ..text import is_json
 
 
 def arguments(parser: ArgumentParser) -> None:
@@ -29,7 +30,8 @@ def run(options: Namespace) -> int:
     name, data = read_file(options.plan)
     if is_meant(data) and not is_bytes(data):
         advice = "rrp pack writes its bytes, and with --wide as RRP2"
-        raise RrpError(f"{name} is text, which has no mark to convert: {advice}")
+        what = "JSON" if is_json(data.decode("utf-8-sig", "replace")) else "text"
+        raise RrpError(f"{name} is {what}, which has no mark to convert: {advice}")
     plan = Plan.from_bytes(data, name)
     keep_input(options.plan, options.output)
     bytes_for_output(options)

@@ -5,15 +5,17 @@ from __future__ import annotations
 import sys
 from argparse import ArgumentParser, Namespace
 
-from ..output import verdict_values, write_json, write_notes
+from ..inputs import add_plan, add_set, read_plan
+from ..output import source_values, verdict_values, with_lines, write_json, write_notes
 from ..picture import Edge, edges, graphviz
 from ..plan import Plan, Verdict
 
 
 def arguments(parser: ArgumentParser) -> None:
     """Adds what `dot` takes."""
-    parser.add_argument("plan", metavar="PLAN", help="a plan, text or bytes; - is standard input")
+    add_plan(parser)
     parser.add_argument("list", metavar="LIST", help="a list, by name or number")
+    add_set(parser, "draw the plan with a change")
     parser.epilog = (
         "An arrow leads from a router to one that it relies on, and has the rule and the margin. "
         "Reflectors are boxes, double ones if they have the hop step; listed routers are filled, "
@@ -26,12 +28,12 @@ def arguments(parser: ArgumentParser) -> None:
 
 def run(options: Namespace) -> int:
     """Writes the text, or the reliances as JSON. Returns 0, whatever the verdict."""
-    plan = Plan.read(options.plan)
+    plan = read_plan(options)
     verdict = plan.verdict(options.list)
     if options.json:
         write_json(_values(plan, verdict))
     else:
-        write_notes(plan.notes)
+        write_notes([*plan.notes, *with_lines(plan)])
         sys.stdout.write(graphviz(plan, verdict))
     return 0
 
@@ -50,7 +52,7 @@ def _values(plan: Plan, verdict: Verdict) -> dict[str, object]:
         for router in plan.routers
     ]
     return {
-        "plan": plan.source,
+        **source_values(plan),
         "list": verdict.name,
         **verdict_values(verdict),
         "routers": routers,

@@ -5,17 +5,16 @@ from __future__ import annotations
 import os
 import sys
 from argparse import ArgumentParser, Namespace
-from collections.abc import Iterable, Iterator, Sequence
+from collections.abc import Iterable, Iterator
 from shlex import join
 
-from ..cores import on_all_cores
 from ..errors import RrpError
 from ..figure_tables import figure_lines, many
-from ..figures import Counted, NotCounted, Sums, count_file, counted, not_counted, sums_of
-from ..output import plan_line, write_json, write_notes
-from ..plan import Plan
-from ..plan_folders import NAMES, files_of
-from ..progress import with_progress
+from ..figures import Counted, Sums, counted, sums_of
+from ..inputs import PLAN_HELP, add_set, need_one_plan, read_plan
+from ..output import plan_line, set_words, with_lines, write_json, write_notes
+from ..plan_folders import NAMES, Failed
+from ..several import of_all
 
 #: What the figures of each kind are of.
 _OF = {"by_rank": ("rank",), "by_router": ("router", "identifier"), "by_plan": ("plan",)}
@@ -23,12 +22,16 @@ _OF = {"by_rank": ("rank",), "by_router": ("router", "identifier"), "by_plan": (
 #: The columns of the figures as CSV.
 _COLUMNS = ("figure", *(name for names in _OF.values() for name in names), "value")
 
+#: What words after options are more of.
+REST = "plans"
+
 
 def arguments(parser: ArgumentParser) -> None:
     """Adds what `figures` takes."""
-    what = "a plan, text or bytes; - is standard input; or a directory that has plans"
+    what = f"{PLAN_HELP}; or a directory that has plans"
     parser.add_argument("plans", metavar="PLAN", nargs="+", help=what)
     parser.add_argument("--csv", action="store_true", help="write CSV, for a spreadsheet")
+    add_set(parser, "count the plan, if it is one, with a change")
     parser.epilog = (
         "Counted are the stable and the suspect lists, the highest rank among the stable ones, how "
         "many stable lists have each rank as their highest, and for each router in how many lists "
@@ -51,9 +54,10 @@ def run(options: Namespace) -> int:
         raise RrpError("--json and --csv are two forms of one answer: ask for one of them")
     if len(options.plans) == 1 and not os.path.isdir(options.plans[0]):
         return _run_plan(options)
-    found = _count(options.plans)
+    need_one_plan(options)
+    found = of_all(counted, options.plans, "not counted")
     sums = sums_of([each for each in found if isinstance(each, Counted)])
-    failures = [each for each in found if isinstance(each, NotCounted)]
+    failures = [each for each in found if isinstance(each, Failed)]
     if options.json:
         write_json(_values(sums, failures, ()))
     elif options.csv:
@@ -66,19 +70,22 @@ def run(options: Namespace) -> int:
 def _run_plan(options: Namespace) -> int:
     """Writes the figures of one plan."""
     (path,) = options.plans
-    plan = Plan.read(path)
+    plan = read_plan(options, path)
     sums = sums_of([counted(plan)])
     if options.json:
-        write_json(_values(sums, [], plan.notes))
+        changes = {"set": plan.changes} if plan.changes else {}
+        write_json({**changes, **_values(sums, [], plan.notes)})
         return _status(sums)
     write_notes(plan.notes)
     if options.csv:
+        write_notes(with_lines(plan))
         _write_csv(sums, [])
         return _status(sums)
     for line in [plan_line(plan), *figure_lines(sums, by_plan=False)]:
         print(line)
     if sums.suspect:
-        print(f"to see the verdict for each list: {join(['rrp', 'check', path])}")
+        command = join(["rrp", "check", path, *set_words(plan.changes)])
+        print(f"to see the verdict for each list: {command}")
     return _status(sums)
 
 
@@ -86,28 +93,11 @@ def _status(sums: Sums) -> int:
     return 1 if sums.suspect else 0
 
 
-def _count(paths: Sequence[str]) -> list[Counted | NotCounted]:
-    """Counts the plans of files and directories, with a bar while it does. What is found comes in
-    the order of the paths' names."""
-    files = files_of(paths)
-    plans, below = [*files.named, *files.below], set(files.below)
-    if not plans and len(paths) == 1:
-        raise files.failures[0][1]
-    work = on_all_cores(lambda path: count_file(path, path in below), plans)
-    found = list(with_progress(work, len(plans), _failed, "not counted"))
-    found += [not_counted(*failure) for failure in files.failures]
-    return sorted(found, key=lambda each: each.path)
-
-
-def _failed(found: Counted | NotCounted) -> bool:
-    return isinstance(found, NotCounted)
-
-
-def _failure_lines(failures: Iterable[NotCounted]) -> list[str]:
+def _failure_lines(failures: Iterable[Failed]) -> list[str]:
     return [f"not counted: {each.why}" for each in failures]
 
 
-def _print_sums(sums: Sums, failures: list[NotCounted]) -> None:
+def _print_sums(sums: Sums, failures: list[Failed]) -> None:
     """Prints the figures of several plans, after what is not counted."""
     words = f"{many(len(sums.plans), 'plan')} counted"
     if failures:
@@ -119,7 +109,7 @@ def _print_sums(sums: Sums, failures: list[NotCounted]) -> None:
         print("to see the verdict for each list of a plan: rrp check PLAN")
 
 
-def _values(sums: Sums, failures: list[NotCounted], notes: Iterable[str]) -> dict[str, object]:
+def _values(sums: Sums, failures: list[Failed], notes: Iterable[str]) -> dict[str, object]:
     ranks = enumerate(sums.by_rank)
     return {
         **sums.values(),
@@ -132,7 +122,7 @@ def _values(sums: Sums, failures: list[NotCounted], notes: Iterable[str]) -> dic
     }
 
 
-def _write_csv(sums: Sums, failures: list[NotCounted]) -> None:
+def _write_csv(sums: Sums, failures: list[Failed]) -> None:
     """Writes a line for each figure. What is not counted is told on standard error."""
     import csv
 

@@ -10,7 +10,9 @@ from typing import NamedTuple
 from ..columns import left, widest, wrapped
 from ..hop_sets import HopSet, judge_line, none_needed, not_worked_out, set_if_few
 from ..hop_sets import step_statements, tried_lines, tried_on, tried_values
-from ..output import list_values, plan_line, plan_values, verdict_lines, write_json, write_notes
+from ..inputs import add_plan, add_set, read_plan
+from ..output import list_values, plan_line, plan_values, source_values, verdict_lines
+from ..output import write_json, write_notes, write_start
 from ..plan import Plan, Verdict
 
 _SET = "a smallest set of reflectors to load the hop step on"
@@ -26,9 +28,10 @@ _NOT_ALL_AT_ONCE = (
 
 def arguments(parser: ArgumentParser) -> None:
     """Adds what `hop-set` takes."""
-    parser.add_argument("plan", metavar="PLAN", help="a plan, text or bytes; - is standard input")
+    add_plan(parser)
     which = "a list, by name or number; without it all lists are gone through"
     parser.add_argument("list", metavar="LIST", nargs="?", help=which)
+    add_set(parser)
     parser.epilog = (
         "A reflector that gets the hop step keeps all else: role 1 becomes 4, and 3 becomes 5. No "
         "smaller set of reflectors makes the list stable, wherever they are in the plan; of the "
@@ -47,15 +50,15 @@ def arguments(parser: ArgumentParser) -> None:
 def run(options: Namespace) -> int:
     """Names the set for a list, or those for all lists. Returns 0 if the list is stable without it,
     or all are, else 1."""
-    plan = Plan.read(options.plan)
+    plan = read_plan(options)
     if options.list is None:
         return _run_lists(plan, options)
     verdict, found = plan.verdict(options.list), plan.hop_set(options.list)
     if options.json:
-        which = {"plan": plan.source, **list_values(verdict, None)}
+        which = {**source_values(plan), **list_values(verdict, None)}
         write_json({**which, "hop_set": tried_values(plan, found), "notes": plan.notes})
     else:
-        write_notes(plan.notes)
+        write_start(plan)
         first, *more = verdict_lines(verdict)
         print("\n".join([f"{verdict.name} is {first}", *more]))
         _print_set(plan, found, options.plan)
@@ -164,4 +167,4 @@ def _print_named(
         print(_NOT_ALL_AT_ONCE)
     tried = tried_on(plan, routers, plan.lists).words
     print(f"tried on all lists, with the step at every router named: {tried}")
-    print(judge_line(path, step_statements(plan, routers)))
+    print(judge_line(path, [*plan.changes, *step_statements(plan, routers)]))

@@ -6,7 +6,9 @@ from argparse import ArgumentParser, Namespace
 
 from ..encoding import NARROW, WIDE, longest
 from ..files import keep_input, write_file
-from ..output import bytes_for_output, sizes_line, write_json, write_notes
+from ..inputs import add_set, read_plan
+from ..output import bytes_for_output, sizes_line, source_values, with_lines, write_json
+from ..output import write_notes
 from ..plan import Plan
 
 _RRP1, _RRP2 = f"{longest(NARROW):,}", f"{longest(WIDE):,}"
@@ -14,10 +16,12 @@ _RRP1, _RRP2 = f"{longest(NARROW):,}", f"{longest(WIDE):,}"
 
 def arguments(parser: ArgumentParser) -> None:
     """Adds what `pack` takes."""
-    parser.add_argument("plan", metavar="PLAN", help="a plan in text; - is standard input")
+    what = "a plan in text or JSON; - is standard input"
+    parser.add_argument("plan", metavar="PLAN", help=what)
     parser.add_argument("-o", "--output", metavar="OUT", default="-", help="the file to write")
     wide = "write RRP2 also where RRP1 would do, as the statement wide in the plan does"
     parser.add_argument("--wide", action="store_true", help=wide)
+    add_set(parser, "write the plan with a change")
     parser.epilog = (
         f"The bytes start RRP1, if no distance is above {_RRP1} and RRP2 is not asked for, else "
         f"RRP2, which holds distances up to {_RRP2}. Exit status: 0 written; 2 error."
@@ -26,8 +30,8 @@ def arguments(parser: ArgumentParser) -> None:
 
 def run(options: Namespace) -> int:
     """Writes the bytes of a plan."""
-    plan = Plan.read(options.plan)
-    keep_input(options.plan, options.output)
+    plan = read_plan(options)
+    keep_input(options.plan, options.output, plan.sheets)
     bytes_for_output(options)
     if options.wide and plan.width == NARROW:
         plan = plan.widened()
@@ -41,6 +45,8 @@ def run(options: Namespace) -> int:
         if not to_output:
             size = f"{len(plan.data)} bytes of {plan.mark}"
             print(f"{options.output}: {size}, from {sizes_line(plan)}")
+            for line in with_lines(plan):
+                print(f"    {line}")
             _print_why(plan)
             _print_nobody(plan)
     return 0
@@ -67,7 +73,8 @@ def _print_nobody(plan: Plan) -> None:
 
 def _write_values(plan: Plan, output: str | None) -> None:
     """The names by number, which the bytes lack; and the bytes themselves, if no file has them."""
-    values = {"plan": plan.source, "mark": plan.mark, "output": output, "length": len(plan.data)}
+    values = {**source_values(plan), "mark": plan.mark, "output": output}
+    values["length"] = len(plan.data)
     if output is None:
         values["bytes"] = plan.data.hex()
     names = {"routers": plan.routers, "lists": plan.lists, "lists_of_nobody": _nobody(plan)}

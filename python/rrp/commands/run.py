@@ -8,8 +8,10 @@ from random import Random
 from ..columns import left, widest
 from ..delays import Delays
 from ..errors import RrpError
+from ..inputs import add_plan, add_set, read_plan
 from ..orders import order_words, read_order
-from ..output import NOBODY_LISTED, count_words, routers_do, write_json, write_notes
+from ..output import NOBODY_LISTED, count_words, routers_do, source_values, with_lines
+from ..output import write_json, write_notes
 from ..plan import Plan, Verdict
 from ..rest import Rest, rest_of
 from ..steady import number_of
@@ -48,7 +50,7 @@ Exit status: 0 the list is stable, 1 suspect, 2 error.
 
 def arguments(parser: ArgumentParser) -> None:
     """Adds what `run` takes."""
-    parser.add_argument("plan", metavar="PLAN", help="a plan, text or bytes; - is standard input")
+    add_plan(parser)
     parser.add_argument("list", metavar="LIST", help="a list, by name or number")
     orders = parser.add_mutually_exclusive_group()
     orders.add_argument(
@@ -72,6 +74,7 @@ def arguments(parser: ArgumentParser) -> None:
         type=_number,
         help=f"the most rounds (stable: as many as promised, suspect: {SUSPECT_ROUNDS})",
     )
+    add_set(parser)
     parser.formatter_class, parser.epilog = RawDescriptionHelpFormatter, _EPILOG
 
 
@@ -85,7 +88,7 @@ def run(options: Namespace) -> int:
     """Makes the run. Returns 0 if the list is stable, else 1."""
     if options.plan == options.start == "-":
         raise RrpError("standard input cannot be both the plan and the table: name a file for one")
-    plan = Plan.read(options.plan)
+    plan = read_plan(options)
     verdict = plan.verdict(options.list)
     start = _start(plan, verdict, options.start)
     tracing = _tracing(plan, verdict, start.table, options)
@@ -94,6 +97,8 @@ def run(options: Namespace) -> int:
         _write_values(tracing, options, notes)
     else:
         write_notes(notes)
+        for line in with_lines(plan):
+            print(line)
         _print_run(tracing, options)
     return 0 if verdict.stable else 1
 
@@ -348,7 +353,7 @@ def _write_values(tracing: Tracing, options: Namespace, notes: list[str]) -> Non
     seed = tracing.order.seed
     write_json(
         {
-            "plan": tracing.plan.source,
+            **source_values(tracing.plan),
             "list": tracing.verdict.name,
             "routers": tracing.verdict.egresses,
             "stable": tracing.verdict.stable,

@@ -9,9 +9,10 @@ from textwrap import wrap
 from ..accounts import Account, account
 from ..columns import left, right, widest
 from ..hop_sets import not_worked_out, set_if_few, tried_lines, tried_values
+from ..inputs import add_plan, add_set, read_plan
 from ..output import list_command, list_values, plan_line, plan_values, rest_lines, set_command
-from ..output import verdict_lines, verdict_values, verdict_words, without_route_lines, write_json
-from ..output import write_notes
+from ..output import source_values, verdict_lines, verdict_values, verdict_words
+from ..output import without_route_lines, write_json, write_notes, write_start
 from ..plan import Plan, Verdict
 from ..remedies import Remedy, recommended, smallest_remedy
 from ..rest import Rest, rest_of
@@ -38,9 +39,10 @@ _END_ONE = (
 
 def arguments(parser: ArgumentParser) -> None:
     """Adds what `show` takes."""
-    parser.add_argument("plan", metavar="PLAN", help="a plan, text or bytes; - is standard input")
+    add_plan(parser)
     which = "a list, by name or number; without it all are named"
     parser.add_argument("list", metavar="LIST", nargs="?", help=which)
+    add_set(parser)
     parser.epilog = (
         "Routers that a stable list leaves without a route are named. Of a suspect list it is told "
         "in how many tables it may rest, which is no promise that its routers get there; rrp "
@@ -55,12 +57,12 @@ def arguments(parser: ArgumentParser) -> None:
 
 def run(options: Namespace) -> int:
     """Explains the verdict for a list. Returns 0 if it is stable, or all are, else 1."""
-    plan = Plan.read(options.plan)
+    plan = read_plan(options)
     if options.list is None:
         return _show_lists(plan, options)
     verdict = plan.verdict(options.list)
     if not options.json:
-        write_notes(plan.notes)
+        write_start(plan)
         print(f"{verdict.name} is {verdict_words(verdict)}")
     show = _show_stable if verdict.stable else _show_suspect
     show(plan, verdict, options)
@@ -85,8 +87,8 @@ def _show_lists(plan: Plan, options: Namespace) -> int:
             print(f"{left(each.name, width)}  {word}  {first}")
             for line in more:
                 print(f"{'':{width}}  {'':7}  {line}")
-        print(f"to explain one: {list_command('show', options.plan, plan.lists[0])}")
-        for line in rest_lines(options.plan, rests):
+        print(f"to explain one: {list_command('show', options.plan, plan.lists[0], plan.changes)}")
+        for line in rest_lines(options.plan, rests, plan.changes):
             print(line)
     return 0 if all(each.stable for each in verdicts) else 1
 
@@ -143,11 +145,11 @@ def _show_suspect(plan: Plan, verdict: Verdict, options: Namespace) -> None:
         return
     for group in verdict.groups:
         print(f"routers that rely on one another: {', '.join(group)}")
-    for line in [rest.words, *rest_lines(options.plan, {verdict.name: rest})]:
+    for line in [rest.words, *rest_lines(options.plan, {verdict.name: rest}, plan.changes)]:
         print(line)
     for number, (one, remedy) in enumerate(found, 1):
         _print_reliance(number, one, remedy)
-    _print_advice(options.plan, remedies)
+    _print_advice(plan, options.plan, remedies)
     _print_hop_set(plan, verdict, options.plan)
 
 
@@ -164,11 +166,11 @@ def _print_reliance(number: int, one: Account, remedy: Remedy | None) -> None:
         print(f"   {line}")
 
 
-def _print_advice(path: str, remedies: list[Remedy]) -> None:
+def _print_advice(plan: Plan, path: str, remedies: list[Remedy]) -> None:
     """How to judge a change that makes the list stable, or that none by itself does."""
     best = recommended(remedies)
     if best is not None:
-        command = set_command(path, [best.change.statement])
+        command = set_command(path, [*plan.changes, best.change.statement])
         print(f"\nto judge a change for all lists: {command}")
     elif remedies:
         print("\n".join(["", *_NONE_ENDS_IT]))
@@ -191,5 +193,5 @@ def _hop_set_values(plan: Plan, verdict: Verdict) -> dict[str, object] | None:
 
 
 def _write(plan: Plan, verdict: Verdict, values: dict[str, object]) -> None:
-    which = {"plan": plan.source, "list": verdict.name, "routers": verdict.egresses}
+    which = {**source_values(plan), "list": verdict.name, "routers": verdict.egresses}
     write_json({**which, **values, "notes": plan.notes})

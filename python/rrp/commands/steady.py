@@ -6,7 +6,8 @@ from argparse import ArgumentParser, Namespace
 from collections.abc import Iterator, Sequence
 
 from ..columns import COLUMNS, left, widest, wrapped
-from ..output import verdict_lines, verdict_values, write_json, write_notes
+from ..inputs import add_plan, add_set, read_plan
+from ..output import source_values, verdict_lines, verdict_values, write_json, write_start
 from ..plan import Plan, Verdict
 from ..rest import NO_PROMISE, rest_of
 from ..steady import Steady, SteadyTable
@@ -18,8 +19,9 @@ _GAP = "  "
 
 def arguments(parser: ArgumentParser) -> None:
     """Adds what `steady` takes."""
-    parser.add_argument("plan", metavar="PLAN", help="a plan, text or bytes; - is standard input")
+    add_plan(parser)
     parser.add_argument("list", metavar="LIST", help="a list, by name or number")
+    add_set(parser)
     parser.epilog = (
         "Every table that no activation changes is given, by its number: a bit for each router in "
         "a group of two or more, lowest first, set if it holds its best client's own route. Of "
@@ -32,19 +34,19 @@ def arguments(parser: ArgumentParser) -> None:
 
 def run(options: Namespace) -> int:
     """Writes the tables. Returns 0 if the list is stable, else 1."""
-    plan = Plan.read(options.plan)
+    plan = read_plan(options)
     verdict, found = plan.verdict(options.list), plan.steady(options.list)
     if options.json:
         write_json(_values(plan, verdict, found))
     else:
-        write_notes(plan.notes)
+        write_start(plan)
         _print_tables(plan, verdict, found)
     return 0 if verdict.stable else 1
 
 
 def _values(plan: Plan, verdict: Verdict, found: Steady) -> dict[str, object]:
     return {
-        "plan": plan.source,
+        **source_values(plan),
         "list": verdict.name,
         "routers": verdict.egresses,
         **verdict_values(verdict),

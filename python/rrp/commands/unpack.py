@@ -5,23 +5,30 @@ from __future__ import annotations
 from argparse import ArgumentParser, Namespace
 
 from ..files import keep_input, write_file
-from ..output import write_json
+from ..inputs import add_plan, add_set, read_plan
+from ..output import source_values, with_lines, write_json
 from ..plan import Plan
 from ..text.writing import identifier_text, write
 
 
 def arguments(parser: ArgumentParser) -> None:
     """Adds what `unpack` takes."""
-    parser.add_argument("plan", metavar="PLAN", help="a plan, text or bytes; - is standard input")
+    add_plan(parser)
     parser.add_argument("-o", "--output", metavar="OUT", default="-", help="the file to write")
+    add_set(parser, "write the plan with a change")
+    parser.epilog = (
+        "The text states every distance, and no link. What --json writes is read as a plan too. "
+        "With both -o and --json, the file has the text. Exit status: 0 written; 2 error."
+    )
 
 
 def run(options: Namespace) -> int:
     """Writes the text of a plan, and its content as JSON if that is asked for."""
-    plan = Plan.read(options.plan)
-    keep_input(options.plan, options.output)
+    plan = read_plan(options)
+    keep_input(options.plan, options.output, plan.sheets)
     if options.output != "-" or not options.json:
-        write_file(options.output, write(plan).encode())
+        changes = [f"# {options.plan} {line}\n" for line in with_lines(plan)]
+        write_file(options.output, "".join([*changes, write(plan)]).encode())
     if options.json:
         write_json(values(plan))
     return 0
@@ -41,7 +48,7 @@ def values(plan: Plan) -> dict[str, object]:
     ]
     rows = zip(plan.routers, plan.model.distances)
     return {
-        "plan": plan.source,
+        **source_values(plan),
         "mark": plan.mark,
         "routers": routers,
         "sessions": plan.sessions,

@@ -2,30 +2,28 @@
 
 from __future__ import annotations
 
+from .decoding import decode_text
 from .draft import Draft
 from .gathering import Gathering
 from .problems import Problem, TextErrors
-from .statements import FORMS, Statement, read_statement
-from .words import Line, Word, end_of, lines_of, words_of
+from .statements import FORMS, SheetStatement, Statement, read_statement
+from .words import Word, end_of, lines_of, words_of
 
-__all__ = ["Draft", "TextErrors", "decode_text", "parse"]
+__all__ = ["Draft", "TextErrors", "decode_text", "is_json", "parse"]
 
 
-def decode_text(data: bytes, filename: str) -> str:
-    """The text of a file, which is UTF-8."""
-    try:
-        return data.decode("utf-8-sig")
-    except UnicodeDecodeError as failure:
-        before = data[: failure.start].decode("utf-8-sig", "replace")
-        rest = data[failure.start :].split(b"\n", 1)[0].decode("utf-8", "replace")
-        number, start = before.count("\n") + 1, before.rpartition("\n")[2]
-        word = Word("?", Line(filename, number, start + rest), len(start) + 1)
-        advice = "a plan is text in UTF-8, or bytes that start with RRP1 or RRP2"
-        raise TextErrors([Problem(word, "here the file is no text", advice)]) from None
+def is_json(text: str) -> bool:
+    """Whether a text is meant as a plan in JSON: no statement starts with a brace."""
+    return text.lstrip().startswith("{")
 
 
 def parse(text: str, filename: str = "plan") -> Draft:
-    """The draft of a plan's text. `TextErrors` has all problems of its statements."""
+    """The draft of a plan's text, or of a plan in JSON. `TextErrors` has all problems of its
+    statements."""
+    if is_json(text):
+        from .json_plans import parse_json
+
+        return parse_json(text, filename)
     problems: list[Problem] = []
     statements: list[Statement] = []
     kinds = set()
@@ -37,11 +35,24 @@ def parse(text: str, filename: str = "plan") -> Draft:
             if statement is not None:
                 statements.append(statement)
     draft = Draft(filename)
-    Gathering(draft, problems).gather(statements)
+    Gathering(draft, problems).gather(_with_sheets(statements, problems))
     problems += _missing(kinds, end_of(text, filename))
     if problems:
         raise TextErrors(problems)
     return draft
+
+
+def _with_sheets(statements: list[Statement], problems: list[Problem]) -> list[Statement]:
+    """The statements, with those of each sheet in place of the one that names it."""
+    found: list[Statement] = []
+    for statement in statements:
+        if isinstance(statement, SheetStatement):
+            from .sheets import read_sheet
+
+            found += read_sheet(statement, problems)
+        else:
+            found.append(statement)
+    return found
 
 
 def _missing(kinds: set[str], end: Word) -> list[Problem]:

@@ -26,18 +26,35 @@ _PAIRS_NAMED = 3
 
 def assemble(draft: Draft) -> Plan:
     """The plan of a draft. Routers are numbered by their identifiers."""
-    names = sorted(draft.routers, key=lambda name: draft.routers[name].identifier)
-    model = _model(draft, names)
+    names = names_of(draft)
+    model = _model(draft, names, _distances(draft, names))
     data = encoding.encode(model)
     refusal = library.refusal(data)
     if refusal:
         _raise_refused(draft, names, model, refusal)
-    return Plan(data, names, list(draft.lists), draft.file, _notes(draft, names, model))
+    notes = _notes(draft, names, model)
+    return Plan(data, names, list(draft.lists), draft.file, notes, draft=draft)
 
 
-def _model(draft: Draft, names: list[str]) -> Model:
+def names_of(draft: Draft) -> list[str]:
+    """The routers in the order of their numbers, which is that of their identifiers."""
+    return sorted(draft.routers, key=lambda name: draft.routers[name].identifier)
+
+
+def bytes_of(draft: Draft) -> bytes:
+    """The bytes of a draft. Raises `library.Refused` where it makes no plan, and does not look for
+    the statement to blame."""
+    names = names_of(draft)
+    data = encoding.encode(_model(draft, names, _rows(draft, names)))
+    refusal = library.refusal(data)
+    if refusal:
+        raise library.Refused(refusal, draft.file)
+    return data
+
+
+def _model(draft: Draft, names: list[str], distances: Rows) -> Model:
     """The model of a draft: RRP2 where that is stated, or where a distance is too far for RRP1."""
-    numbers, distances = _numbers(names), _distances(draft, names)
+    numbers = _numbers(names)
     return Model(
         roles=[draft.routers[name].role for name in names],
         identifiers=[draft.routers[name].identifier for name in names],
@@ -61,14 +78,18 @@ def _sessions(
 
 
 def _distances(draft: Draft, names: list[str]) -> Rows:
-    """The distances from the links, with those that are stated in their place."""
+    """The distances of a draft. `TextErrors` says where they are too far."""
     try:
-        rows = _from_links(draft.links, names)
+        return _rows(draft, names)
     except library.Refused as refused:
         if refused.number != library.TOO_FAR:
             raise library.Refused(refused.number, draft.file) from None
         raise TextErrors([_too_far(draft, names)]) from None
-    numbers = _numbers(names)
+
+
+def _rows(draft: Draft, names: list[str]) -> Rows:
+    """The distances from the links, with those that are stated in their place."""
+    rows, numbers = _from_links(draft.links, names), _numbers(names)
     for (start, end), way in draft.distances.items():
         rows[numbers[start]][numbers[end]] = way.value
     return rows

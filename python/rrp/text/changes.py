@@ -17,8 +17,9 @@ from ..plan import Plan
 from .assembly import assemble
 from .draft import Draft, Way, session
 from .gathering import Gathering, ways_of
-from .problems import Problem, TextErrors
+from .problems import Problem, TextErrors, guess
 from .statements import (
+    FORMS,
     HOP_STEP,
     NO_REFLECTION,
     ListStatement,
@@ -26,6 +27,7 @@ from .statements import (
     SessionStatement,
     Statement,
     WayStatement,
+    clear,
     read_statement,
 )
 from .words import Line, Word, words_of
@@ -33,6 +35,9 @@ from .writing import identifier_text
 
 #: The file that a change is said to be in.
 _FILE = "--set"
+
+#: The statements that a change may be.
+_KINDS = ("link", "distance", "session", "list", "reflector")
 
 _ADVICE = "a change is a link, distance, session, list or reflector, as: link lon-rr par-a 12"
 _NAME_A_REFLECTOR = "name a reflector of the plan, as: reflector lon-rr hop-step"
@@ -100,13 +105,26 @@ def with_changes(draft: Draft, texts: Sequence[str]) -> Draft:
         if not words:
             problems.append(Problem(Word("", line, 1), "there is no statement", _ADVICE))
             continue
+        if words[0].text not in _KINDS:
+            problems.append(_no_change(words[0], problems))
+            continue
         statement = read_statement(words, problems, change=True)
         if statement is not None:
-            _change(gathering, words[0], statement)
+            _change(gathering, statement)
     gathering.few_links()
     if problems:
         raise TextErrors(problems)
     return gathering.draft
+
+
+def _no_change(word: Word, problems: list[Problem]) -> Problem:
+    """The problem of a statement that is none, or none of a change. What follows its first word is
+    not looked at: it would be told twice."""
+    if word.text in FORMS:
+        return Problem(word, f"{word.text} is no change", _ADVICE)
+    near = guess(word.text, _KINDS, problems)
+    advice = f"did you mean {near}?" if near else _ADVICE
+    return Problem(word, f"no statement starts with {clear(word.text)}", advice)
 
 
 def assemble_changed(draft: Draft, texts: Sequence[str]) -> Plan:
@@ -138,7 +156,7 @@ def _makes_plan(draft: Draft, texts: Sequence[str]) -> bool:
     return True
 
 
-def _change(gathering: Gathering, first: Word, statement: Statement) -> None:
+def _change(gathering: Gathering, statement: Statement) -> None:
     if isinstance(statement, WayStatement):
         if gathering.two_routers(statement.start, statement.end, f"a {statement.kind}"):
             _change_way(gathering, statement)
@@ -148,11 +166,9 @@ def _change(gathering: Gathering, first: Word, statement: Statement) -> None:
     elif isinstance(statement, ListStatement):
         if statement.name.text in gathering.draft.lists or gathering.room_for_list(statement.name):
             gathering.draft.lists[statement.name.text] = gathering.members(statement)
-    elif isinstance(statement, RouterStatement) and statement.role != CLIENT:
+    elif isinstance(statement, RouterStatement):
         if gathering.known(statement.name, _NAME_A_REFLECTOR):
             _change_reflector(gathering, statement)
-    else:
-        gathering.problem(first, f"{first.text} is no change", _ADVICE)
 
 
 def _change_way(gathering: Gathering, statement: WayStatement) -> None:

@@ -57,6 +57,11 @@ class Draft:
         copied.wide = self.wide
         return copied
 
+    def sheets(self) -> set[str]:
+        """The files of the sheets that links and sessions were read from."""
+        words = [*self.sessions.values(), *(way.word for way in self.links.values())]
+        return {word.line.file for word in words if word.line.sheet}
+
     def ways(self, kind: str) -> dict[tuple[str, str], Way]:
         """The links or the distances."""
         return self.links if kind == "link" else self.distances

@@ -2,7 +2,7 @@
 
 from __future__ import annotations
 
-from collections.abc import Iterable
+from collections.abc import Callable, Iterable
 from itertools import combinations
 
 from ..library import MAX_LINKS, MAX_LISTS, MAX_ROUTERS
@@ -28,12 +28,21 @@ _NOBODY = {"none", "nobody", "nothing"}
 _NO_IDENTIFIER = -1
 
 
-class Gathering:
-    """A draft in the making, and the problems found on the way."""
+def _add_a_line(name: str) -> str:
+    """How a text gets a router."""
+    return f"add a line for it, as: client {name} IDENTIFIER of REFLECTOR"
 
-    def __init__(self, draft: Draft, problems: list[Problem]) -> None:
+
+class Gathering:
+    """A draft in the making, and the problems found on the way. `add` says how the plan gets a
+    router of a name."""
+
+    def __init__(
+        self, draft: Draft, problems: list[Problem], add: Callable[[str], str] = _add_a_line
+    ) -> None:
         self.draft = draft
         self.problems = problems
+        self.add = add
 
     def gather(self, statements: list[Statement]) -> None:
         """Takes all statements, routers first: a name may be used before the line that gives it."""
@@ -72,7 +81,7 @@ class Gathering:
             self.problems.append(reflectors_alone(word).problem)
             return False
         near = guess(word.text, self.draft.routers, self.problems)
-        add = otherwise or f"add a line for it, as: client {word.text} IDENTIFIER of REFLECTOR"
+        add = otherwise or self.add(word.text)
         advice = f"did you mean {near}? Else {add}" if near else add
         self.problem(word, f"no router is named {word.text}", advice)
         return False
@@ -205,4 +214,4 @@ def ways_of(statement: WayStatement) -> list[tuple[str, str]]:
 
 
 def _line(word: Word) -> str:
-    return f"line {word.line.number}"
+    return word.line.place

@@ -48,10 +48,17 @@ class Slip(Exception):
 
 
 class TextErrors(RrpError):
-    """All problems of a text, in the order of their places."""
+    """All problems of a text, in the order of their places; after them those of its sheets."""
 
     def __init__(self, problems: Sequence[Problem]) -> None:
-        self.problems = sorted(problems, key=lambda each: (each.word.line.number, each.word.column))
+        files = list(dict.fromkeys(each.word.line.file for each in problems))
+
+        def place(each: Problem) -> tuple[bool, int, int, int]:
+            """Where a problem is."""
+            line = each.word.line
+            return line.sheet, files.index(line.file), line.number, each.word.column
+
+        self.problems = sorted(problems, key=place)
         super().__init__(self.problems)
 
     def __str__(self) -> str:
@@ -79,7 +86,7 @@ def first_problem(failure: RrpError) -> str | None:
         return None
     count, first = len(failure.problems), failure.problems[0]
     errors = "1 error" if count == 1 else f"{count} errors"
-    where = f"line {first.word.line.number}: {cut_names(first.message)}"
+    where = f"{first.word.line.place}: {cut_names(first.message)}"
     return f"the plan's text has {errors}, as in {where}"
 
 

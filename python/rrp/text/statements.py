@@ -19,6 +19,8 @@ FORMS = {
     "link": "link NAME NAME WEIGHT, or one way: link NAME > NAME WEIGHT",
     "distance": "distance NAME NAME NUMBER, or one way: distance NAME > NAME NUMBER",
     "list": "list NAME [ROUTER ..]",
+    "links": "links from FILE",
+    "sessions": "sessions from FILE",
     "wide": "wide",
 }
 
@@ -86,6 +88,13 @@ class ListStatement(NamedTuple):
     routers: list[Word]
 
 
+class SheetStatement(NamedTuple):
+    """`links` or `sessions`: those of a sheet, by the name of its file."""
+
+    kind: str
+    file: Word
+
+
 class WideStatement(NamedTuple):
     """`wide`: the plan is to be RRP2, also where its distances fit into RRP1."""
 
@@ -93,7 +102,13 @@ class WideStatement(NamedTuple):
 
 
 Statement = Union[
-    RouterStatement, MeshStatement, SessionStatement, WayStatement, ListStatement, WideStatement
+    RouterStatement,
+    MeshStatement,
+    SessionStatement,
+    WayStatement,
+    ListStatement,
+    SheetStatement,
+    WideStatement,
 ]
 
 
@@ -261,6 +276,14 @@ def _read_list(reader: Reader) -> ListStatement:
     return ListStatement(name, reader.names("a router's name") if reader.left() else [])
 
 
+def _read_sheet(reader: Reader) -> SheetStatement:
+    if not reader.take_if("from"):
+        raise Slip(after(reader.words[0]), f"from is missing after {reader.kind}", reader.advice)
+    file = reader.take("the name of the file")
+    reader.end()
+    return SheetStatement(reader.kind, file)
+
+
 def _read_wide(reader: Reader) -> WideStatement:
     reader.end()
     return WideStatement(reader.words[0])
@@ -274,6 +297,8 @@ _READERS = {
     "link": _read_way,
     "distance": _read_way,
     "list": _read_list,
+    "links": _read_sheet,
+    "sessions": _read_sheet,
     "wide": _read_wide,
 }
 
@@ -296,12 +321,13 @@ def read_identifier(word: Word) -> int:
     raise Slip(word, f"{clear(word.text)} is no identifier", advice)
 
 
-def read_value(word: Word, kind: str) -> int | None:
-    """The number of a link or a distance, None for `none`."""
-    if word.text == NO_WAY:
+def read_value(word: Word, kind: str, no_way: str = NO_WAY) -> int | None:
+    """The number of a link or a distance, None for `none`, or for another word where that says no
+    way."""
+    if word.text == no_way:
         return None
     noun, least, most = NUMBERS[kind]
-    advice = f"a {noun} is a number from {least} to {most:,}, or none"
+    advice = f"a {noun} is a number from {least} to {most:,}, or {no_way}"
     if not _INTEGER.fullmatch(word.text):
         raise Slip(word, f"{clear(word.text)} is no number", advice)
     if not _NUMBER.fullmatch(word.text) or not least <= int(word.text) <= most:

@@ -11,11 +11,17 @@ _WORD = re.compile(r"[^\s#>]+|>")
 
 
 class Line(NamedTuple):
-    """A line of a file, numbered from 1."""
+    """A line of a file, numbered from 1. A sheet is a file that a plan's text names."""
 
     file: str
     number: int
     text: str
+    sheet: bool = False
+
+    @property
+    def place(self) -> str:
+        """Where the line is, for who reads the plan's text."""
+        return f"{self.file}, line {self.number}" if self.sheet else f"line {self.number}"
 
 
 class Word(NamedTuple):
@@ -26,10 +32,10 @@ class Word(NamedTuple):
     column: int
 
 
-def lines_of(text: str, file: str) -> Iterator[Line]:
-    """The lines of a text."""
+def lines_of(text: str, file: str, sheet: bool = False) -> Iterator[Line]:
+    """The lines of a text, which may be that of a sheet."""
     for number, line in enumerate(text.split("\n"), 1):
-        yield Line(file, number, line.rstrip("\r"))
+        yield Line(file, number, line.rstrip("\r"), sheet)
 
 
 def words_of(line: Line) -> list[Word]:

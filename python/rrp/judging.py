@@ -1,0 +1,101 @@
+"""The verdicts of several plans, a line each."""
+
+from __future__ import annotations
+
+from collections.abc import Sequence
+from typing import NamedTuple, Union
+
+from .output import count_words
+from .plan import Plan
+from .plan_folders import Failed
+
+
+class Judged(NamedTuple):
+    """A plan that was judged, by its file: how many lists it has, the names of those that are
+    suspect, of those that are stable but leave routers without a route, and of those among them
+    that nobody is in."""
+
+    path: str
+    lists: int
+    suspect: tuple[str, ...]
+    lacking: tuple[str, ...]
+    nobody: tuple[str, ...]
+
+    @property
+    def word(self) -> str:
+        """The verdict on all lists in a word."""
+        return "suspect" if self.suspect else "stable"
+
+    @property
+    def words(self) -> str:
+        """How many lists are what, by name unless they are stable and leave nobody without."""
+        parts = [count_words(self.lists, "list")]
+        if self.suspect:
+            parts = [f"{len(self.suspect)} of {count_words(self.lists, 'list')}"]
+            parts[0] += f": {', '.join(self.suspect)}"
+        lacking = [name for name in self.lacking if name not in self.nobody]
+        if lacking:
+            parts.append(f"routers without a route in {', '.join(lacking)}")
+        if self.nobody:
+            parts.append(f"nobody in {', '.join(self.nobody)}")
+        return "; ".join(parts)
+
+    def values(self) -> dict[str, object]:
+        """The plan and its lists as plain values."""
+        return {
+            "plan": self.path,
+            "stable": not self.suspect,
+            "lists": self.lists,
+            "suspect_lists": self.suspect,
+            "lists_without_route": self.lacking,
+            "lists_of_nobody": self.nobody,
+        }
+
+
+#: What is found of a file.
+Found = Union[Judged, Failed]
+
+
+def judged(plan: Plan) -> Judged:
+    """A plan that was read, judged for each list."""
+    verdicts = plan.verdicts()
+    return Judged(
+        path=plan.source,
+        lists=len(verdicts),
+        suspect=tuple(each.name for each in verdicts if not each.stable),
+        lacking=tuple(each.name for each in verdicts if each.without_route),
+        nobody=tuple(each.name for each in verdicts if each.nobody),
+    )
+
+
+def judged_rows(found: Sequence[Found]) -> list[tuple[str, ...]]:
+    """The plans with their verdicts, or why they have none."""
+    rows = [("plan", "verdict", "lists")]
+    for each in found:
+        if isinstance(each, Failed):
+            why = each.why.removeprefix(each.path).removeprefix(":").strip()
+            rows.append((each.path, "not judged", why))
+        else:
+            rows.append((each.path, each.word, each.words))
+    return rows
+
+
+def judged_sums(found: Sequence[Found]) -> dict[str, int]:
+    """How many plans are stable for all lists, suspect for some, and not judged."""
+    plans = [each for each in found if isinstance(each, Judged)]
+    suspect = sum(bool(each.suspect) for each in plans)
+    return {
+        "plans": len(plans),
+        "stable_plans": len(plans) - suspect,
+        "suspect_plans": suspect,
+        "not_judged": len(found) - len(plans),
+    }
+
+
+def judged_words(found: Sequence[Found]) -> str:
+    """A line that counts the plans."""
+    sums = judged_sums(found)
+    words = f"{count_words(sums['plans'], 'plan')} judged: {sums['stable_plans']} stable for all "
+    words += f"lists, {sums['suspect_plans']} suspect for some"
+    failed = sums["not_judged"]
+    return f"{words}; {failed} not judged" if failed else words
