@@ -1,8 +1,9 @@
 """Builds the wheel that pip installs, by the standard library alone (PEP 517 and PEP 660).
 
 A wheel is an archive of the package, of the proved library beside it, and of some files that name
-them. The library is x86-64 code for Linux, and the wheel's name says so. The wheel of pip install
--e has the place of the package instead, so that an edit of it counts at once.
+them; and of the man page and completions, which the package writes. The library is x86-64 code for
+Linux, and the wheel's name says so. The wheel of pip install -e has the place of the package
+instead, so that an edit of it counts at once.
 """
 
 from __future__ import annotations
@@ -24,7 +25,8 @@ def build_wheel(wheel_directory: str, config_settings=None, metadata_directory=N
     """Writes the wheel into a folder and returns its name."""
     if not os.path.isfile(os.path.join(_HERE, _LIBRARY)):
         sys.exit("python/rrp/librrp.so is missing: run ./build at the root of the repository first")
-    return _write_wheel(wheel_directory, {path: _content(path) for path in _paths()})
+    files = {path: _content(path) for path in _paths()}
+    return _write_wheel(wheel_directory, {**files, **shared_files()})
 
 
 def build_editable(wheel_directory: str, config_settings=None, metadata_directory=None) -> str:
@@ -65,6 +67,21 @@ def _paths() -> list[str]:
     """The files of the package."""
     modules = glob.glob(os.path.join(_HERE, "rrp", "**", "*.py"), recursive=True)
     return sorted([*(os.path.relpath(path, _HERE) for path in modules), "rrp/py.typed", _LIBRARY])
+
+
+def shared_files() -> dict[str, bytes]:
+    """The man page and the completions, by their places below the folder that pip installs to."""
+    from rrp.command import all_commands, man_page
+    from rrp.completion import bash, zsh
+
+    project = _project()
+    folder = f"{project['name']}-{project['version']}.data/data/share"
+    texts = {
+        "man/man1/rrp.1": man_page(),
+        "bash-completion/completions/rrp": bash(all_commands()),
+        "zsh/site-functions/_rrp": zsh(all_commands()),
+    }
+    return {f"{folder}/{name}": text.encode() for name, text in texts.items()}
 
 
 def _content(path: str) -> bytes:

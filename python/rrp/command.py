@@ -11,11 +11,14 @@ from argparse import Namespace
 from collections.abc import Sequence
 from contextlib import suppress
 from importlib import import_module
-from typing import TextIO
+from typing import TYPE_CHECKING, TextIO
 
 from . import __version__
 from .errors import RrpError
 from .usage import Parser, may_be_rest, too_many, unknown_command
+
+if TYPE_CHECKING:
+    from .descriptions import Command
 
 #: The subcommands with a line of help. Each is a module of its name, `_` for `-`, with `arguments`
 #: and `run`; if it takes several words of a kind, also after options, `REST` names these.
@@ -28,14 +31,23 @@ COMMANDS = {
     "run": "activate routers one by one, and say what changes",
     "sweep": "judge every failure of a link, a session or a router",
     "diff": "compare two plans, or a plan with its changed self, by name",
-    "dot": "write who relies on whom as a Graphviz picture",
+    "dot": "write who relies on whom, or the links, for Graphviz",
     "pack": "write a text plan as bytes",
     "unpack": "write a plan as text",
     "convert": "turn an RRP1 plan into RRP2, or back",
     "figures": "count stable and suspect lists, ranks, and routers in groups",
     "file": "write the verdict beside the plan",
     "audit": "compare filed verdicts with their plans",
+    "completion": "write completions for a shell",
+    "man": "write the man page",
 }
+
+#: What the tool is, and what holds of every command.
+_DESCRIPTION = "Checks BGP route-reflection plans, over a proved library."
+_MORE = (
+    "Exit status: 0 stable, 1 some list is suspect, 2 error. "
+    "A plan is text, JSON or bytes, told apart by its first bytes; - is standard input."
+)
 
 #: The exit status of an error. A command returns 0 if all that it judged is stable, else 1.
 ERROR = 2
@@ -110,12 +122,7 @@ def _report(failure: RrpError, as_json: bool) -> None:
 
 def _parser(words: list[str]) -> tuple[Parser, dict[str, Parser]]:
     """The parser, and that of each subcommand. The one that the words name has its arguments."""
-    parser = Parser(
-        prog="rrp",
-        description="Checks BGP route-reflection plans, over a proved library.",
-        epilog="Exit status: 0 stable, 1 some list is suspect, 2 error. "
-        "A plan is text, JSON or bytes, told apart by its first bytes; - is standard input.",
-    )
+    parser = Parser(prog="rrp", description=_DESCRIPTION, epilog=_MORE)
     parser.add_argument("--version", action="version", version=f"rrp {__version__}")
     subparsers = parser.add_subparsers(dest="command", metavar="COMMAND", required=True)
     parsers = {}
@@ -126,6 +133,20 @@ def _parser(words: list[str]) -> tuple[Parser, dict[str, Parser]]:
             _module(name).arguments(parsers[name])
             parsers[name].add_argument("--json", action="store_true", help="write JSON")
     return parser, parsers
+
+
+def all_commands() -> list[Command]:
+    """What each command takes, as its help has it."""
+    from .descriptions import described
+
+    return described(_parser(list(COMMANDS))[1], COMMANDS)
+
+
+def man_page() -> str:
+    """The man page of all commands."""
+    from .manual import page
+
+    return page(all_commands(), _DESCRIPTION, _MORE)
 
 
 def _module(name: str):

@@ -116,6 +116,12 @@ def decode_distances(body: bytes, routers: int, width: int = NARROW) -> Rows:
     return [ways[row * routers : (row + 1) * routers] for row in range(routers)]
 
 
+def decode_row(body: bytes, routers: int, row: int) -> list[int | None]:
+    """A row of a body of two-byte distances."""
+    words = struct.unpack_from(f"<{routers}H", body, NARROW * routers * row)
+    return [None if word == NO_WAY else word for word in words]
+
+
 def _decode_lists(body: bytes) -> list[list[int]]:
     lists, place = [], 1
     for _ in range(body[0]):
@@ -157,6 +163,23 @@ def with_distance(plan: bytes, start: int, end: int, distance: int | None) -> by
     (body,) = struct.unpack_from("<H", plan, 6 + 5 * 2 + 1)
     place = body + width * (plan[4] * start + end)
     return plan[:place] + _encode_distances([distance], width) + plan[place + width :]
+
+
+def with_distances(
+    plan: bytes, body: bytes, stated: dict[tuple[int, int], int | None]
+) -> bytes:
+    """The bytes of a plan that the library does not refuse, with the two-byte distances of a body
+    in place of its own, and in place of some of them those that are stated."""
+    width, count = width_of(plan), plan[4]
+    (place,) = struct.unpack_from("<H", plan, 6 + 5 * 2 + 1)
+    if width == WIDE:
+        rows = decode_distances(body, count)
+        body = _encode_distances([way for row in rows for way in row], WIDE)
+    written = bytearray(body)
+    for (start, end), way in stated.items():
+        at = width * (count * start + end)
+        written[at : at + width] = _encode_distances([way], width)
+    return plan[:place] + bytes(written) + plan[place + len(written) :]
 
 
 def with_step(plan: bytes, routers: Iterable[int]) -> bytes:

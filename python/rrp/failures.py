@@ -42,7 +42,7 @@ def failures_of(plan: Plan, kind: str) -> list[Failure]:
     if kind == SESSION:
         return [Failure(kind, pair) for pair in plan.sessions]
     links = plan.draft.links
-    up = dict.fromkeys(session(*ends) for ends, way in links.items() if way.value is not None)
+    up = dict.fromkeys(session(*ends) for ends in plan.draft.links_up)
     stated = [ends for ends in links if session(*ends) in up]
     first = {session(*ends): ends for ends in reversed(stated)}
     return [Failure(kind, first[pair]) for pair in up]

@@ -6,12 +6,16 @@ The verdict of a text plan is that of the bytes that it packs into.
 
 from __future__ import annotations
 
+from contextlib import suppress
 from typing import NamedTuple
 
 from . import encoding
+from .errors import RrpError
 from .files import read_file
 from .plan import Plan
 from .text import decode_text, is_json
+from .text.assembly import assemble
+from .text.plain import plain_draft
 from .text.statements import FORMS
 from .verdict_differences import Names
 
@@ -39,8 +43,18 @@ def packed(data: bytes, name: str) -> Packed:
     """
     if encoding.is_bytes(data) or not is_meant(data):
         return Packed(data)
-    plan = Plan.parse(decode_text(data, name), name)
+    plan = _parsed(decode_text(data, name), name)
     return Packed(plan.data, Names(plan.routers, plan.lists))
+
+
+def _parsed(text: str, name: str) -> Plan:
+    """The plan of a text. One with nothing wrong is read quickly, and what is wrong with another
+    is found by reading it with the place of each word."""
+    draft = plain_draft(text, name)
+    if draft is not None:
+        with suppress(RrpError):
+            return assemble(draft)
+    return Plan.parse(text, name)
 
 
 def is_meant(data: bytes) -> bool:

@@ -8,7 +8,7 @@ to the other lists is tried too.
 
 from __future__ import annotations
 
-from collections.abc import Iterable, Sequence
+from collections.abc import Iterable, Mapping, Sequence
 from typing import NamedTuple
 
 from .library import REFUSALS, TOO_MANY_GROUPED
@@ -38,8 +38,7 @@ class HopSet(NamedTuple):
 
     def then_lines(self) -> list[str]:
         """What its list was found to be with the step there."""
-        first, *more = verdict_lines(self.verdict)
-        return [f"tried: the list is then {first}", *more]
+        return _then_lines(self.verdict)
 
     def values(self) -> dict[str, object]:
         """The set and the verdict for its list as plain values."""
@@ -53,7 +52,7 @@ class HopSet(NamedTuple):
 
 
 class Tried(NamedTuple):
-    """What became of lists, by name, when the hop step was tried at some reflectors."""
+    """What became of lists, by name, when a change or the hop step was tried."""
 
     become_suspect: tuple[str, ...]
     stay_suspect: tuple[str, ...]
@@ -115,11 +114,20 @@ def none_needed(plan: Plan) -> str:
 
 def tried_on(plan: Plan, routers: Sequence[str], lists: Iterable[str]) -> Tried:
     """What becomes of lists with the hop step at some reflectors, by trying."""
-    changed = plan.with_hop_step(routers)
+    changed, names = plan.with_hop_step(routers), list(lists)
+    before, after = (
+        {name: each.verdict(name).stable for name in names} for each in (plan, changed)
+    )
+    return became(before, after)
+
+
+def became(
+    before: Mapping[str, bool], after: Mapping[str, bool], leave_out: str | None = None
+) -> Tried:
+    """What becomes of lists that are stable, or not, before and after a change."""
     found: dict[tuple[bool, bool], list[str]] = {}
-    for name in lists:
-        kind = plan.verdict(name).stable, changed.verdict(name).stable
-        found.setdefault(kind, []).append(name)
+    for name in (name for name in before if name != leave_out):
+        found.setdefault((before[name], after[name]), []).append(name)
     kinds = [(True, False), (False, False), (False, True), (True, True)]
     return Tried(*(tuple(found.get(kind, ())) for kind in kinds))
 
@@ -130,18 +138,29 @@ def tried_values(plan: Plan, hop_set: HopSet) -> dict[str, object]:
 
 
 def tried_lines(plan: Plan, hop_set: HopSet, path: str) -> list[str]:
-    """What was tried with the step at the routers of a set: the verdict for its list, and what
-    became of the other lists, if there are any. And how to see all that it changes in the plan of a
-    file."""
-    others = _on_others(plan, hop_set).words
-    tried = [f"tried on the other lists: {others}"] if others else []
-    judged = judge_line(path, [*plan.changes, *hop_set.statements])
-    return [*hop_set.then_lines(), *tried, judged]
+    """What was tried with the step at the routers of a set, and how to see all that it changes in
+    the plan of a file."""
+    statements = [*plan.changes, *hop_set.statements]
+    return judged_lines(hop_set.verdict, _on_others(plan, hop_set), path, statements)
+
+
+def judged_lines(
+    verdict: Verdict, others: Tried, path: str, statements: Iterable[str]
+) -> list[str]:
+    """What was tried with changes: the verdict for a list, and what became of the other lists, if
+    there are any. And how to see all that they change in the plan of a file."""
+    tried = [f"tried on the other lists: {others.words}"] if others.words else []
+    return [*_then_lines(verdict), *tried, judge_line(path, statements)]
+
+
+def _then_lines(verdict: Verdict) -> list[str]:
+    first, *more = verdict_lines(verdict)
+    return [f"tried: the list is then {first}", *more]
 
 
 def judge_line(path: str, statements: Iterable[str]) -> str:
-    """How to see what the hop step changes in the plan of a file, for all lists. Routes may move
-    also in lists that stay stable."""
+    """How to see what changes do in the plan of a file, for all lists. Routes may move also in
+    lists that stay stable."""
     return f"to judge it for all lists, routes too: {set_command(path, statements)}"
 
 

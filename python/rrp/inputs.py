@@ -13,8 +13,8 @@ PLAN_HELP = "a plan, text, JSON or bytes; - is standard input"
 _FORMS = (
     "The statement goes in place of what the plan has on the same two routers, or of the list or "
     "the reflector of that name: link A B 12, link A B none, distance A > B 12, session A B, "
-    "session A B none, list NAME A B, list NAME for nobody, reflector A hop-step, reflector A "
-    "no-client-reflection hop-step, reflector A for neither"
+    "session A B none, list NAME A B, list NAME (then nobody is in it), reflector A hop-step, "
+    "reflector A no-client-reflection hop-step, reflector A (then it has neither word)"
 )
 
 

@@ -170,6 +170,14 @@ def cycle_words(cycle: Sequence[str]) -> str:
     return " -> ".join([*cycle, *cycle[:1]])
 
 
+def write_lists(
+    plan: Plan, verdicts: Iterable[Verdict], rests: Mapping[str, Rest | None]
+) -> None:
+    """Writes as JSON what a plan is and its lists, with where suspect ones may rest, by name."""
+    lists = [list_values(each, rests[each.name]) for each in verdicts]
+    write_json({**plan_values(plan), "lists": lists, "notes": plan.notes})
+
+
 def list_values(verdict: Verdict, rest: Rest | None) -> dict[str, object]:
     """A list, its routers, its verdict and where it may rest if it is suspect, as plain values."""
     return {"list": verdict.name, "routers": verdict.egresses, **verdict_values(verdict, rest)}

@@ -12,7 +12,7 @@ them, and no way, which counts as a larger change than any other; the smallest c
 
 from __future__ import annotations
 
-from collections.abc import Iterable, Iterator
+from collections.abc import Iterator
 from itertools import groupby
 from typing import NamedTuple
 
@@ -22,17 +22,19 @@ from .plan import Explanation, Plan, Verdict, Which
 
 
 class Change(NamedTuple):
-    """Another distance from a router to another: `becomes` in place of `was`, None for no way."""
+    """Another distance from a router to another: `becomes` in place of `was`. None is no way."""
 
     start: str
     end: str
-    was: int
+    was: int | None
     becomes: int | None
 
     @property
     def size(self) -> int:
-        """By how much the distance changes. No way is a larger change than any other."""
-        return longest(WIDE) + 1 if self.becomes is None else abs(self.becomes - self.was)
+        """By how much the distance changes. To or from no way is a larger change than any other."""
+        if self.becomes is None or self.was is None:
+            return longest(WIDE) + 1
+        return abs(self.becomes - self.was)
 
     @property
     def statement(self) -> str:
@@ -80,14 +82,6 @@ def smallest_remedy(plan: Plan, egress_list: Which, router: str, other: str) -> 
         if remedies:
             return min(remedies, key=lambda remedy: not remedy.verdict.stable)
     return None
-
-
-def recommended(remedies: Iterable[Remedy]) -> Remedy | None:
-    """The remedy to recommend: of those that make the list stable, the smallest that leaves the
-    fewest routers without a route. None if no remedy makes the list stable."""
-    ending = [remedy for remedy in remedies if remedy.verdict.stable]
-    order = [(len(each.verdict.without_route), each.change.size) for each in ending]
-    return ending[order.index(min(order))] if ending else None
 
 
 def _size(change: Change) -> int:

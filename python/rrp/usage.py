@@ -67,9 +67,13 @@ class Parser(argparse.ArgumentParser):
         """Where to read what the command takes."""
         return f"{self.prog} --help says what it takes"
 
+    def actions(self) -> list[argparse.Action]:
+        """What the command takes, options and words, in the order of its help."""
+        return list(self._actions)
+
     def options(self) -> list[str]:
         """The options that the command takes."""
-        return [name for action in self._actions for name in action.option_strings]
+        return [name for action in self.actions() for name in action.option_strings]
 
 
 def unknown_command(parser: Parser, word: str | None, known: Sequence[str]) -> UsageError:

@@ -85,3 +85,43 @@ def random_table(plan: Plan, egress_list: str, draw: random.Random) -> Table:
             route = Route(draw.choice(plan.routers), draw.choice(neighbours))
             table = table.with_route(router, route)
     return table
+
+
+def random_links(draw: random.Random, wide: bool = False) -> str:
+    """The text of a small plan with links: two or three reflectors that are often nearer to one
+    another's clients than to their own, a link or two one way, and at times a stated distance."""
+    reflectors = [f"r{number}" for number in range(draw.randint(2, 3))]
+    clients = [f"c{number}" for number in range(draw.randint(3, 5))]
+    lines = [f"reflector {name} {number}" for number, name in enumerate(reflectors)]
+    for number, name in enumerate(clients, 10):
+        parents = draw.sample(reflectors, draw.choice([1, 1, 1, 2]))
+        lines.append(f"client {name} {number} of {' '.join(parents)}")
+    lines.append(f"mesh {' '.join(reflectors)}")
+    for one, other in combinations([*reflectors, *clients], 2):
+        if draw.random() < 0.5:
+            way = draw.choice([" > ", " ", " ", " "])
+            lines.append(f"link {one}{way}{other} {draw.randint(1, 9)}")
+    if draw.random() < 0.3:
+        one, other = draw.choice(reflectors), draw.choice(clients)
+        lines.append(f"distance {one} > {other} {draw.choice(['none', 2, 5, 9])}")
+    for number in range(3):
+        lines.append(f"list l{number} {' '.join(draw.sample(clients, draw.randint(2, 3)))}")
+    return "\n".join([*lines, *["wide"] * wide, ""])
+
+
+def site_network(sites: int, clients: int) -> str:
+    """The text of a plan of sites in a ring, with two reflectors each that share its clients. Each
+    reflector is nearer to the next site's first client than to its own, so that the list `round` of
+    all of these is suspect, and `some`, without the last site's, is stable."""
+    reflectors = [f"s{site}-r{number}" for site in range(sites) for number in (1, 2)]
+    lines = [f"reflector {name} {number}" for number, name in enumerate(reflectors)]
+    lines.append(f"mesh {' '.join(reflectors)}")
+    for site in range(sites):
+        pair = f"s{site}-r1", f"s{site}-r2"
+        names = [f"s{site}-c{number}" for number in range(clients)]
+        for number, name in enumerate(names):
+            lines.append(f"client {name} {100 * (site + 1) + number} of {' '.join(pair)}")
+            lines += [f"link {reflector} {name} {10 + number}" for reflector in pair]
+        lines += [f"link {reflector} s{(site + 1) % sites}-c0 6" for reflector in pair]
+    first = [f"s{site}-c0" for site in range(sites)]
+    return "\n".join([*lines, f"list round {' '.join(first)}", f"list some {' '.join(first[:-1])}"])

@@ -63,7 +63,8 @@ class Commands(InFolder):
             if command == "pack":
                 asked += ["-o", "out.plan"]
             answer = rrp(*asked)
-            self.assertIn(f"with {CHANGE}\n", answer.output + answer.errors, command)
+            said = answer.output + answer.errors
+            self.assertIn(f"with {CHANGE}\n", said.replace("\\n", "\n"), command)
             plain = rrp(command, NET, *words, "--json").output
             self.assertNotIn("set", json.loads(plain), command)
 

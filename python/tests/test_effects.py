@@ -12,9 +12,6 @@ import unittest
 from rrp import Plan, encoding
 from rrp.effects import Effect, effect, effect_on
 from rrp.output import without_route_lines
-from rrp.text.assembly import assemble
-from rrp.text.changes import assemble_changed
-from rrp.text.reading import read_draft
 
 from .networks import random_network
 from .support import EXAMPLES, STORED_PLANS, TESTS, rrp
@@ -154,8 +151,8 @@ class Command(unittest.TestCase):
 
     def plans(self, change: str) -> tuple[Plan, Plan]:
         """The bundled plan before a change and after it."""
-        draft = read_draft(NET)
-        return assemble(draft), assemble_changed(draft, [change])
+        plan = Plan.read(NET)
+        return plan, plan.changed(change)
 
     def test_a_cut_link_moves_routers_though_the_verdict_is_the_same(self) -> None:
         customer = self.judged("link lon-b man-a none")["customer"]

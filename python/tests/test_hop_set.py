@@ -17,8 +17,6 @@ from rrp import HopSet, Plan, Refused, RrpError, TooManyGrouped, library
 from rrp.columns import width
 from rrp.encoding import decode, encode, with_step
 from rrp.hop_sets import Tried, none_needed, step_statements, tried_on
-from rrp.text.changes import assemble_changed
-from rrp.text.reading import read_draft
 
 from .folders import InFolder, write
 from .networks import random_network
@@ -254,7 +252,7 @@ class Steps(unittest.TestCase):
         for path in (NET, LOAD, M3, HOP, f"{PLANS}/roles.rrp", f"{PLANS}/thirteen.rrp"):
             plan = Plan.read(path)
             reflectors = [each for each in plan.routers if plan.role(each) == "reflector"]
-            changed = assemble_changed(read_draft(path), step_statements(plan, reflectors))
+            changed = plan.changed(*step_statements(plan, reflectors))
             self.assertEqual(changed.data, plan.with_hop_step(reflectors).data, path)
 
     def test_none_needed(self) -> None:

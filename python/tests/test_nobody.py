@@ -248,7 +248,7 @@ class Commands(InFolder):
     def test_the_picture_says_it(self) -> None:
         plan = Plan.read(GONE)
         text = graphviz(plan, plan.verdict("gone"))
-        self.assertIn(f"settles within 3 rounds\\n{flushed(3)}\"", text)
+        self.assertIn(f"settles within 3 rounds\\n{flushed(3)}\\n", text)
         self.assertNotIn("filled", text)
         self.assertNotIn("nobody", graphviz(plan, plan.verdict("transit")))
 

@@ -4,16 +4,12 @@ from __future__ import annotations
 
 import json
 import random
-import shlex
 import unittest
 from itertools import permutations
 
 from rrp import Plan
 from rrp.encoding import NARROW, WIDE, longest
-from rrp.remedies import Change, Remedy, recommended, smallest_remedy
-from rrp.text.assembly import assemble
-from rrp.text.changes import with_changes
-from rrp.text.reading import read_draft
+from rrp.remedies import Change, Remedy, smallest_remedy
 
 from .networks import random_network
 from .support import EXAMPLES, STORED_PLANS, TESTS, read, rrp
@@ -57,9 +53,9 @@ class Shown(unittest.TestCase):
         """The reliance is gone with the change, and the verdict is the one that was shown."""
         pair = reliance["router"], reliance["other"]
         statement = reliance["change"]["statement"]
-        draft = read_draft(path)
-        self.assertTrue(assemble(draft).relies(name, *pair))
-        self.assertFalse(assemble(with_changes(draft, [statement])).relies(name, *pair))
+        plan = Plan.read(path)
+        self.assertTrue(plan.relies(name, *pair))
+        self.assertFalse(plan.changed(statement).relies(name, *pair))
         judged = json.loads(rrp("check", path, "--set", statement, "--json").output)
         (after,) = [each["after"] for each in judged["lists"] if each["list"] == name]
         self.assertEqual(after, reliance["change"]["then"])
@@ -175,47 +171,6 @@ class Smallest(unittest.TestCase):
         net = Plan.read(f"{EXAMPLES}/net.rrp")
         self.assertTrue(net.relies("transit", "lon-b", "lon-rr"))
         self.assertIsNone(smallest_remedy(net, "transit", "lon-b", "lon-rr"))
-
-
-class Recommended(unittest.TestCase):
-    """The change of a distance that `rrp show` recommends below the reliances."""
-
-    def test_none_that_leaves_the_list_suspect(self) -> None:
-        path = f"{TESTS}/plans/two-pairs.rrp"
-        shown = json.loads(rrp("show", path, "all", "--json").output)
-        self.assertIsNone(shown["recommended"])
-        self.assertFalse(any(each["change"]["then"]["stable"] for each in shown["reliances"]))
-        text = rrp("show", path, "all").output
-        self.assertIn("\nno change above makes the list stable by itself: ", text)
-        self.assertNotIn("to judge a change", text)
-
-    def test_it_makes_the_list_stable(self) -> None:
-        for path, name in (*SUSPECT, (f"{TESTS}/plans/skipped.rrp", "all")):
-            statement = json.loads(rrp("show", path, name, "--json").output)["recommended"]
-            judged = json.loads(rrp("check", path, "--set", statement, "--json").output)
-            (after,) = [each["after"] for each in judged["lists"] if each["list"] == name]
-            self.assertTrue(after["stable"], (path, statement))
-            lines = rrp("show", path, name).output.splitlines()
-            (said,) = [line for line in lines if line.startswith("to judge a change for all ")]
-            self.assertTrue(said.endswith(f" --set {shlex.quote(statement)}"), said)
-
-    def test_of_random_networks(self) -> None:
-        draw, numbers = random.Random(4456), set()
-        for plan in (random_network(draw) for _ in range(300)):
-            for verdict in (each for each in plan.verdicts() if not each.stable):
-                pairs = zip(verdict.cycle, [*verdict.cycle[1:], *verdict.cycle[:1]])
-                found = [smallest_remedy(plan, verdict.name, *pair) for pair in pairs]
-                ending = [each for each in found if each.verdict.stable]
-                best = recommended(found)
-                lacking = {len(each.verdict.without_route) for each in ending}
-                numbers.add(len(lacking))
-                if not ending:
-                    self.assertIsNone(best)
-                    continue
-                few = [each for each in ending if len(each.verdict.without_route) == min(lacking)]
-                self.assertIn(best, few)
-                self.assertEqual(best.change.size, min(each.change.size for each in few))
-        self.assertLessEqual({0, 1, 2}, numbers)
 
 
 if __name__ == "__main__":

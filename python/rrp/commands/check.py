@@ -10,8 +10,8 @@ from ..columns import row_lines
 from ..effects import effect_on
 from ..encoding import NARROW, WIDE, longest
 from ..inputs import PLAN_HELP, add_set, need_one_plan
-from ..output import list_values, plan_line, plan_values, rest_lines, verdict_lines
-from ..output import write_json, write_notes
+from ..output import plan_line, plan_values, rest_lines, verdict_lines
+from ..output import write_json, write_lists, write_notes
 from ..plan import Plan, Verdict
 from ..rest import NO_PROMISE, Rest, any_table, rest_of
 
@@ -83,8 +83,7 @@ def _run_plain(options: Namespace) -> tuple[Verdict, ...]:
     verdicts = plan.verdicts()
     rests = {verdict.name: rest_of(plan, verdict) for verdict in verdicts}
     if options.json:
-        lists = [list_values(each, rests[each.name]) for each in verdicts]
-        write_json({**plan_values(plan), "lists": lists, "notes": plan.notes})
+        write_lists(plan, verdicts, rests)
     else:
         write_notes(plan.notes)
         print(plan_line(plan))

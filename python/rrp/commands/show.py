@@ -10,11 +10,12 @@ from ..accounts import Account, account
 from ..columns import left, right, widest
 from ..hop_sets import not_worked_out, set_if_few, tried_lines, tried_values
 from ..inputs import add_plan, add_set, read_plan
-from ..output import list_command, list_values, plan_line, plan_values, rest_lines, set_command
+from ..output import list_command, plan_line, rest_lines
 from ..output import source_values, verdict_lines, verdict_values, verdict_words
-from ..output import without_route_lines, write_json, write_notes, write_start
+from ..output import without_route_lines, write_json, write_lists, write_notes, write_start
 from ..plan import Plan, Verdict
-from ..remedies import Remedy, recommended, smallest_remedy
+from ..remedies import Remedy, smallest_remedy
+from ..repairs import Repairs, find_repairs
 from ..rest import Rest, rest_of
 from ..senders import heard_again, sender_note
 from ..table_files import NOTHING, table_values
@@ -22,12 +23,6 @@ from ..table_files import NOTHING, table_values
 #: So wide is a note below a table, in which no name is broken.
 _COLUMNS = 110
 _WHOLE = {"break_long_words": False, "break_on_hyphens": False}
-
-#: What to do where no change of one distance makes a list stable.
-_NONE_ENDS_IT = (
-    "no change above makes the list stable by itself: make one of them in the plan,",
-    "and show the list again for the cycle that is left; or change a session or the list",
-)
 
 #: What is said of the hop step below the changes of distances.
 _LOADED = "a smallest set of reflectors to load the hop step on instead"
@@ -46,9 +41,12 @@ def arguments(parser: ArgumentParser) -> None:
     parser.epilog = (
         "Routers that a stable list leaves without a route are named. Of a suspect list it is told "
         "in how many tables it may rest, which is no promise that its routers get there; rrp "
-        "steady PLAN LIST shows them. A change that is shown was "
-        "tried, and there is no smaller one of one distance that a plan of the same mark holds: up "
-        "to 65,534 in RRP1, 4,294,967,294 in RRP2. The last lines have a smallest set of "
+        "steady PLAN LIST shows them. What is shown was tried. The change at a reliance is the "
+        "smallest of one distance that ends it and that a plan of the same mark holds: up to "
+        "65,534 in RRP1, 4,294,967,294 in RRP2. Below are changes that make the list stable, "
+        "judged for all lists: of one weight where the plan has links, else of one distance, and "
+        "of two where none serves without making another list suspect. It is told how many were "
+        "tried, and at most 20,000 of one and of two are. The last lines have a smallest set of "
         "reflectors that makes the list stable once the hop step is loaded on them, tried too; rrp "
         "hop-set PLAN LIST says more. Exit "
         "status: 0 the list is stable, or all are where none is given; 1 suspect; 2 error."
@@ -64,8 +62,10 @@ def run(options: Namespace) -> int:
     if not options.json:
         write_start(plan)
         print(f"{verdict.name} is {verdict_words(verdict)}")
-    show = _show_stable if verdict.stable else _show_suspect
-    show(plan, verdict, options)
+    if verdict.stable:
+        _show_stable(plan, verdict, options)
+    else:
+        _show_suspect(plan, verdict, find_repairs(plan, verdict), options)
     return 0 if verdict.stable else 1
 
 
@@ -74,8 +74,7 @@ def _show_lists(plan: Plan, options: Namespace) -> int:
     verdicts = plan.verdicts()
     rests = {each.name: rest_of(plan, each) for each in verdicts}
     if options.json:
-        lists = [list_values(each, rests[each.name]) for each in verdicts]
-        write_json({**plan_values(plan), "lists": lists, "notes": plan.notes})
+        write_lists(plan, verdicts, rests)
     else:
         write_notes(plan.notes)
         print(plan_line(plan))
@@ -123,24 +122,23 @@ def _show_stable(plan: Plan, verdict: Verdict, options: Namespace) -> None:
         print(line)
 
 
-def _show_suspect(plan: Plan, verdict: Verdict, options: Namespace) -> None:
-    """The groups, where the list may rest, and each reliance of the cycle with the smallest change
-    that ends it."""
+def _show_suspect(plan: Plan, verdict: Verdict, repairs: Repairs, options: Namespace) -> None:
+    """The groups, where the list may rest, each reliance of the cycle with the smallest change that
+    ends it, and the changes that make the list stable."""
     pairs = zip(verdict.cycle, [*verdict.cycle[1:], verdict.cycle[0]])
     found = [
         (account(plan, verdict.name, *pair), smallest_remedy(plan, verdict.name, *pair))
         for pair in pairs
     ]
-    remedies = [remedy for _, remedy in found if remedy is not None]
     rest = rest_of(plan, verdict)
     if options.json:
         reliances = [
             {**one.values(), "change": None if remedy is None else remedy.values()}
             for one, remedy in found
         ]
-        best = recommended(remedies)
-        change = None if best is None else best.change.statement
+        change = repairs.single[0].changes[0].statement if repairs.single else None
         values = {**verdict_values(verdict, rest), "reliances": reliances, "recommended": change}
+        values["repairs"] = repairs.values()
         _write(plan, verdict, {**values, "hop_set": _hop_set_values(plan, verdict)})
         return
     for group in verdict.groups:
@@ -149,7 +147,7 @@ def _show_suspect(plan: Plan, verdict: Verdict, options: Namespace) -> None:
         print(line)
     for number, (one, remedy) in enumerate(found, 1):
         _print_reliance(number, one, remedy)
-    _print_advice(plan, options.plan, remedies)
+    print("\n".join(["", *repairs.lines(options.plan, plan.changes)]))
     _print_hop_set(plan, verdict, options.plan)
 
 
@@ -164,16 +162,6 @@ def _print_reliance(number: int, one: Account, remedy: Remedy | None) -> None:
     words, *more = verdict_lines(remedy.verdict)
     for line in [f"tried: the list is {then} {words}", *more]:
         print(f"   {line}")
-
-
-def _print_advice(plan: Plan, path: str, remedies: list[Remedy]) -> None:
-    """How to judge a change that makes the list stable, or that none by itself does."""
-    best = recommended(remedies)
-    if best is not None:
-        command = set_command(path, [*plan.changes, best.change.statement])
-        print(f"\nto judge a change for all lists: {command}")
-    elif remedies:
-        print("\n".join(["", *_NONE_ENDS_IT]))
 
 
 def _print_hop_set(plan: Plan, verdict: Verdict, path: str) -> None:

@@ -62,6 +62,11 @@ class Draft:
         words = [*self.sessions.values(), *(way.word for way in self.links.values())]
         return {word.line.file for word in words if word.line.sheet}
 
+    @property
+    def links_up(self) -> dict[tuple[str, str], int]:
+        """The weights of the links that are not down."""
+        return {ends: way.value for ends, way in self.links.items() if way.value is not None}
+
     def ways(self, kind: str) -> dict[tuple[str, str], Way]:
         """The links or the distances."""
         return self.links if kind == "link" else self.distances
