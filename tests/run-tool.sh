@@ -8,7 +8,7 @@ cd "$(dirname "$0")/.."
 seed=${1:-4456}
 plans=300
 # So many unit tests there were when this was last set; fewer are a sign that some are not found.
-fewest=618
+fewest=655
 out=target/tool
 part=tool
 . tests/try.sh

@@ -19,7 +19,7 @@ if TYPE_CHECKING:
     from .text import TextErrors
 
 #: The version of the package, which `rrp --version` writes; pyproject.toml has it too.
-__version__ = "1.9.0"
+__version__ = "1.10.0"
 
 #: The names of the package, and the modules that they are of.
 _HOMES = {

@@ -31,6 +31,7 @@ COMMANDS = {
     "run": "activate routers one by one, and say what changes",
     "sweep": "judge every failure of a link, a session or a router",
     "diff": "compare two plans, or a plan with its changed self, by name",
+    "lab": "boot a list as real routers, and compare with its verdict",
     "dot": "write who relies on whom, or the links, for Graphviz",
     "pack": "write a text plan as bytes",
     "unpack": "write a plan as text",

@@ -18,6 +18,7 @@ _MISSING = {
     "OTHER": "name two routers: the one that relies, and the other",
     "DIR": "name a directory that has plans and their verdicts",
     "--set": "put the statement in quotes, as: --set 'link lon-rr par-a 12'",
+    "--fail": "put what fails in quotes, as: --fail 'session lon-rr par-rr'",
     "--order": "name routers with commas between them, as: --order lon-rr,par-rr",
 }
 
@@ -27,7 +28,7 @@ _TOO_MANY = {
 }
 
 #: Options whose value is often written without the quotes that keep its words together.
-_QUOTED = ("--set", "--order")
+_QUOTED = ("--set", "--order", "--fail")
 
 _REQUIRED = "the following arguments are required: "
 

@@ -200,10 +200,10 @@ class Names(unittest.TestCase):
         cells = [row.split("|")[1] for row in table.splitlines()[2:]]
         named = [name for cell in cells for name in re.findall("`(.+?)`", cell)]
         package = f"{ROOT}/python/rrp"
-        found = glob.glob(f"{package}/*.py") + glob.glob(f"{package}/text/*.py")
-        modules = [os.path.relpath(path, package)[: -len(".py")] for path in found]
+        found = [glob.glob(f"{package}/{place}*.py") for place in ("", "text/", "lab/")]
+        modules = [os.path.relpath(path, package)[: -len(".py")] for path in sum(found, [])]
         due = [name for name in modules if not name.endswith("__")]
-        self.assertEqual(sorted(named), sorted([*due, "commands/"]))
+        self.assertEqual(sorted(named), sorted([*due, "commands/", "lab/bird/", "lab/frr/"]))
 
     def test_every_command_is_told(self) -> None:
         questions, _, rest = page("docs/TOOL.md").partition("\n## ")

@@ -1,0 +1,1 @@
+"""Labs of BIRD 2: all daemons in one network namespace."""
