@@ -42,7 +42,7 @@ typedef char rrp_size_t_has_64_bits[sizeof(size_t) == 8 ? 1 : -1];
 
 /* What a call returns: 0, or the number of the first check that fails, which need not be the lowest that applies. The order of
  * the checks is, for a plan, 1, 2, 3, 4, 5, 13, 6, 7, 14, 8, 15, 9, 10; for a link sheet, 2, 11, 12, 9. Check 14 is that of rrp_narrow
- * alone, and check 15 that of rrp_steady and rrp_hop_set. */
+ * alone, and check 15 that of rrp_steady, rrp_hop_set and rrp_grade. */
 enum rrp_refusal {
     /* not refused */
     RRP_OK = 0,
@@ -112,6 +112,18 @@ enum rrp_reason {
     RRP_OFFER_NOT_BETTER = 9
 };
 
+/* What rrp_grade says of a list. */
+enum rrp_grade_number {
+    /* whatever the order, the routers come to rest: install it, and give it the rounds that rrp_grade names */
+    RRP_RESTS = 1,
+    /* from every table some activations lead to rest, but the routers may also keep moving: not for a network in service */
+    RRP_CAN_REST = 2,
+    /* from some table no activations lead to rest, though there is a table to rest in: do not install it */
+    RRP_MAY_NEVER_REST = 3,
+    /* there is no table to rest in: the routers keep moving for ever */
+    RRP_NO_STEADY = 4
+};
+
 enum {
     /* the most routers, egress lists and bytes of a plan; so many bytes has an RRP2 plan, and an RRP1 plan at most 16,731 */
     RRP_MAX_ROUTERS = 64,
@@ -122,8 +134,8 @@ enum {
     /* the most links of a sheet, four bytes each, and the most bytes that rrp_distances writes, those of 64 routers */
     RRP_MAX_LINKS = 512,
     RRP_MAX_DISTANCES = 8192,
-    /* the most routers in groups of two or more that rrp_steady and rrp_hop_set take, and bytes enough for what rrp_steady writes of
-     * them: two for each of as many numbers as have so many bits */
+    /* the most routers in groups of two or more that rrp_steady, rrp_hop_set and rrp_grade take, and bytes enough for what rrp_steady
+     * writes of them: two for each of as many numbers as have so many bits */
     RRP_MAX_GROUPED = 12,
     RRP_MAX_STEADY = 8192,
     /* the distance, of two bytes, from a router to another that it has no way to */
@@ -204,6 +216,12 @@ uint8_t rrp_steady(const uint8_t *plan, size_t plan_len, size_t list, uint8_t *o
  * is stable, and else not: some set always makes it stable. Of router w the role is byte 26 + 5 * w of the plan. Refusals 1 to 8, 13 and
  * 15. */
 uint8_t rrp_hop_set(const uint8_t *plan, size_t plan_len, size_t list, uint64_t *set);
+
+/* How sure it is that the routers come to rest for a list, whatever the order in which they are activated. *grade becomes RRP_RESTS,
+ * RRP_CAN_REST, RRP_MAY_NEVER_REST or RRP_NO_STEADY. *rounds becomes, for RRP_RESTS, a number of rounds within which the routers come
+ * to rest from any table, left-over entries included, and stay so; for the others 0. A stable list is RRP_RESTS, with its highest rank
+ * plus two rounds. Refusals 1 to 8, 13 and 15. */
+uint8_t rrp_grade(const uint8_t *plan, size_t plan_len, size_t list, uint8_t *grade, uint64_t *rounds);
 
 /* Gives the figures over all lists of the plan. *stable is the number of stable lists and *suspect that of suspect ones; together they
  * are all lists. *has_highest is 1 if some list is stable, else 0; *highest is then the highest rank among the stable lists, and else

@@ -174,6 +174,19 @@ tests/verdict/refused-13-five-parents.plan|refused 13
 END
 }
 
+# The grade of a list, by the C example; or the refusal.
+grades_lists() {
+    local list expected
+    while IFS='|' read -r list expected; do
+        [ "$("$out/grade" examples/m3.plan "$list")" = "$expected" ] ||
+            { echo "embedding: grade $list is not: $expected"; return 1; }
+    done <<'END'
+0|1: comes to rest whatever the order, within 4 rounds
+1|1: comes to rest whatever the order, within 5 rounds
+3|refused 8
+END
+}
+
 # What the other C examples say for a list of nobody: its verdict among others', why routers rely on others, a run.
 on_list_of_nobody() {
     local name=tests/verdict/nobody-listed-among-others
@@ -269,7 +282,7 @@ own_tests() {
 }
 
 mkdir -p "$out"
-rm -f "$out/verdicts" "$out/compare" "$out/why" "$out/run" "$out/distances" "$out/convert" "$out/flush" "$out/steady" "$out/hop_set" "$out/figures" "$out/stack"
+rm -f "$out/verdicts" "$out/compare" "$out/why" "$out/run" "$out/distances" "$out/convert" "$out/flush" "$out/steady" "$out/hop_set" "$out/grade" "$out/figures" "$out/stack"
 try "the library" rt staticlib rrp
 try "the header as C99" gcc -std=c99 -pedantic -Wall -Wextra -Werror -Iinclude -fsyntax-only -x c include/rrp.h
 try "the header as C++" g++ -std=c++11 -pedantic -Wall -Wextra -Werror -Iinclude -fsyntax-only -x c++ include/rrp.h
@@ -294,6 +307,8 @@ try "the C example of steady tables" example steady
 try "the C example's steady tables" lists_steady
 try "the C example of a hop set" example hop_set
 try "the C example's hop set" names_hop_set
+try "the C example of a grade" example grade
+try "the C example's grades" grades_lists
 try "the C example of the figures" example figures
 try "the C example's figures" counts
 try "the C examples on a list of nobody" on_list_of_nobody

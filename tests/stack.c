@@ -23,7 +23,7 @@ static uint8_t by_rank[RRP_MAX_ROUTERS], by_router[RRP_MAX_ROUTERS];
 static uint8_t links[4 * LINKS], body[2 * RRP_MAX_ROUTERS * RRP_MAX_ROUTERS];
 static uint8_t rrp1[RRP_MAX_PLAN], rrp2[RRP_MAX_PLAN], result[RRP_MAX_PLAN];
 static uint64_t rrp1_length, rrp2_length, written;
-static uint8_t refused, better, has_margin, relied, code, has_own, stable, exhausted, has_highest;
+static uint8_t refused, better, has_margin, relied, code, has_own, stable, graded, exhausted, has_highest;
 static uint64_t routers, lists, start, count, offer, own, found, tables, set, applied, rounds;
 static uint64_t stable_lists, suspect_lists, highest;
 static int64_t margin;
@@ -45,6 +45,7 @@ static void verdict(void)
 }
 static void steady(void) { refused = rrp_steady(plan, length, 0, numbers, sizeof numbers, &tables); }
 static void hop_set(void) { refused = rrp_hop_set(plan, length, 0, &set); }
+static void grade(void) { refused = rrp_grade(plan, length, 0, &graded, &rounds); }
 static void figures(void)
 {
     refused = rrp_figures(plan, length, by_rank, sizeof by_rank, by_router, sizeof by_router, &stable_lists, &suspect_lists,
@@ -65,8 +66,8 @@ static const struct {
 } calls[] = {
     { "rrp_check", check },         { "rrp_size", plan_size },  { "rrp_list", list },         { "rrp_compare", compare },
     { "rrp_relies", relies },       { "rrp_explain", explain }, { "rrp_verdict", verdict },   { "rrp_steady", steady },
-    { "rrp_hop_set", hop_set },     { "rrp_figures", figures }, { "rrp_activate", activate }, { "rrp_run", run },
-    { "rrp_distances", distances }, { "rrp_widen", widen },     { "rrp_narrow", narrow },
+    { "rrp_hop_set", hop_set },     { "rrp_grade", grade },     { "rrp_figures", figures },   { "rrp_activate", activate },
+    { "rrp_run", run },             { "rrp_distances", distances }, { "rrp_widen", widen },   { "rrp_narrow", narrow },
 };
 
 /* Ends the program if the last call was refused. */

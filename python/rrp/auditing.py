@@ -12,6 +12,7 @@ from .errors import RrpError
 from .files import read_file
 from .filing import SUFFIX, is_meant, packed, read_verdict, verdict_path
 from .plan_folders import is_plan, need_file, walk
+from .rest import grades_in
 from .text.problems import first_problem
 from .verdict_differences import CHANGED, FALSE, LINES, RIGHT, compare
 from .verdict_files import entry
@@ -24,7 +25,8 @@ KINDS = (RIGHT, LINES, CHANGED, FALSE, UNFILED, STRAY, UNREADABLE)
 class Finding(NamedTuple):
     """What was found of a plan, or of a verdict that has none.
 
-    `stable` and `suspect` count the lists of the plan, and `refused` says whether it is refused. A
+    `stable` and `suspect` count the lists of the plan, `grades` has the grade of each suspect
+    one, and `refused` says whether the plan is refused. A
     verdict that is false or of another plan is there as it is filed, and as it is due unless the
     plan's text has errors; `differences` has the values that differ.
     """
@@ -38,6 +40,7 @@ class Finding(NamedTuple):
     filed: str | None = None
     due: str | None = None
     differences: tuple[dict[str, object], ...] = ()
+    grades: tuple[int | None, ...] = ()
 
 
 class Found(NamedTuple):
@@ -109,6 +112,7 @@ def judge(path: str) -> Finding:
     due = entry(plan.data)
     found = compare(filed, due, plan.names)
     finding = Finding(path, found.kind, found.details, due.stable, due.suspect, due.refused)
+    finding = finding._replace(grades=grades_in(plan.data, due.suspects))
     if found.kind in (RIGHT, LINES):
         return finding
     values = tuple(each.values(plan.names, found.same_plan) for each in found.differences)

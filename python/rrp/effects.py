@@ -129,8 +129,8 @@ class Effect(NamedTuple):
     def _rest_lines(self) -> Iterator[str]:
         """Where a suspect list may rest and, if that was said otherwise before, what was."""
         if self.rest is not None:
-            other = self.rested is not None and self.rested.place != self.rest.place
-            yield f"{self.rest.words} (before: {self.rested.place})" if other else self.rest.words
+            other = self.rested is not None and self.rested.brief != self.rest.brief
+            yield f"{self.rest.words} (before: {self.rested.brief})" if other else self.rest.words
 
     def _group_lines(self) -> Iterator[str]:
         if self.before is None or self.before.stable or self.after.stable:

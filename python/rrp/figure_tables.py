@@ -12,6 +12,7 @@ from itertools import groupby
 from .bars import Row, aligned, bar_lines
 from .figures import RouterSum, Sums
 from .library import MAX_ROUTERS
+from .rest import grade_words, standing_lines
 from .text.writing import identifier_text
 
 #: So many routers and so many plans have a row where plans are summed.
@@ -33,7 +34,10 @@ _SUSPECT = (
 def figure_lines(sums: Sums, by_plan: bool) -> Iterator[str]:
     """The figures, also by plan if that is asked for."""
     several = len(sums.plans) > 1
-    yield from (_lists_line(sums), _highest_line(sums))
+    yield _lists_line(sums)
+    if sums.suspect:
+        yield f"of the suspect lists {grade_words(sums.by_grade)}"
+    yield _highest_line(sums)
     yield from _rank_lines(sums)
     yield ""
     yield from _router_lines(sums, several, _MOST_ROWS if several else MAX_ROUTERS)
@@ -41,7 +45,7 @@ def figure_lines(sums: Sums, by_plan: bool) -> Iterator[str]:
         if by_plan:
             yield ""
             yield from _plan_lines(sums)
-        yield from ("", *_SUSPECT)
+        yield from ("", *_SUSPECT, *standing_lines(sums.by_grade))
 
 
 def many(count: int, noun: str) -> str:

@@ -7,12 +7,14 @@ nothing of another plan: beside others such a router is known by its identifier 
 
 from __future__ import annotations
 
+from collections import Counter
 from collections.abc import Iterable, Sequence
 from itertools import zip_longest
 from typing import NamedTuple
 
 from . import library
-from .plan import Plan
+from .plan import ALWAYS_RESTS, Plan
+from .rest import grade_values, grades_in
 from .text.writing import identifier_text
 
 
@@ -20,13 +22,15 @@ class Figures(NamedTuple):
     """All lists of a plan in figures: how many are stable, how many suspect, and the highest rank
     among the stable ones, None if no list is stable. `by_rank` has for each rank, from 0 on, how
     many stable lists have it as their highest, and `by_router` for each router in how many lists it
-    is in a group of two or more, which suspect lists alone have."""
+    is in a group of two or more, which suspect lists alone have. `by_grade` has how many suspect
+    lists have each grade that some has, by its number, None for those that are not graded."""
 
     stable: int
     suspect: int
     highest: int | None
     by_rank: tuple[int, ...]
     by_router: dict[str, int]
+    by_grade: dict[int | None, int]
 
     @property
     def lists(self) -> int:
@@ -50,6 +54,7 @@ class Counted(NamedTuple):
             "lists": self.figures.lists,
             "stable_lists": self.figures.stable,
             "suspect_lists": self.figures.suspect,
+            **grade_values(self.figures.by_grade),
             "nobody_lists": self.nobody,
             "highest_rank": self.figures.highest,
         }
@@ -88,6 +93,7 @@ class Sums(NamedTuple):
     highest: int | None
     by_rank: tuple[int, ...]
     by_router: tuple[RouterSum, ...]
+    by_grade: dict[int | None, int]
 
     @property
     def lists(self) -> int:
@@ -101,6 +107,7 @@ class Sums(NamedTuple):
             "lists": self.lists,
             "stable_lists": self.stable,
             "suspect_lists": self.suspect,
+            **grade_values(self.by_grade),
             "nobody_lists": self.nobody,
             "highest_rank": self.highest,
         }
@@ -110,7 +117,17 @@ def figures_of(plan: Plan) -> Figures:
     """All lists of a plan in figures."""
     found = library.figures(plan.data)
     by_router = dict(zip(plan.routers, found.by_router))
-    return Figures(found.stable, found.suspect, found.highest, tuple(found.by_rank), by_router)
+    ranks, grades = tuple(found.by_rank), _by_grade(plan, found)
+    return Figures(found.stable, found.suspect, found.highest, ranks, by_router, grades)
+
+
+def _by_grade(plan: Plan, found: library.Counted) -> dict[int | None, int]:
+    """How many suspect lists have which grade. Every stable list has the first, and none else."""
+    if not found.suspect:
+        return {}
+    counts = Counter(grades_in(plan.data, range(len(plan.lists))))
+    counts[ALWAYS_RESTS] -= found.stable
+    return dict(+counts)
 
 
 def counted(plan: Plan) -> Counted:
@@ -132,6 +149,7 @@ def sums_of(plans: Sequence[Counted]) -> Sums:
         highest=max(ranks, default=None),
         by_rank=tuple(map(sum, columns)),
         by_router=_by_router(plans),
+        by_grade=dict(sum((Counter(each.by_grade) for each in figures), Counter())),
     )
 
 

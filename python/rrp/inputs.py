@@ -7,6 +7,9 @@ from argparse import ArgumentParser, Namespace
 from .errors import RrpError
 from .plan import Plan
 
+#: What `--accept` takes: suspect lists of grade 1.
+RESTING = "resting"
+
 PLAN_HELP = "a plan, text, JSON or bytes; - is standard input"
 
 #: What a statement of a change may be.
@@ -27,6 +30,15 @@ def add_set(parser: ArgumentParser, what: str = "answer for the plan with a chan
     """Adds changes of the plan to what a command takes, and what it does with them."""
     said = f"{what}; repeatable. {_FORMS}"
     parser.add_argument("--set", metavar="STATEMENT", action="append", default=[], help=said)
+
+
+def add_accept(parser: ArgumentParser) -> None:
+    """Adds which suspect lists a command is to take for good."""
+    said = (
+        "end with 0 also where every suspect list comes to rest whatever the order (grade 1), "
+        "wherever that is, and routers read one another as they stand"
+    )
+    parser.add_argument("--accept", choices=[RESTING], help=said)
 
 
 def read_plan(options: Namespace, path: str | None = None) -> Plan:

@@ -111,6 +111,15 @@ class Counted(NamedTuple):
     by_router: bytes
 
 
+class Graded(NamedTuple):
+    """The grade of a list: 1 always comes to rest, 2 can always come to rest, 3 from some table
+    never does though a steady one exists, 4 there is no steady table. `rounds` is a number of
+    rounds within which a list of grade 1 comes to rest, else 0."""
+
+    grade: int
+    rounds: int
+
+
 class Ran(NamedTuple):
     """A run: the table that it left, the activations made, the rounds that ended among them, and
     whether the sequence is longer than the limit."""
@@ -142,6 +151,7 @@ PROTOTYPES = {
     "rrp_run": (*_BYTES, _SIZE, *_BYTES, _LONG, *_BYTES, _LONG_OUT, _LONG_OUT, _FLAG_OUT),
     "rrp_steady": (*_BYTES, _SIZE, *_BYTES, _LONG_OUT),
     "rrp_hop_set": (*_BYTES, _SIZE, _LONG_OUT),
+    "rrp_grade": (*_BYTES, _SIZE, _FLAG_OUT, _LONG_OUT),
     "rrp_distances": (_SIZE, *_BYTES, *_BYTES),
     "rrp_widen": (*_BYTES, *_BYTES, _LONG_OUT),
     "rrp_narrow": (*_BYTES, *_BYTES, _LONG_OUT),
@@ -331,6 +341,13 @@ def hop_set(plan: bytes, egresses: int) -> int:
     found = ctypes.c_uint64()
     _raise_if(library().rrp_hop_set(plan, len(plan), *_sizes(egresses), found))
     return found.value
+
+
+def grade(plan: bytes, egresses: int) -> Graded:
+    """Whether the routers of a list come to rest, whatever the order (rrp_grade)."""
+    number, rounds = ctypes.c_uint8(), ctypes.c_uint64()
+    _raise_if(library().rrp_grade(plan, len(plan), *_sizes(egresses), number, rounds))
+    return Graded(number.value, rounds.value)
 
 
 def distances(routers: int, links: bytes) -> bytes:

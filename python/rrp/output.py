@@ -10,7 +10,7 @@ from shlex import join
 from .encoding import CLIENT, WIDE, has_step
 from .errors import RrpError
 from .plan import Plan, Verdict
-from .rest import NO_PROMISE, Rest, any_table
+from .rest import Rest, any_table, promise_lines
 
 #: Who is in a list of nobody.
 NOBODY_LISTED = "no router is listed"
@@ -110,8 +110,8 @@ def verdict_words(verdict: Verdict) -> str:
 
 
 def verdict_lines(verdict: Verdict, rest: Rest | None = None) -> list[str]:
-    """A verdict in a few words and, in lines of their own, where a suspect list may rest, if that
-    is given, and who ends without a route."""
+    """A verdict in a few words and, in lines of their own, whether and where a suspect list comes
+    to rest, if that is given, and who ends without a route."""
     where = [] if rest is None else [rest.words]
     return [verdict_words(verdict), *where, *without_route_lines(verdict)]
 
@@ -119,14 +119,14 @@ def verdict_lines(verdict: Verdict, rest: Rest | None = None) -> list[str]:
 def rest_lines(
     path: str, rests: Mapping[str, Rest | None], changes: Iterable[str] = ()
 ) -> list[str]:
-    """What is said once of suspect lists, by name, that have a table to rest in: that this is no
-    promise, and how to see the tables of the first such list, with the plan's changes."""
+    """What is said once of suspect lists, by name: what their grades do not promise, and how to see
+    the tables of the first list that has one to rest in, with the plan's changes."""
     if not any_table(rests.values()):
         return []
     name, rest = next((name, rest) for name, rest in rests.items() if any_table([rest]))
     what = "table" if len(rest.numbers) == 1 else "tables"
     command = list_command("steady", path, name, changes)
-    return [NO_PROMISE, f"to see the {what} of {name}: {command}"]
+    return [*promise_lines(rests.values()), f"to see the {what} of {name}: {command}"]
 
 
 def list_command(command: str, path: str, name: str, changes: Iterable[str] = ()) -> str:
@@ -188,5 +188,5 @@ def verdict_values(verdict: Verdict, rest: Rest | None = None) -> dict[str, obje
     if verdict.stable:
         ranks = {"highest_rank": verdict.highest, "rounds": verdict.rounds}
         return {"stable": True, **ranks, "without_route": verdict.without_route}
-    where = {} if rest is None else {"steady_numbers": rest.numbers}
+    where = {} if rest is None else rest.values()
     return {"stable": False, "cycle": verdict.cycle, "groups": verdict.groups, **where}

@@ -51,13 +51,14 @@ REASONS = {
 
 #: What is asked of a list that is not worked out where too many of its routers lie in groups of two
 #: or more, and what to do instead.
-_REST, _STEP = "where it may rest", "where to load the hop step"
+_REST, _STEP, _GRADE = "where it may rest", "where to load the hop step", "its grade"
 _INSTEAD = {
     _REST: (
         "rrp run PLAN LIST shows single runs, of which none promises anything of another; or end a",
         "cycle and ask again: rrp show PLAN LIST has changes that end one",
     ),
     _STEP: ("end a cycle, then ask again: rrp show PLAN LIST has changes that end one",),
+    _GRADE: ("end a cycle, then ask again: rrp show PLAN LIST has changes that end one",),
 }
 
 #: What to do with a plan that is too far for RRP1.
@@ -65,6 +66,9 @@ _KEEP = (
     "leave it RRP2, or state smaller distances that keep at each router what is nearer and what",
     "is as far; never round, or a suspect list may look stable",
 )
+
+#: The grades of a list, by the library's number.
+ALWAYS_RESTS, CAN_REST, CANNOT_REST, NO_TABLE = 1, 2, 3, 4
 
 ROLES = {encoding.CLIENT: "client", **dict.fromkeys(encoding.REFLECTORS.values(), "reflector")}
 
@@ -141,6 +145,20 @@ class Comparison(NamedTuple):
 
     better: str | None
     margin: int | None
+
+
+class Grade(NamedTuple):
+    """Whether the routers of a list come to rest: `number` is 1 if they do whatever the order of
+    activations, 2 if from every table some order brings them to rest, 3 if from some table none
+    does though there are tables to rest in, 4 if there is no table to rest in.
+
+    `rounds` is a number of rounds within which a list of grade 1 comes to rest from any table, each
+    router reading its neighbours as they stand; None for any other grade. Nothing is said of which
+    table that is, if a suspect list has several, nor of updates that take time.
+    """
+
+    number: int
+    rounds: int | None
 
 
 class Run(NamedTuple):
@@ -488,6 +506,12 @@ class Plan:
         from .steady import steady_tables
 
         return steady_tables(self, egress_list)
+
+    def grade(self, egress_list: Which) -> Grade:
+        """The grade of a list; that of a stable one is 1. Raises `TooManyGrouped` where more than
+        12 routers lie in groups of two or more."""
+        found = self._of_groups(library.grade, egress_list, _GRADE)
+        return Grade(found.grade, found.rounds if found.grade == ALWAYS_RESTS else None)
 
     def hop_set_number(self, egress_list: Which) -> int:
         """The number of a smallest set of reflectors that makes a list stable once they have the

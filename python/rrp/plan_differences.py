@@ -51,13 +51,13 @@ def differences_of(before: Plan, after: Plan) -> Differences:
 
 def differs(found: Effect) -> bool:
     """Whether a list differs in its routers, its verdict, or in what is said of a router. A list
-    that is suspect both times differs where cycle, groups or the tables to rest in do."""
+    that is suspect both times differs where cycle, groups, grade or the tables to rest in do."""
     if found.label is None or found.as_before is False or any(found.members or ()):
         return True
     if found.rest is None:
         return False
     if found.before.grouped != found.after.grouped:
-        return found.rest.place != found.rested.place
+        return found.rest.brief != found.rested.brief
     return found.rest != found.rested
 
 

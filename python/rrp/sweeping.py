@@ -14,7 +14,8 @@ from . import library
 from .cores import on_all_cores
 from .failures import ROUTER, Failure, without
 from .library import NONE, Assessed
-from .plan import Plan
+from .plan import ALWAYS_RESTS, Plan
+from .rest import Rest, rest_in
 from .text.assembly import bytes_of
 
 #: What a failure does, worst first: a list that was stable is suspect; routers that had a route
@@ -32,7 +33,8 @@ class Move(NamedTuple):
 
 
 class Outcome(NamedTuple):
-    """What a failure does to a list. `cycle` has routers where the list is suspect after it.
+    """What a failure does to a list. `cycle` has routers where the list is suspect after it, and
+    `rest` says whether and where it then comes to rest.
     `lost` has the routers that end without a route, and that had one where the list was stable
     before; `moved` those that have another egress. Where the list is suspect before or after,
     nothing is said of moves. The routers that fail are never among them."""
@@ -42,6 +44,7 @@ class Outcome(NamedTuple):
     cycle: tuple[str, ...] = ()
     lost: tuple[str, ...] = ()
     moved: tuple[Move, ...] = ()
+    rest: Rest | None = None
 
     @property
     def kind(self) -> str:
@@ -58,6 +61,7 @@ class Outcome(NamedTuple):
             "stable_before": self.was_stable,
             "stable": not self.cycle,
             "cycle": self.cycle,
+            **({} if self.rest is None else self.rest.values()),
             "without_route": self.lost,
             "moved": [each._asdict() for each in self.moved],
         }
@@ -80,6 +84,12 @@ class Judged(NamedTuple):
         """What the failure does, the worst of it over all lists."""
         kinds = {each.kind for each in self.outcomes}
         return next((kind for kind in CLASSES if kind in kinds), KEPT)
+
+    def passes(self, resting: bool) -> bool:
+        """Whether no stable list is suspect then or, if that is enough, those that are come to rest
+        whatever the order."""
+        suspect = [each.rest for each in self.outcomes if each.kind == SUSPECT]
+        return all(resting and rest and rest.number == ALWAYS_RESTS for rest in suspect)
 
     def weight(self) -> tuple[int, ...]:
         """The worst first: by what it does, then by how many lists and routers it does it to."""
@@ -155,8 +165,14 @@ class Sweep:
             cycle,
             tuple(routers[each] for each in lost),
             tuple(Move(*(routers[each] for each in move)) for move in moved),
+            None if after.stable else rest_in(data, number, _grouped(after)),
         )
         return None if before.stable and outcome.kind == KEPT else outcome
+
+
+def _grouped(answer: Assessed) -> int:
+    """How many routers lie in groups of two or more."""
+    return sum(answer.labels.count(label) > 1 for label in answer.labels)
 
 
 def _routes(

@@ -40,7 +40,8 @@ _LINES = {
 class Entry(NamedTuple):
     """What is filed for a plan: the verdict program's lines, what each list has, the last line. And
     how many lists are stable, how many suspect, how many of the stable ones leave a router without
-    a route, and in how many of these nobody is listed, all 0 if the plan is refused."""
+    a route, and in how many of these nobody is listed, all 0 if the plan is refused; and the
+    numbers of the suspect lists."""
 
     program: str
     details: str
@@ -49,6 +50,7 @@ class Entry(NamedTuple):
     suspect: int = 0
     lacking: int = 0
     nobody: int = 0
+    suspects: tuple[int, ...] = ()
 
     @property
     def text(self) -> str:
@@ -87,8 +89,9 @@ def entry(plan: bytes) -> Entry:
     lacking = sum(library.NONE in answer.table[::2] for answer in stable)
     # a listed router settles on its own route, so that nobody is listed where none has a route
     nobody = sum(set(answer.table) == {library.NONE} for answer in stable)
-    counts = len(stable), lists - len(stable), lacking, nobody
-    return Entry("".join(program), "".join(details), digest, *counts)
+    suspects = tuple(number for number, answer in enumerate(answers) if not answer.stable)
+    counts = len(stable), len(suspects), lacking, nobody
+    return Entry("".join(program), "".join(details), digest, *counts, suspects)
 
 
 def _verdict(answer: library.Assessed) -> str:

@@ -20,7 +20,8 @@ from .support import EXAMPLES, STORED_PLANS, read, rrp, rrp_process
 
 
 #: Of a library of the bundled plan.
-SUMMARY = b"300 plans: 300 right, 0 false; lists judged: 300 stable, 300 suspect\n"
+SUMMARY = b"300 plans: 300 right, 0 false; lists judged: 300 stable, 300 suspect "
+SUMMARY += b"(300 come to rest whatever the order)\n"
 
 #: Edits of the bundled text, of a list, of a session and of a link, that leave the lines of the
 #: verdict program as they are, and what is found first.
@@ -122,7 +123,7 @@ class Edits(InFolder):
             self.assertEqual(status, 1)
             self.assertEqual(lines[0], f"changed: ./net.rrp: {CHANGED_PLAN}")
             self.assertEqual(lines[1], f"    every verdict, rank and route is the same: {LOOK}")
-            lists = "lists judged: 2 stable, 1 suspect"
+            lists = "lists judged: 2 stable, 1 suspect (1 never comes to rest)"
             self.assertEqual(lines[2:], [f"1 plan: 0 right, 0 false, 1 changed; {lists}"])
 
     def test_another_text_of_the_same_plan(self) -> None:
@@ -166,7 +167,8 @@ class Auditing(InFolder):
         self.assertEqual(answer.status, 1)
         said = "false: ./123.plan: filed 4 routers and 2 lists, is 8 routers and 1 list\n"
         self.assertIn(said, answer.output)
-        lists = "lists judged: 299 stable, 300 suspect"
+        grades = "(299 come to rest whatever the order, 1 can always come to rest)"
+        lists = f"lists judged: 299 stable, 300 suspect {grades}"
         self.assertTrue(answer.output.endswith(f"300 plans: 299 right, 1 false; {lists}\n"))
 
     def test_unreadable(self) -> None:
@@ -185,7 +187,8 @@ class Auditing(InFolder):
         self.copy(f"{EXAMPLES}/m3.plan", "plan of\nMarch é")
         write(verdict_path("plan of\nMarch é"), verdict_of("plan of\nMarch é"))
         write("notes", "no plan")
-        summary = "1 plan: 1 right, 0 false; lists judged: 1 stable, 1 suspect\n"
+        judged = "lists judged: 1 stable, 1 suspect (1 comes to rest whatever the order)"
+        summary = f"1 plan: 1 right, 0 false; {judged}\n"
         self.assertEqual(rrp("audit", "."), (0, summary, ""))
 
     def test_a_fault_of_a_process_is_no_silence(self) -> None:
@@ -217,7 +220,8 @@ class Told(InFolder):
             write(f"{name}.plan.verdict", verdict_of(f"{name}.plan"))
         answer = rrp("audit", ".")
         self.assertEqual(answer.status, 0)
-        lists = "lists judged: 7 stable, 2 suspect; 2 plans are refused"
+        grades = "1 comes to rest whatever the order, 1 can always come to rest"
+        lists = f"lists judged: 7 stable, 2 suspect ({grades}); 2 plans are refused"
         self.assertEqual(answer.output, f"5 plans: 5 right, 0 false; {lists}\n")
         values = json.loads(rrp("audit", ".", "--json").output)
         counted = [values[f"{kind}_lists"] for kind in ("stable", "suspect")]
@@ -227,7 +231,7 @@ class Told(InFolder):
         self.library(2)
         lines = read(f"{EXAMPLES}/m3.verdicts")
         write("000.plan.verdict", lines)
-        lists = "lists judged: 2 stable, 2 suspect"
+        lists = "lists judged: 2 stable, 2 suspect (2 come to rest whatever the order)"
         summary = f"2 plans: 1 right, 0 false, 1 of lines alone; {lists}\n"
         answer = rrp("audit", ".")
         said, advice, told = answer.output.split("\n", 2)

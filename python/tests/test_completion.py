@@ -50,7 +50,7 @@ class Descriptions(unittest.TestCase):
 
     def test_usage(self) -> None:
         usages = {command.name: command.usage for command in all_commands()}
-        due = "rrp check [--help] [--set STATEMENT] [--strict] [--json]"
+        due = "rrp check [--help] [--set STATEMENT] [--strict] [--accept ACCEPT] [--json]"
         self.assertTrue(usages["check"].startswith(f"{due} PLAN"), usages["check"])
         self.assertTrue(usages["why"].endswith(" PLAN LIST ROUTER OTHER"), usages["why"])
         self.assertTrue(usages["show"].endswith(" PLAN [LIST]"), usages["show"])

@@ -240,8 +240,8 @@ class WithoutRoute(unittest.TestCase):
             with open(path, "w", encoding="utf-8") as file:
                 file.write(f"{rrp('unpack', f'{EXAMPLES}/m3.plan').output}client lone 50\n")
             lines = rrp("run", path, "l0", "--order", "r1,r0,r2,r3,lone").output.splitlines()
-        self.assertTrue(lines[-3].startswith("at rest after "), lines)
-        self.assertEqual(lines[-1], "1 router ends without a route: lone.")
+        self.assertTrue(lines[-4].startswith("at rest after "), lines)
+        self.assertEqual(lines[-2], "1 router ends without a route: lone.")
 
     def test_strict(self) -> None:
         meshed = ["--set", "session x z"]

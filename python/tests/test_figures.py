@@ -18,6 +18,7 @@ from rrp.figure_tables import figure_lines
 from rrp.figures import Counted, counted, sums_of
 from rrp.plan_folders import Failed, of_file
 from rrp.plan_folders import files_of, is_plan
+from rrp.rest import rest_of
 
 from .folders import InFolder, write
 from .networks import random_network
@@ -47,7 +48,9 @@ def from_verdicts(plan: Plan) -> Figures:
             grouped[router] += shared[label] > 1
     stable = [verdict.highest for verdict in verdicts if verdict.stable]
     highest = max(stable, default=None)
-    return Figures(len(stable), len(verdicts) - len(stable), highest, tuple(ranks), grouped)
+    suspect = [rest_of(plan, verdict) for verdict in verdicts if not verdict.stable]
+    grades = dict(Counter(rest.number for rest in suspect))
+    return Figures(len(stable), len(suspect), highest, tuple(ranks), grouped, grades)
 
 
 def table(answer: Answer, head: str) -> list[list[str]]:
@@ -103,7 +106,7 @@ class OfAPlan(unittest.TestCase):
     def test_m3(self) -> None:
         for plan in (Plan.read(M3), Plan.read(M3).widened()):
             grouped = {"r0": 1, "r1": 1, "r2": 0, "r3": 0}
-            self.assertEqual(self.check(plan), (1, 1, 3, (0, 0, 0, 1), grouped))
+            self.assertEqual(self.check(plan), (1, 1, 3, (0, 0, 0, 1), grouped, {1: 1}))
 
     def test_no_stable_list(self) -> None:
         model = Plan.read(M3).model._replace(lists=[[2, 3]] * 64)
@@ -113,7 +116,7 @@ class OfAPlan(unittest.TestCase):
 
     def test_rank_0_is_no_absence(self) -> None:
         plan = Plan(encode(Model([1, 1], [1, 2], [], [[0, 9], [9, 0]], [[0], [], [0, 1]])))
-        self.assertEqual(self.check(plan), (3, 0, 0, (3, 0), {"r0": 0, "r1": 0}))
+        self.assertEqual(self.check(plan), (3, 0, 0, (3, 0), {"r0": 0, "r1": 0}, {}))
 
     def test_64_lists_of_64_routers(self) -> None:
         plan = Plan.read(f"{STORED_PLANS}/largest.plan")
@@ -153,7 +156,7 @@ class Summed(unittest.TestCase):
     def plan(self, *names: str, first: int = 10, lists: int = 1) -> Counted:
         """A plan of routers with these names, which are all in a group in every list."""
         by_router = dict.fromkeys(names, lists)
-        figures = Figures(0, lists, None, (0,) * len(names), by_router)
+        figures = Figures(0, lists, None, (0,) * len(names), by_router, {4: lists})
         return Counted("x", figures, 0, tuple(range(first, first + len(names))))
 
     def rows(self, *plans: Counted) -> list[tuple[object, ...]]:
@@ -298,9 +301,10 @@ class OnePlan(InFolder):
         lines = answer.output.splitlines()
         self.assertEqual(lines[0], rrp("check", LOAD).output.splitlines()[0])
         self.assertEqual(lines[1], "4 lists: 1 stable, 3 suspect")
-        self.assertEqual(lines[2], "highest rank among the stable lists: 3")
+        self.assertEqual(lines[2], "of the suspect lists 3 come to rest whatever the order")
+        self.assertEqual(lines[3], "highest rank among the stable lists: 3")
         ranks = ["0 to 2        2 to 4 rounds   0", "3             5 rounds        1  #"]
-        self.assertEqual(lines[4:7], ["highest rank  settles within  stable lists", *ranks])
+        self.assertEqual(lines[5:8], ["highest rank  settles within  stable lists", *ranks])
         rows = [["par-rr", "3", "of", "4", "###"], ["lon-rr", "2", "of", "4", "##"]]
         self.assertEqual(table(answer, "router"), [*rows, ["fra-rr", "2", "of", "4", "##"]])
         self.assertIn(f"\nrouter  {HEAD}\n", answer.output)
@@ -339,9 +343,9 @@ class OnePlan(InFolder):
             by_rank = tuple(counts)
             sums = sums_of([counted(Plan.read(M3))])._replace(by_rank=(*by_rank, 0, 0, 0))
             lines = list(figure_lines(sums._replace(highest=len(counts) - 1), by_plan=False))
-            rows = [line.split("  ")[0] for line in lines[4 : lines.index("", 4)]]
+            rows = [line.split("  ")[0] for line in lines[5 : lines.index("", 5)]]
             self.assertEqual(rows, due)
-            marks = [line.count("#") for line in lines[4 : lines.index("", 4)]]
+            marks = [line.count("#") for line in lines[5 : lines.index("", 5)]]
             self.assertEqual(sum(marks), sum(counts))
 
     def test_every_router_in_a_group_has_a_row(self) -> None:
@@ -374,10 +378,11 @@ class OnePlan(InFolder):
         answer = rrp("figures", NET, "--json")
         values = json.loads(answer.output)
         self.assertEqual(answer.status, 1)
-        counts = ["plans", "lists", "stable_lists", "suspect_lists", "nobody_lists"]
+        grades = [f"grade_{grade}_lists" for grade in (1, 2, 3, 4)] + ["not_graded_lists"]
+        counts = ["plans", "lists", "stable_lists", "suspect_lists", *grades, "nobody_lists"]
         kinds = ["highest_rank", "not_counted", "by_rank", "by_router", "by_plan"]
         self.assertEqual(list(values), [*counts, *kinds, "errors", "notes"])
-        self.assertEqual([values[name] for name in counts], [1, 3, 2, 1, 0])
+        self.assertEqual([values[name] for name in counts], [1, 3, 2, 1, 0, 0, 0, 1, 0, 0])
         self.assertEqual((values["highest_rank"], values["not_counted"]), (3, 0))
         ranks = [{"rank": rank, "stable_lists": 2 * (rank == 3)} for rank in range(12)]
         self.assertEqual(values["by_rank"], ranks)
@@ -385,8 +390,8 @@ class OnePlan(InFolder):
         due = {**known, "plans": 1, "lists": 3, "grouped_lists": 1}
         self.assertEqual(values["by_router"][0], due)
         self.assertEqual(len(values["by_router"]), 12)
-        own = {"plan": NET, "lists": 3, "stable_lists": 2, "suspect_lists": 1, "nobody_lists": 0}
-        self.assertEqual(values["by_plan"], [{**own, "highest_rank": 3}])
+        own = {name: values[name] for name in counts[1:]}
+        self.assertEqual(values["by_plan"], [{"plan": NET, **own, "highest_rank": 3}])
 
     def test_absent_as_values(self) -> None:
         path = f"{STORED_PLANS}/cycle-of-four.plan"
@@ -533,7 +538,7 @@ class SeveralPlans(InFolder):
         said = "0 plans counted, 1 not counted"
         self.assertEqual((answer.status, answer.output.splitlines()[1:]), (2, [said]))
         rows = csv_rows(rrp("figures", "year", "--csv").output)
-        self.assertEqual([row["value"] for row in rows], ["0", "0", "0", "0", "0", "", "1"])
+        self.assertEqual([row["value"] for row in rows], [*["0"] * 10, "", "1"])
 
     def test_a_directory_without_a_plan(self) -> None:
         os.mkdir("year")

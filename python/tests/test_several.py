@@ -7,6 +7,7 @@ import os
 import unittest
 
 from rrp import Plan
+from rrp.rest import AS_THEY_STAND
 
 from .folders import InFolder, write
 from .support import EXAMPLES, TESTS, rrp
@@ -28,6 +29,8 @@ class Several(InFolder):
             lacking = [one["list"] for one in alone if one["stable"] and one["without_route"]]
             nobody = [one["list"] for one in alone if not one["routers"]]
             self.assertEqual(each["suspect_lists"], suspect)
+            grades = {one["list"]: one["grade"] for one in alone if not one["stable"]}
+            self.assertEqual(each["grades"], grades)
             self.assertEqual(each["lists_without_route"], lacking)
             self.assertEqual(each["lists_of_nobody"], nobody)
             self.assertEqual((each["stable"], each["lists"]), (not suspect, len(alone)))
@@ -35,7 +38,7 @@ class Several(InFolder):
     def test_a_line_each(self) -> None:
         lines = rrp("check", NET, HOP, GONE, LEFT_OUT).output.splitlines()
         words = {line.split()[0]: line.split(maxsplit=2)[1:] for line in lines[1:-1]}
-        self.assertEqual(words[NET], ["suspect", "1 of 3 lists: transit"])
+        self.assertEqual(words[NET], ["suspect", "1 of 3 lists: transit (never comes to rest)"])
         self.assertEqual(words[HOP], ["stable", "2 lists"])
         self.assertEqual(words[GONE], ["stable", "2 lists; nobody in gone"])
         self.assertEqual(words[LEFT_OUT], ["stable", "2 lists; routers without a route in one"])
@@ -81,10 +84,11 @@ class Several(InFolder):
         write("slip.rrp", "lnk\n")
         answer = rrp("check", ".")
         lines = answer.output.splitlines()
-        self.assertEqual((answer.status, len(lines)), (2, 133))
+        self.assertEqual((answer.status, len(lines)), (2, 134))
         due = "130 plans judged: 0 stable for all lists, 130 suspect for some; 1 not judged"
         self.assertEqual(lines[-1], due)
-        self.assertEqual(lines[1:-2], sorted(lines[1:-2]))
+        self.assertEqual(lines[-2], AS_THEY_STAND)
+        self.assertEqual(lines[1:-3], sorted(lines[1:-3]))
 
     def test_a_file_is_judged_once(self) -> None:
         self.copy(HOP, "hop.rrp")

@@ -217,14 +217,16 @@ class Command(InFolder):
         text = rrp("sweep", "fragile.rrp")
         self.assertEqual(text.status, 1)
         self.assertRegex(text.output, "\n *1 makes a stable list suspect\n")
-        self.assertRegex(text.output, "\nlink p x +all +suspect: p -> q -> p\n")
+        self.assertRegex(text.output, "\nlink p x +all +suspect: p -> q -> p; comes to rest ")
         self.assertEqual(rrp("sweep", "fragile.rrp", "only").status, 0)
 
     def test_a_list_that_is_suspect_already_counts_for_nothing(self) -> None:
         answer = rrp("sweep", NET)
         self.assertEqual(answer.status, 0)
         said = "\nas it is, transit is suspect: lon-rr -> par-rr -> fra-rr -> lon-rr\n"
-        self.assertIn(f"{said}    it is suspect under 27 of 42 failures; its routes", answer.output)
+        said += "    rests in no table: its routers never come to rest\n"
+        self.assertIn(f"{said}    it is suspect under 27 of 42 failures (", answer.output)
+        self.assertIn("never comes to rest: ", answer.output)
 
     def test_json_has_every_failure(self) -> None:
         values = json.loads(rrp("sweep", NET, "--json").output)

@@ -42,12 +42,17 @@ use Rattle.steady_rules.specs.Numbers.{numbersWhere}
 use Rattle.steady_rules.specs.Equations.{solves, carried, completed, solutions}
 use Rattle.steady_rules.specs.OwnRoutes.{overruled, keepsOwn}
 use Rattle.steady_rules.specs.Steady.{steadyNumbers}
-use Rattle.call_rules.specs.Refusals.{steadyChecks, steadyRefusal, hopSetRefusal}
+use Rattle.call_rules.specs.Refusals.{steadyChecks, steadyRefusal, hopSetRefusal, gradeRefusal}
 use Rattle.hopset_rules.specs.HopSet.{serves, setOf, reflectorsIn, servesBy, lowestBy, leastSize, hopSet}
+use Rattle.steady_rules.specs.Equations.{stage}
+use Rattle.steady_rules.specs.Numbers.{nthOf}
+use Rattle.grade_rules.specs.Machine.{restWithin, moveFor, stuck, loops, longest}
+use Rattle.grade_rules.specs.Moving.{foremost, toggled, machine}
+use Rattle.grade_rules.specs.Grade.{grade, restRounds, gradeRounds}
 use Rattle.call_steady.specs.Steady.{numberBytes, numbersAfter}
 use Rattle.figures_rules.specs.Figures.{stableLists, suspectLists, highestStable, stableWith, groupedLists, figuresOf}
 use Rattle.call_figures.specs.Figures.{rankCounts, routerCounts, rankCountsLeft, routerCountsLeft, rankCountsAfter, routerCountsAfter}
-use Rattle.c_rules.specs.Examples.{twoRouters, ExportExamples, ConvertExportExamples, SteadyExportExamples, HopSetExportExamples, FiguresExportExamples}
+use Rattle.c_rules.specs.Examples.{twoRouters, ExportExamples, ConvertExportExamples, SteadyExportExamples, HopSetExportExamples, GradeExportExamples, FiguresExportExamples}
 
 pub export-examples : ExportExamples
 unfolding
@@ -132,6 +137,22 @@ steady-export-examples =
       twoTables = λ r o c e. (e .numbered, e .counted, e .bytes);
       stableList = λ r o c e. (e .numbered, e .counted, e .bytes);
       refusedSteady = λ r o c e. (e .numbered, e .counted, e .bytes);
+    }
+
+pub grade-export-examples : GradeExportExamples
+unfolding
+    fourRouters smallPlan M3Plan gradeRefusal grade restRounds gradeRounds restWithin moveFor stuck loops longest foremost toggled machine stage nthOf
+    numbersWhere solves carried completed solutions overruled keepsOwn steadyNumbers rankOver ranksByChains rank
+    together label stable grouped closing listedClientOf bestClient offer betterOffer relies nearer hasStep hops prefers
+    pairs inSession named refuse bodyChecks planChecks planRefusal
+    markOk headerOk routerCountOk kindsOk placesOk sizesOk contentsOk routerOk routersOk sessionOk sessionsOk
+    parentCount fewParents parentsOk count distancesOk
+    listPlace memberOk listAtOk listOk eachListOk listsOk allBelow anyBelow keepBest best seek highest tab
+grade-export-examples =
+    record {
+      rests = λ r g n e. (e .number, e .told, e .within);
+      stableGrade = λ r g n e. (e .number, e .told, e .within);
+      refusedGrade = λ r g n e. (e .number, e .told, e .within);
     }
 
 pub hop-set-export-examples : HopSetExportExamples

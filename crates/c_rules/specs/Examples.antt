@@ -11,7 +11,7 @@ use Rattle.plan_examples.specs.Plans.{smallPlan, M3Plan, M3WithNobody, nobodyBe
 use Rattle.plan_rules.specs.ConvertedExamples.{withNarrow, withWide}
 use Rattle.links_rules.specs.Distances.{DistancesCall}
 use Rattle.call_run.specs.Activate.{Activates}
-use Rattle.c_rules.specs.Exports.{SizeExport, ListExport, CompareExport, ReliesExport, ExplainExport, VerdictExport, SteadyExport, HopSetExport, RunExport}
+use Rattle.c_rules.specs.Exports.{SizeExport, ListExport, CompareExport, ReliesExport, ExplainExport, VerdictExport, SteadyExport, HopSetExport, GradeExport, RunExport}
 use Rattle.c_rules.specs.Exports.{WidenExport, NarrowExport, FiguresExport}
 
 -- two clients without a session; no way from 0 to 1, and back it is 7
@@ -202,6 +202,16 @@ pub record SteadyExportExamples : Type 0 where
   -- the buffer is a byte short: number 9, and the variable and the buffer are left as they were
   pub refusedSteady : (r : ℕ) (out : List ℕ) (count : Lent ℕ) → SteadyExport M3Plan 0 r (from (replicate 3 9) out) count
       → (r ≡ 9) × (count .after ≡ count .before) × (out ≡ replicate 3 9)
+
+pub record GradeExportExamples : Type 0 where
+  -- list 2,3, of two reflectors that each prefer the other's client: it rests within 4 rounds; list 3, which is stable with highest rank 3
+  pub rests : (r : ℕ) (grade rounds : Lent ℕ) → GradeExport M3Plan 0 r grade rounds
+      → (r ≡ 0) × (grade .after ≡ 1) × (rounds .after ≡ 4)
+  pub stableGrade : (r : ℕ) (grade rounds : Lent ℕ) → GradeExport M3Plan 1 r grade rounds
+      → (r ≡ 0) × (grade .after ≡ 1) × (rounds .after ≡ 5)
+  -- there is no list 3: number 8, and the variables are left as they were
+  pub refusedGrade : (r : ℕ) (grade rounds : Lent ℕ) → GradeExport M3Plan 3 r grade rounds
+      → (r ≡ 8) × (grade .after ≡ grade .before) × (rounds .after ≡ rounds .before)
 
 pub record HopSetExportExamples : Type 0 where
   -- list 2,3: router 0, which is bit 0

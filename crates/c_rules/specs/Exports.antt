@@ -19,7 +19,8 @@ use Rattle.plan_rules.specs.Refused.{unlessRefused}
 use Rattle.plan_rules.specs.Converted.{converted, widenRefusal, narrowRefusal}
 use Rattle.steady_rules.specs.Steady.{steadyCount}
 use Rattle.hopset_rules.specs.HopSet.{hopSet}
-use Rattle.call_rules.specs.Refusals.{egressListRefusal, compareRefusal, reliesRefusal, verdictRefusal, steadyRefusal, hopSetRefusal, runRefusal, figuresRefusal}
+use Rattle.grade_rules.specs.Grade.{grade, gradeRounds}
+use Rattle.call_rules.specs.Refusals.{egressListRefusal, compareRefusal, reliesRefusal, verdictRefusal, steadyRefusal, hopSetRefusal, gradeRefusal, runRefusal, figuresRefusal}
 use Rattle.call_compare.specs.Compare.{whichBetter, hasMargin, marginNumber}
 use Rattle.route_explain_rules.specs.declared.explanation.Values.{Values}
 use Rattle.route_explain_rules.specs.Explained.{explained}
@@ -115,6 +116,12 @@ SteadyExport plan k r out = SteadyWritten (steadyRefusal plan k (out .before)) (
 pub record HopSetExport (plan : List ℕ) (k r : ℕ) (set : Lent ℕ) : Type 0 where
   pub number : r ≡ hopSetRefusal plan k
   pub named : VariableHolds (hopSetRefusal plan k) set (hopSet (instanceOf plan k))
+
+-- rrp_grade: the number of the grade, and a number of rounds
+pub record GradeExport (plan : List ℕ) (k r : ℕ) (graded rounds : Lent ℕ) : Type 0 where
+  pub number : r ≡ gradeRefusal plan k
+  pub told : VariableHolds (gradeRefusal plan k) graded (grade (instanceOf plan k))
+  pub within : VariableHolds (gradeRefusal plan k) rounds (gradeRounds (instanceOf plan k))
 
 -- rrp_run: the activations applied, the whole rounds in them, and 1 if the sequence is longer than the limit, else 0.
 -- `number` is the call's refusal.

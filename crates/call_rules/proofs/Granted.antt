@@ -23,9 +23,9 @@ use Rattle.net_rules.specs.FromPlan.{instanceOf}
 use Rattle.net_rules.specs.Opened.{Opened}
 use Rattle.net_tables.specs.TableBytes.{TableIn}
 use Rattle.steady_rules.specs.Steady.{groupedRouters, steadyCount}
-use Rattle.call_rules.specs.Refusals.{sequenceOk, askedChecks, egressListRefusal, compareRefusal, reliesRefusal, routerRefusal, sequenceRefusal, buffersOk, verdictRefusal, steadyRefusal, hopSetRefusal, tableChecks, countsOk, figuresRefusal}
+use Rattle.call_rules.specs.Refusals.{hasList, sequenceOk, askedChecks, fewGrouped, egressListRefusal, compareRefusal, reliesRefusal, routerRefusal, sequenceRefusal, buffersOk, verdictRefusal, steadyRefusal, hopSetRefusal, gradeRefusal, tableChecks, countsOk, figuresRefusal}
 use Rattle.call_rules.specs.InOrder.{InOrder}
-use Rattle.call_rules.proofs.InOrder.{asked-in-order, list-in-order, compare-in-order, relies-in-order, verdict-in-order, steady-in-order, hop-set-in-order, figures-in-order}
+use Rattle.call_rules.proofs.InOrder.{asked-in-order, list-in-order, compare-in-order, relies-in-order, verdict-in-order, steady-in-order, hop-set-in-order, grade-in-order, figures-in-order}
 
 pub few-routers : (plan : List ℕ) → planRefusal plan ≡ 0 → routerCount plan ≤ 64
 few-routers plan h = passed plan h .count .most
@@ -175,15 +175,23 @@ steady-asked plan k out h =
     let g = granted (steady-in-order plan k out) h in
     record { planOk = g .planOk; list = ltb-true _ _ (g .callOk); few = leb-true _ _ (g .fewOk); long = leb-true _ _ (g .longOk) }
 
-pub record HopSetAsked (plan : List ℕ) (k : ℕ) : Type 0 where
+-- the call that names a set of routers, and the one that grades a list
+pub record GroupsAsked (plan : List ℕ) (k : ℕ) : Type 0 where
   pub planOk : planRefusal plan ≡ 0
   pub list : k < listCount plan
   pub few : groupedRouters (instanceOf plan k) ≤ 12
 
-pub hop-set-asked : (plan : List ℕ) (k : ℕ) → hopSetRefusal plan k ≡ 0 → HopSetAsked plan k
-hop-set-asked plan k h =
-    let g = granted (hop-set-in-order plan k) h in
+groups-asked : (plan : List ℕ) (k number : ℕ)
+    → InOrder plan (hasList plan k) (fewGrouped (instanceOf plan k)) true true number → number ≡ 0 → GroupsAsked plan k
+groups-asked plan k number o h =
+    let g = granted o h in
     record { planOk = g .planOk; list = ltb-true _ _ (g .callOk); few = leb-true _ _ (g .fewOk) }
+
+pub hop-set-asked : (plan : List ℕ) (k : ℕ) → hopSetRefusal plan k ≡ 0 → GroupsAsked plan k
+hop-set-asked plan k h = groups-asked plan k _ (hop-set-in-order plan k) h
+
+pub grade-asked : (plan : List ℕ) (k : ℕ) → gradeRefusal plan k ≡ 0 → GroupsAsked plan k
+grade-asked plan k h = groups-asked plan k _ (grade-in-order plan k) h
 
 pub record FiguresAsked (plan ranks routers : List ℕ) : Type 0 where
   pub planOk : planRefusal plan ≡ 0

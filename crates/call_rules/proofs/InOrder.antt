@@ -8,7 +8,7 @@ use Rattle.plan_rules.proofs.Cascade.{plan-passes, plan-refused}
 use Rattle.route_rules.specs.Instance.{Instance}
 use Rattle.net_rules.specs.FromPlan.{instanceOf}
 use Rattle.net_tables.specs.TableBytes.{tableRule}
-use Rattle.call_rules.specs.Refusals.{hasList, hasRouter, sequenceOk, askedChecks, egressListRefusal, compareRefusal, reliesRefusal, buffersOk, verdictRefusal, fewGrouped, numbersLong, steadyChecks, steadyRefusal, hopSetRefusal, tableLong, tableChecks, activateRefusal, runRefusal, countsOk, figuresRefusal}
+use Rattle.call_rules.specs.Refusals.{hasList, hasRouter, sequenceOk, askedChecks, egressListRefusal, compareRefusal, reliesRefusal, buffersOk, verdictRefusal, fewGrouped, numbersLong, steadyChecks, steadyRefusal, hopSetRefusal, gradeRefusal, tableLong, tableChecks, activateRefusal, runRefusal, countsOk, figuresRefusal}
 use Rattle.call_rules.specs.InOrder.{InOrder}
 
 in-order : (plan : List ℕ) (ok few long rule : Bool)
@@ -55,6 +55,10 @@ module _ (plan : List ℕ) where
   pub hop-set-in-order : (k : ℕ) → InOrder plan (hasList plan k) (fewGrouped (instanceOf plan k)) true true (hopSetRefusal plan k)
   unfolding hopSetRefusal refuse
   hop-set-in-order k = in-order plan _ _ true true
+
+  pub grade-in-order : (k : ℕ) → InOrder plan (hasList plan k) (fewGrouped (instanceOf plan k)) true true (gradeRefusal plan k)
+  unfolding gradeRefusal refuse
+  grade-in-order k = in-order plan _ _ true true
 
   pub figures-in-order : (ranks routers : List ℕ)
       → InOrder plan true true (countsOk (routerCount plan) ranks routers) true (figuresRefusal plan ranks routers)

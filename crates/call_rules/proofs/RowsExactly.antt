@@ -25,7 +25,7 @@ use Rattle.net_tables.proofs.TableBytes.{entry-other, entry-itself, entry-none,
 use Rattle.call_rules.specs.Refusals.{hasList, hasRouter, sequenceOk, buffersOk, fewGrouped, numbersLong, countsOk}
 use Rattle.call_rules.specs.InOrder.{InOrder}
 use Rattle.call_rules.specs.RowsExactly.{RowsExactly, BuffersLong, egressAt, senderAt, TableFacts, CallRows}
-use Rattle.call_rules.proofs.InOrder.{list-in-order, compare-in-order, relies-in-order, verdict-in-order, steady-in-order, hop-set-in-order, activate-in-order, run-in-order, figures-in-order}
+use Rattle.call_rules.proofs.InOrder.{list-in-order, compare-in-order, relies-in-order, verdict-in-order, steady-in-order, hop-set-in-order, grade-in-order, activate-in-order, run-in-order, figures-in-order}
 
 -- no row of a plan's own has the number of a call's
 plan-no-call : (plan : List ℕ) → 8 ≤ planRefusal plan → (planRefusal plan ≡ 13 → ⊥) → ⊥
@@ -269,6 +269,7 @@ module _ (plan : List ℕ) where
         steady = λ k out.
             exactly plan _ _ _ _ _ (steady-in-order plan k out) (list-tested k) (few-tested k) (numbers-tested k out) (λ _. unasked);
         hopSet = λ k. exactly plan _ _ _ _ _ (hop-set-in-order plan k) (list-tested k) (few-tested k) unasked (λ _. unasked);
+        grade = λ k. exactly plan _ _ _ _ _ (grade-in-order plan k) (list-tested k) (few-tested k) unasked (λ _. unasked);
         activate = λ k w table.
             exactly plan _ _ _ _ _ (activate-in-order plan k table w) (router-tested k w) unasked (long-tested table) (rule-tested k table);
         run = λ k acts table.

@@ -7,7 +7,7 @@ use mathlib.Core.List.{List, [], _∷_}
 use lib.Dec.{ltb, eqb}
 use Rattle.plan_examples.specs.Plans.{threeRouters}
 use Rattle.route_rules.specs.Instance.{Instance}
-use Rattle.call_rules.specs.Refusals.{egressListRefusal, compareRefusal, reliesRefusal, verdictRefusal, fewGrouped, steadyRefusal, hopSetRefusal, activateRefusal, runRefusal, figuresRefusal}
+use Rattle.call_rules.specs.Refusals.{egressListRefusal, compareRefusal, reliesRefusal, verdictRefusal, fewGrouped, steadyRefusal, hopSetRefusal, gradeRefusal, activateRefusal, runRefusal, figuresRefusal}
 
 -- tables for list 0: one that obeys its rule, one in which 2 holds a route from 0, which is not its neighbour, and one of 5 bytes
 unfoldable pub lent : List ℕ
@@ -73,6 +73,8 @@ pub record RefusalsExamples : Type 0 where
   pub steadyListAtM : steadyRefusal threeRouters 2 [] ≡ 8  -- the last: 9
   pub hopSetListAtM : hopSetRefusal threeRouters 2 ≡ 8  -- no list asked for: 0
   pub hopSetOfAList : hopSetRefusal threeRouters 1 ≡ 0
+  pub gradeListAtM : gradeRefusal threeRouters 2 ≡ 8  -- no list asked for: 0
+  pub gradeOfAList : gradeRefusal threeRouters 1 ≡ 0
   -- "An act or a run needs 2n bytes of table"
   pub activatedInFive : activateRefusal threeRouters 0 0 short ≡ 9  -- n bytes: 0
   -- "The call needs n bytes for the counts by rank and n for those by router"

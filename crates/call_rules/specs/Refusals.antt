@@ -73,6 +73,10 @@ steadyRefusal plan k out = askedChecks plan (hasList plan k) (steadyChecks (inst
 unfoldable pub hopSetRefusal : List ℕ → ℕ → ℕ
 hopSetRefusal plan k = askedChecks plan (hasList plan k) (refuse (fewGrouped (instanceOf plan k)) 15 0)
 
+-- .. and the call that grades a list
+unfoldable pub gradeRefusal : List ℕ → ℕ → ℕ
+gradeRefusal plan k = askedChecks plan (hasList plan k) (refuse (fewGrouped (instanceOf plan k)) 15 0)
+
 -- Row 9: "An act or a run needs 2n bytes of table." Row 10: "a held-route table breaks its rule".
 abbrev pub tableLong : Instance → List ℕ → Bool
 tableLong I table = leb (2 * I .n) (length table)

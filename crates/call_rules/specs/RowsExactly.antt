@@ -14,7 +14,7 @@ use Rattle.route_rules.specs.Instance.{Instance}
 use Rattle.route_rules.specs.Rounds.{ActsBelow}
 use Rattle.net_rules.specs.FromPlan.{instanceOf}
 use Rattle.steady_rules.specs.Steady.{groupedRouters, steadyCount}
-use Rattle.call_rules.specs.Refusals.{egressListRefusal, compareRefusal, reliesRefusal, verdictRefusal, steadyRefusal, hopSetRefusal, activateRefusal, runRefusal, figuresRefusal}
+use Rattle.call_rules.specs.Refusals.{egressListRefusal, compareRefusal, reliesRefusal, verdictRefusal, steadyRefusal, hopSetRefusal, gradeRefusal, activateRefusal, runRefusal, figuresRefusal}
 
 -- `number` is the refusal of a call on the plan: row 8 asks that `Asked` holds, row 15 that `Few` does, row 9 that `Long` does, row 10 that
 -- `Rule` does. `Unit` is for a row that does not stand for the call: nothing fails it.
@@ -46,8 +46,8 @@ pub record TableFacts (I : Instance) (table : List ℕ) : Type 0 where
   pub unlisted : (v : ℕ) → v < I .n → I .listed v ≡ false
       → ((egressAt table v ≡ 255) × (senderAt table v ≡ 255)) ⊎ ((egressAt table v < I .n) × (I .neighbour v (senderAt table v) ≡ true))
 
--- "Checks 8, 9 and 10 stand only for calls that take such things", and 15 for those that list steady tables and name a set of routers: what
--- each call is asked for. Row 8 is "the list asked for is m or more, or a router asked for, or named in a sequence of acts, is n or more".
+-- "Checks 8, 9 and 10 stand only for calls that take such things", and 15 for those that list steady tables, name a set of routers and grade
+-- a list: what each call is asked for. Row 8 is "the list asked for is m or more, or a router asked for, or named in a sequence of acts, is n or more".
 -- The theorem `call-rows` says that these hold. The call that explains is refused as the one that answers a reliance.
 pub record CallRows (plan : List ℕ) : Type 0 where
   pub list : (k : ℕ) → RowsExactly plan (k < listCount plan) Unit Unit Unit (egressListRefusal plan k)
@@ -67,6 +67,8 @@ pub record CallRows (plan : List ℕ) : Type 0 where
   -- "Refusal 15 covers this call too, in the same place."
   pub hopSet : (k : ℕ)
       → RowsExactly plan (k < listCount plan) (groupedRouters (instanceOf plan k) ≤ 12) Unit Unit (hopSetRefusal plan k)
+  pub grade : (k : ℕ)
+      → RowsExactly plan (k < listCount plan) (groupedRouters (instanceOf plan k) ≤ 12) Unit Unit (gradeRefusal plan k)
   -- "An act or a run needs 2n bytes of table"
   pub activate : (k w : ℕ) (table : List ℕ)
       → RowsExactly plan ((k < listCount plan) × (w < routerCount plan)) Unit (2 * routerCount plan ≤ length table)

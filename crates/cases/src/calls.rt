@@ -5,6 +5,8 @@ use base::wide;
 use checker::compare::CompareAnswer;
 use checker::compare::Margin;
 use checker::compare::Preferred;
+use checker::grade::GradeAnswer;
+use checker::grades::Grade;
 use checker::relies::ReliesAnswer;
 use checker::steady::SteadyAnswer;
 use checker::verdict::VerdictAnswer;
@@ -164,4 +166,28 @@ fn steady_in(plan: &[u8], list: usize, out: &mut [u8]) {
 pub fn steady(plan: &[u8], list: usize, length: usize) {
     let size = at_most_10(length);
     steady_in(plan, list, &mut [7u8; 10][0..size]);
+}
+
+fn grade_number(grade: Grade) -> usize {
+    match grade {
+        Grade::AlwaysRests => 1,
+        Grade::CanRest => 2,
+        Grade::MayNeverRest => 3,
+        Grade::NoSteadyTable => 4,
+    }
+}
+
+fn grade_answer(answer: GradeAnswer) {
+    match answer {
+        GradeAnswer::Refused(number) => text::number(wide(number)),
+        GradeAnswer::Graded(grade, rounds) => {
+            text::named_number(b"grade", grade_number(grade));
+            text::named_number(b"rounds", rounds);
+        }
+    }
+}
+
+// The grade, and the rounds within which the routers come to rest.
+pub fn grade(plan: &[u8], list: usize) {
+    grade_answer(checker::grade::grade(plan, list));
 }

@@ -84,6 +84,7 @@ fn call(word: u8, numbers: &[usize], plan: &[u8], table: &mut [u8]) {
         b'b' => better(numbers, plan),
         b'c' => calls::check(plan),
         b'e' => every(plan, table),
+        b'g' => calls::grade(plan, first),
         b'l' => calls::egress_list(plan, first),
         b'n' => calls::steady(plan, first, second),
         b'r' => calls::relies(plan, first, second, third),

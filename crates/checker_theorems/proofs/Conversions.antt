@@ -34,8 +34,8 @@ use Rattle.net_rules.specs.FromPlan.{instanceOf}
 use Rattle.net_rules.proofs.FromConverted.{converted-instance}
 use Rattle.net_tables.specs.TableBytes.{activateBytes, runBytes}
 use Rattle.net_verdict.specs.Assessed.{found, labelsLeft, ranksLeft, tableLeft, cycleLeft}
-use Rattle.call_rules.specs.Refusals.{sequenceOk, askedChecks, egressListRefusal, compareRefusal, reliesRefusal, verdictRefusal, buffersOk, steadyChecks, steadyRefusal, fewGrouped, hopSetRefusal, tableChecks, activateRefusal, runRefusal, countsOk, figuresRefusal}
-use Rattle.call_rules.proofs.Granted.{list-asked, relies-asked, verdict-asked, steady-asked, hop-set-asked}
+use Rattle.call_rules.specs.Refusals.{sequenceOk, askedChecks, egressListRefusal, compareRefusal, reliesRefusal, verdictRefusal, buffersOk, steadyChecks, steadyRefusal, fewGrouped, hopSetRefusal, gradeRefusal, tableChecks, activateRefusal, runRefusal, countsOk, figuresRefusal}
+use Rattle.call_rules.proofs.Granted.{list-asked, relies-asked, verdict-asked, steady-asked, hop-set-asked, grade-asked}
 use Rattle.call_query.specs.declared.size.SizeAnswer.{SizeAnswer}
 use Rattle.call_query.specs.declared.relies.ReliesAnswer.the-variants as reliances
 use Rattle.call_query.specs.declared.relies.ReliesAnswer.the-variants.{Yes, No}
@@ -54,6 +54,10 @@ use Rattle.call_steady.specs.declared.steady.SteadyAnswer.the-variants as stead
 use Rattle.call_hopset.specs.declared.hop_set.HopSetAnswer.the-variants as sets
 use Rattle.call_hopset.specs.HopSet.{hopSetAnswer}
 use Rattle.hopset_rules.specs.HopSet.{hopSet}
+use Rattle.grade_rules.specs.Grade.{grade, gradeRounds}
+use Rattle.net_grade.specs.Grades.{gradeNamed}
+use Rattle.call_grade.specs.declared.grade.GradeAnswer.the-variants as gradings
+use Rattle.call_grade.specs.Grade.{gradeAnswer}
 use Rattle.call_steady.specs.Steady.{numberBytes, steadyAnswer, numbersAfter, SteadyCall}
 use Rattle.figures_rules.specs.Figures.{stableWith, groupedLists, figuresOf}
 use Rattle.figures_rules.proofs.SameLists.{figures-same, ranks-same, routers-same}
@@ -118,6 +122,10 @@ module _ (plan result : List ℕ) (ok : planRefusal plan ≡ 0) (ok′ : planRef
   hop-set-refusal : (k : ℕ) → hopSetRefusal result k ≡ hopSetRefusal plan k
   unfolding hopSetRefusal
   hop-set-refusal k = asked-same (λ n m. ltb k m) _ _ (λ h. ap (λ I. refuse (fewGrouped I) 15 0) (network k (ltb-true k _ h)))
+
+  grade-refusal : (k : ℕ) → gradeRefusal result k ≡ gradeRefusal plan k
+  unfolding gradeRefusal
+  grade-refusal k = asked-same (λ n m. ltb k m) _ _ (λ h. ap (λ I. refuse (fewGrouped I) 15 0) (network k (ltb-true k _ h)))
 
   activate-refusal : (k w : ℕ) (table : List ℕ) → activateRefusal result k w table ≡ activateRefusal plan k w table
   unfolding activateRefusal
@@ -231,7 +239,7 @@ module _ (plan result : List ℕ) (ok : planRefusal plan ≡ 0) (ok′ : planRef
       )
 
   pub same-calls : SameCalls plan result
-  unfolding relied compared hopSetAnswer activateTable
+  unfolding relied compared hopSetAnswer gradeAnswer activateTable
   same-calls =
       record {
         check = ok′ ∙ sym ok;
@@ -255,6 +263,12 @@ module _ (plan result : List ℕ) (ok : planRefusal plan ≡ 0) (ok′ : planRef
             ∙ sym (s .answer);
         verdict = same-verdict;
         steady = same-steady;
+        grade =
+            λ k r r′ s s′.
+            s′ .answer
+            ∙ by-network k _ _ gradings.Refused (λ I. gradings.Graded (gradeNamed (grade I)) (gradeRounds I)) (grade-refusal k)
+            (λ z. grade-asked plan k z .list)
+            ∙ sym (s .answer);
         hopSet =
             λ k r r′ s s′.
             s′ .answer

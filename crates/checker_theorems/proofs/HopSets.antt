@@ -32,11 +32,11 @@ use Rattle.checker_theorems.proofs.SteppedPlans.{stepped-other, long-is
 -- what the verdict call says of the list
 module _ (plan : List ℕ) (k : ℕ) (r : VerdictAnswer) (labels ranks table shown : Lent (List ℕ))
     (call : VerdictCall plan k r labels ranks table shown) where
-  says : verdictNumber r ≡ 0 → verdictIsStable r ≡ isStable (instanceOf plan k)
+  pub says : verdictNumber r ≡ 0 → verdictIsStable r ≡ isStable (instanceOf plan k)
   says z = call .stable ∙ when-given _ _ _ (sym (call .numbered) ∙ z)
 
   -- it says stable of none that it refuses
-  not-refused : verdictIsStable r ≡ true → verdictNumber r ≡ 0
+  pub not-refused : verdictIsStable r ≡ true → verdictNumber r ≡ 0
   not-refused s =
       ⊎-elim (λ e. e)
       (λ (d : verdictNumber r ≡ 0 → ⊥). not-both (verdictIsStable r) s (call .stable ∙ when-refused _ _ _ (λ z. d (call .numbered ∙ z))))

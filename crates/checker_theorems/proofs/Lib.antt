@@ -21,3 +21,5 @@ pub mod SteppedPlans
 pub mod HopSets
 pub mod HopSetsExamples
 pub mod Figures
+pub mod Grades
+pub mod GradesExamples

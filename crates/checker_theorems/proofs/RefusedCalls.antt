@@ -8,6 +8,7 @@ use Rattle.call_query.specs.Size.{sizeRouters, sizeLists}
 use Rattle.call_verdict.specs.Verdict.{verdictAnswer, labelsAfter, ranksAfter, tableAfter, cycleAfter}
 use Rattle.call_steady.specs.Steady.{steadyAnswer, numbersAfter}
 use Rattle.call_hopset.specs.HopSet.{hopSetAnswer}
+use Rattle.call_grade.specs.Grade.{gradeAnswer}
 use Rattle.call_figures.specs.Figures.{figuresAnswer, rankCountsAfter, routerCountsAfter}
 use Rattle.call_run.specs.Activate.{activateTable}
 use Rattle.call_run.specs.Run.{runApplied, runRounds, runExhausted, runTable}
@@ -18,7 +19,7 @@ use Rattle.checker_theorems.specs.RefusedCalls.{RefusedCalls}
 pub refused-calls : RefusedCalls
 unfolding
     egressListStart egressListSize sizeRouters sizeLists verdictAnswer labelsAfter ranksAfter tableAfter cycleAfter
-    steadyAnswer numbersAfter hopSetAnswer activateTable runApplied runRounds runExhausted runTable convertLength convertBuffer
+    steadyAnswer numbersAfter hopSetAnswer gradeAnswer activateTable runApplied runRounds runExhausted runTable convertLength convertBuffer
     figuresAnswer rankCountsAfter routerCountsAfter
 refused-calls =
     record {
@@ -46,6 +47,7 @@ refused-calls =
       );
       steady = λ plan k r out s ne. (s .answer ∙ when-refused _ _ _ ne, s .counted ∙ when-refused _ _ _ ne, s .written ∙ when-refused _ _ _ ne);
       hopSet = λ plan k r s ne. (s .answer ∙ when-refused _ _ _ ne, s .named ∙ when-refused _ _ _ ne);
+      grade = λ plan k r s ne. (s .answer ∙ when-refused _ _ _ ne, s .graded ∙ when-refused _ _ _ ne, s .rounds ∙ when-refused _ _ _ ne);
       figures = λ plan r ranks routers s ne. (
         s .answer ∙ when-refused _ _ _ ne,
         s .stable ∙ when-refused _ _ _ ne,

@@ -1,5 +1,5 @@
 -- Demand 3: every series of calls on a table of a stable list settles; and every series can go on.
-use Prim.Native.Nat.{ℕ, zero, suc, _+_, _-_, _*_, _≤_, _<_}
+use Prim.Native.Nat.{ℕ, _+_, _*_, _≤_, _<_}
 use native.Mathlib.Omega.{arith}
 use mathlib.Core.Path.{_≡_, refl, _∙_, sym, ap, ap₂}
 use mathlib.Core.Bool.{Bool, true}
@@ -7,9 +7,9 @@ use mathlib.Core.List.{List, [], _∷_, _++_, foldl-append}
 use mathlib.Core.Logic.{_⊎_, ⊎-elim}
 use borrow.Author.Tests.{ltb-true, le-leb}
 use lib.Dec.{ltb}
-use lib.ListN.{length, getD, take, drop, length-append, length-take, List·getD-append}
-use lib.Seq.{getD-take, getD-append-add}
-use Rattle.base.proofs.Numbers.{both-right, eq-or-ne, lt-or-le}
+use lib.ListN.{length, getD, take, drop, length-take}
+use lib.Seq.{getD-take}
+use Rattle.base.proofs.Numbers.{both-right, eq-or-ne}
 use Rattle.base.proofs.Below.{all-at}
 use Rattle.plan_contents.specs.Header.{routerCount}
 use Rattle.plan_rules.specs.EgressLists.{listCount}
@@ -17,13 +17,14 @@ use Rattle.plan_rules.specs.Refusal.{refuse, planChecks}
 use Rattle.plan_rules.proofs.Cascade.{refuse-passed, refuse-true, plan-passes, plan-of-passed}
 use Rattle.plan_rules.proofs.Passed.{passed}
 use Rattle.route_rules.specs.Instance.{Instance, Route}
-use Rattle.route_rules.specs.Activation.{tableOk, activate, runActs}
-use Rattle.route_rules.proofs.Routes.{activate-ok}
+use Rattle.route_rules.specs.Activation.{tableOk, runActs}
 use Rattle.route_rules.specs.Rounds.{ActsBelow}
 use Rattle.route_theorems.specs.Settled.{settledTable}
 use Rattle.route_theorems.specs.Claims.{IsTable, Steady}
 use Rattle.route_theorems.proofs.Existence.{steady-stays}
 use Rattle.route_theorems.proofs.Settling.{settles}
+use Rattle.grade_theorems.proofs.Sequences.{below-none, below-one, below-append}
+use Rattle.grade_theorems.proofs.Runs.{run-ok}
 use Rattle.net_rules.specs.FromPlan.{instanceOf}
 use Rattle.net_tables.specs.TableBytes.{tableOf, tableBytes, activateBytes, runBytes}
 use Rattle.net_tables.proofs.TableBytes.{table-length, table-front, table-bytes, run-bytes-length, run-bytes-rest, run-table}
@@ -37,29 +38,13 @@ use Rattle.checker_theorems.specs.Series.{Call, activateCall, runCall, c
 use Rattle.plan_rules.proofs.Refused.{when-refused, when-given}
 use Rattle.checker_theorems.proofs.VerdictMeaning.{ranked, settled-alone}
 
--- acts of routers below n: one act, a part of a sequence, two sequences one after the other
-one-below : (n w : ℕ) → w < n → ActsBelow n (w ∷ [])
-one-below n w l zero h = l
-one-below n w l (suc i) h = absurd (omega arith)
-
+-- acts of routers below n: a part of a sequence
 pub take-below : (n limit : ℕ) (acts : List ℕ) → sequenceOk acts n ≡ true → ActsBelow n (take limit acts)
 unfolding sequenceOk
 take-below n limit acts ok i h =
     let inside : (i < limit) × (i < length acts) = omega (arith, length-take limit acts) in
     let named : getD acts i 0 < n = ltb-true _ _ (all-at (λ j. ltb (getD acts j 0) n) (length acts) ok i (inside .1)) in
     omega (arith, getD-take limit acts i 0 (inside .0))
-
-append-below : (n : ℕ) (acts more : List ℕ) → ActsBelow n acts → ActsBelow n more → ActsBelow n (acts ++ more)
-append-below n acts more a b i h =
-    ⊎-elim (λ (l : i < length acts). omega (arith, List·getD-append acts more 0 i l, a i l))
-    (λ (l : length acts ≤ i).
-    let e : i ≡ length acts + (i - length acts) = omega arith in
-    omega (
-      arith,
-      ap (λ j. getD (acts ++ more) j 0) e ∙ getD-append-add acts more (i - length acts) 0,
-      b (i - length acts) (omega (arith, length-append acts more)),
-    ))
-    (lt-or-le i (length acts))
 
 -- what acts, all of routers below n, make of a buffer
 pub record Applied (I : Instance) (acts before after : List ℕ) : Type 0 where
@@ -74,13 +59,13 @@ more-acts : (I : Instance) (acts more b c d : List ℕ) → Applied I acts b c �
 unfolding runBytes
 more-acts I acts more b c d p q =
     record {
-      below = append-below (I .n) acts more (p .below) (q .below);
+      below = below-append (I .n) acts more (p .below) (q .below);
       is = q .is ∙ ap (λ x. runBytes I x more) (p .is) ∙ sym (foldl-append (λ x w. activateBytes I w x) b acts more);
     }
 
 one-act : (I : Instance) (w : ℕ) (buffer : List ℕ) → w < I .n → Applied I (w ∷ []) buffer (activateBytes I w buffer)
 unfolding runBytes
-one-act I w buffer l = record { below = one-below (I .n) w l; is = refl }
+one-act I w buffer l = record { below = below-one (I .n) w [] l (below-none (I .n)); is = refl }
 
 -- a call that is not refused applies its acts
 row-eight : (plan : List ℕ) (ok : Bool) (rest : ℕ) → planChecks plan (refuse ok 8 rest) ≡ 0 → ok ≡ true
@@ -91,7 +76,7 @@ call-applies : (call : Call) (buffer : List ℕ) → callRefusal call buffer ≡
 unfolding activateRefusal runRefusal activateTable runTable runBytes
 call-applies (activateCall plan k w) buffer h =
     record {
-      below = one-below (routerCount plan) w (ltb-true _ _ (both-right (ltb k (listCount plan)) _ (row-eight plan _ _ h)));
+      below = below-one (routerCount plan) w [] (ltb-true _ _ (both-right (ltb k (listCount plan)) _ (row-eight plan _ _ h))) (below-none (routerCount plan));
       is = when-given (activateRefusal plan k w buffer) _ _ h;
     }
 call-applies (runCall plan k acts limit) buffer h =
@@ -133,13 +118,13 @@ pub same-buffer : (n : ℕ) (a b : List ℕ) → 2 * n ≤ length a → 2 * n �
 same-buffer n a b l m t d = table-bytes a n l ∙ ap₂ (λ x y. tableBytes x ++ y) t d ∙ sym (table-bytes b n m)
 
 module _ (I : Instance) (small : I .n ≤ 64) (acts before after : List ℕ) (long : 2 * I .n ≤ length before) (a : Applied I acts before after) where
-  applied-long : 2 * I .n ≤ length after
+  pub applied-long : 2 * I .n ≤ length after
   applied-long = omega (arith, ap length (a .is) ∙ run-bytes-length I before acts)
 
-  applied-rest : drop (2 * I .n) after ≡ drop (2 * I .n) before
+  pub applied-rest : drop (2 * I .n) after ≡ drop (2 * I .n) before
   applied-rest = ap (drop (2 * I .n)) (a .is) ∙ run-bytes-rest I before acts (a .below)
 
-  applied-table : tableOf after (I .n) ≡ runActs I (tableOf before (I .n)) acts
+  pub applied-table : tableOf after (I .n) ≡ runActs I (tableOf before (I .n)) acts
   applied-table = ap (λ b. tableOf b (I .n)) (a .is) ∙ run-table I before acts small (a .below) long
 
   -- a buffer whose table no act changes keeps every byte
@@ -192,11 +177,6 @@ every-series-settles plan k start s calls this =
     stays enough more later a =
         let one = settled-alone plan k (s .stableList) in
         applied-stays I small more after later long a settled (one .table) (one .steady) (reached enough)
-
-run-ok : (I : Instance) (t : List Route) (acts : List ℕ) → tableOk I t ≡ true → tableOk I (runActs I t acts) ≡ true
-unfolding runActs
-run-ok I t [] h = h
-run-ok I t (w ∷ acts) h = run-ok I (activate I w t) acts (activate-ok I w t h)
 
 pub every-series-goes-on : EverySeriesGoesOn
 unfolding tableChecks

@@ -3,9 +3,11 @@ use Prim.Native.Nat.{ℕ, zero, suc, _+_, _*_, _^_, _≤_, _<_}
 use native.Mathlib.Nat.{zero-add}
 use native.Mathlib.Omega.{arith}
 use mathlib.Core.Path.{_≡_, refl, _∙_, sym, ap, ap₂, subst}
-use mathlib.Core.Bool.{true}
+use mathlib.Core.Bool.{Bool, true, false}
 use mathlib.Core.List.{List, [], _∷_, _++_}
 use mathlib.Core.Logic.{_⊎_, ⊎-elim}
+use borrow.Author.Tests.{ltb-true, eqb-true}
+use lib.Dec.{ltb, eqb}
 use lib.ListN.{length, getD, drop, length-append, List·getD-append}
 use lib.Seq.{ext-getD}
 use Rattle.base.specs.Bytes.{bytesOf}
@@ -14,16 +16,16 @@ use Rattle.base.specs.Seek.{count}
 use Rattle.base.specs.Tab.{joined}
 use Rattle.base.proofs.Bytes.{length-bytes, little-cong, number-back}
 use Rattle.base.proofs.Joined.{length-joined, getD-joined}
-use Rattle.base.proofs.Numbers.{eq-or-ne, lt-or-le, not-both}
+use Rattle.base.proofs.Below.{all-at}
+use Rattle.base.proofs.Numbers.{eq-or-ne, lt-or-le, both-left, not-both}
 use Rattle.base.proofs.Tab.{length-tab, getD-tab}
 use Rattle.plan_contents.specs.Header.{routerCount}
 use Rattle.plan_rules.proofs.Passed.{passed}
 use Rattle.plan_rules.proofs.Refused.{when-refused, when-given}
 use Rattle.route_rules.specs.Instance.{Instance, Route, nothing, via}
-use Rattle.route_rules.specs.Activation.{held}
+use Rattle.route_rules.specs.Activation.{held, entryOk, tableOk}
 use Rattle.route_theorems.specs.Settled.{settledTable}
 use Rattle.route_theorems.specs.Claims.{IsTable, Steady, OneSteadyTable}
-use Rattle.route_theorems.proofs.Existence.{steady-holds}
 use Rattle.steady_rules.specs.Numbers.{bitAt, nthOf, Occurs, Rises}
 use Rattle.steady_rules.specs.Steady.{groupedIn, groupedRouters, bitOf, steadyNumbers, steadyCount, HoldsOwn, Names}
 use Rattle.steady_rules.proofs.Numbers.{count-lt, nth-is, nth-count}
@@ -31,7 +33,7 @@ use Rattle.steady_rules.proofs.Told.{own-best}
 use Rattle.steady_rules.proofs.SteadyTables.{steady-tables}
 use Rattle.net_rules.specs.FromPlan.{instanceOf}
 use Rattle.net_tables.specs.TableBytes.{readRoute, egressByte, senderByte, routeAt, tableOf, tableBytes, activateBytes}
-use Rattle.net_tables.proofs.TableBytes.{read-via, read-bytes, Written, written-below, choose-below, table-length, table-held, table-front, act-table}
+use Rattle.net_tables.proofs.TableBytes.{read-nothing, read-via, read-bytes, Written, table-length, table-held, table-front, act-table}
 use Rattle.net_verdict.specs.Assessed.{isStable, highestOf, settledBytes}
 use Rattle.call_rules.specs.RowsExactly.{egressAt, senderAt, TableFacts}
 use Rattle.call_rules.proofs.Granted.{SteadyAsked, steady-asked}
@@ -97,7 +99,7 @@ module _ (plan : List ℕ) (k : ℕ) (h : HasList plan k) where
   abbrev n : ℕ
   n = routerCount plan
 
-  small : n ≤ 64
+  pub small : n ≤ 64
   small = passed plan (h .planOk) .count .most
 
   -- tables in bytes that no act changes
@@ -105,10 +107,10 @@ module _ (plan : List ℕ) (k : ℕ) (h : HasList plan k) where
     abbrev t : List Route
     t = tableOf table n
 
-    is-table : IsTable I t
+    pub is-table : IsTable I t
     is-table = table-length table n
 
-    steady-of : NoActChanges plan k table → Steady I t
+    pub steady-of : NoActChanges plan k table → Steady I t
     unfolding activateTable
     steady-of u w l =
         let given : activateRefusal plan k w table ≡ 0
@@ -133,10 +135,10 @@ module _ (plan : List ℕ) (k : ℕ) (h : HasList plan k) where
       facts : TableFacts I table
       facts = table-tested I small table .shown (steady-tables I .legal t is-table steady)
 
-      unchanged-of : NoActChanges plan k table
+      pub unchanged-of : NoActChanges plan k table
       unchanged-of = record { long = long; rule = facts; unchanged = λ w l. activation-kept w }
 
-      stays : StaysAsItIs plan k table
+      pub stays : StaysAsItIs plan k table
       stays =
           record {
             activated = λ w l r after a. (
@@ -241,24 +243,42 @@ module _ (plan : List ℕ) (k : ℕ) (h : HasList plan k) where
           below = rw (← member-count) (a .below);
         }
 
-  -- a table that no act changes, laid into bytes
-  module _ (t : List Route) (isTable : IsTable I t) (steady : Steady I t) (rest : List ℕ) where
+  -- an entry of the rule is read as it is written
+  ok-written : (v : ℕ) → v < n → (x : Route) → entryOk I v x ≡ true → Written x
+  unfolding entryOk
+  ok-written v l nothing h = read-nothing
+  ok-written v l (via e s) h = read-via e s (λ q. go (I .listed v) refl q)
+    where
+      go : (b : Bool) → I .listed v ≡ b → e ≡ 255 → ⊥
+      go true p q = let m : e ≡ v = eqb-true e v (both-left (eqb e v) (eqb s v) (rw p at h)) in omega (arith, small)
+      go false p q = let m : e < n = ltb-true e n (both-left (ltb e n) (I .neighbour v s) (rw p at h)) in omega (arith, small)
+
+  -- a table of the rule, laid into bytes
+  module _ (t : List Route) (isTable : IsTable I t) (legal : tableOk I t ≡ true) (rest : List ℕ) where
     entry-written : (v : ℕ) → v < length t → Written (held t v)
+    unfolding tableOk
     entry-written v l =
         let m : v < n = omega (arith, isTable) in
-        subst Written (steady-holds I t isTable steady v m) (written-below n _ small (choose-below I v (held t) m))
+        ok-written v m (held t v) (all-at (λ u. entryOk I u (held t u)) n legal v m)
 
-    laid-table : tableOf (tableBytes t ++ rest) n ≡ t
+    pub laid-table : tableOf (tableBytes t ++ rest) n ≡ t
     laid-table = ap (tableOf (tableBytes t ++ rest)) (sym isTable) ∙ table-back t rest entry-written
 
-    laid-length : length (tableBytes t ++ rest) ≡ 2 * n + length rest
+    pub laid-length : length (tableBytes t ++ rest) ≡ 2 * n + length rest
     laid-length = length-append (tableBytes t) rest ∙ omega (arith, bytes-length t, isTable)
 
+  -- .. one that no act changes
+  module _ (t : List Route) (isTable : IsTable I t) (steady : Steady I t) (rest : List ℕ) where
+    obeys : tableOk I t ≡ true
+    obeys = steady-tables I .legal t isTable steady
+
     laid-unchanged : NoActChanges plan k (tableBytes t ++ rest)
-    laid-unchanged = unchanged-of (tableBytes t ++ rest) (omega (arith, laid-length)) (subst (Steady I) (sym laid-table) steady)
+    laid-unchanged =
+        unchanged-of (tableBytes t ++ rest) (omega (arith, laid-length t isTable obeys rest))
+        (subst (Steady I) (sym (laid-table t isTable obeys rest)) steady)
 
     laid-named : (x : ℕ) → Names I x t → NamedBy plan k (tableBytes t ++ rest) x
-    laid-named x a = named-of (tableBytes t ++ rest) x (subst (Names I x) (sym laid-table) a)
+    laid-named x a = named-of (tableBytes t ++ rest) x (subst (Names I x) (sym (laid-table t isTable obeys rest)) a)
 
 -- a call that is not refused
 module _ (plan : List ℕ) (k : ℕ) (r : SteadyAnswer) (out : Lent (List ℕ)) (call : SteadyCall plan k r out) (ok : refusalOf r ≡ 0) where
@@ -316,7 +336,7 @@ module _ (plan : List ℕ) (k : ℕ) (r : SteadyAnswer) (out : Lent (List ℕ)) 
       let s = steady-tables J .listed (numberIn (out .after) j) .0 (occurs j l) in
       record {
         table = tableBytes (s .table) ++ [];
-        size = laid-length plan k h (s .table) (s .isTable) (s .steady) [] ∙ omega arith;
+        size = laid-length plan k h (s .table) (s .isTable) (steady-tables J .legal (s .table) (s .isTable) (s .steady)) [] ∙ omega arith;
         unchanged = laid-unchanged plan k h (s .table) (s .isTable) (s .steady) [];
         named = laid-named plan k h (s .table) (s .isTable) (s .steady) [] _ (s .named);
       }

@@ -27,6 +27,8 @@ use Rattle.call_steady.specs.declared.steady.SteadyAnswer.{SteadyAnswer}
 use Rattle.call_steady.specs.Steady.{SteadyCall}
 use Rattle.call_hopset.specs.declared.hop_set.HopSetAnswer.{HopSetAnswer}
 use Rattle.call_hopset.specs.HopSet.{HopSetCall}
+use Rattle.call_grade.specs.declared.grade.GradeAnswer.{GradeAnswer}
+use Rattle.call_grade.specs.Grade.{GradeCall}
 use Rattle.call_figures.specs.declared.figures.FiguresAnswer.{FiguresAnswer}
 use Rattle.call_figures.specs.Figures.{FiguresCall}
 use Rattle.call_run.specs.declared.run.RunAnswer.{RunAnswer}
@@ -59,6 +61,7 @@ pub record SameCalls (plan result : List ℕ) : Type 0 where
       → SteadyCall result k r′ (left out after′) → (r′ ≡ r) × (after′ ≡ after)
   -- where to load the hop step
   pub hopSet : (k : ℕ) (r r′ : HopSetAnswer) → HopSetCall plan k r → HopSetCall result k r′ → r′ ≡ r
+  pub grade : (k : ℕ) (r r′ : GradeAnswer) → GradeCall plan k r → GradeCall result k r′ → r′ ≡ r
   -- .. and the figures over all lists, with the counts by rank and by router
   pub figures : (ranks routers : List ℕ) (r r′ : FiguresAnswer) (a b a′ b′ : List ℕ) → FiguresCall plan r (left ranks a) (left routers b)
       → FiguresCall result r′ (left ranks a′) (left routers b′) → (r′ ≡ r) × (a′ ≡ a) × (b′ ≡ b)

@@ -16,3 +16,5 @@ pub mod RefusedCalls
 pub mod HopSets
 pub mod HopSetsExamples
 pub mod Figures
+pub mod Grades
+pub mod GradesExamples

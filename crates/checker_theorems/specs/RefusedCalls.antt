@@ -11,7 +11,7 @@ use denote.Ref.{RefT, ptr, now}
 use Rattle.base.specs.Bytes.{bytesOn}
 use Rattle.base.specs.Lent.{Lent}
 use Rattle.plan_rules.specs.Refusal.{planRefusal}
-use Rattle.call_rules.specs.Refusals.{egressListRefusal, compareRefusal, reliesRefusal, verdictRefusal, steadyRefusal, hopSetRefusal, activateRefusal, runRefusal, figuresRefusal}
+use Rattle.call_rules.specs.Refusals.{egressListRefusal, compareRefusal, reliesRefusal, verdictRefusal, steadyRefusal, hopSetRefusal, gradeRefusal, activateRefusal, runRefusal, figuresRefusal}
 use Rattle.call_compare.specs.declared.compare.CompareAnswer.{CompareAnswer}
 use Rattle.call_compare.specs.declared.compare.CompareAnswer.the-variants.{Refused}
 use Rattle.call_query.specs.declared.relies.ReliesAnswer.{ReliesAnswer}
@@ -23,6 +23,8 @@ use Rattle.call_steady.specs.declared.steady.SteadyAnswer.{SteadyAnswer}
 use Rattle.call_steady.specs.declared.steady.SteadyAnswer.the-variants as steadies
 use Rattle.call_hopset.specs.declared.hop_set.HopSetAnswer.{HopSetAnswer}
 use Rattle.call_hopset.specs.declared.hop_set.HopSetAnswer.the-variants as sets
+use Rattle.call_grade.specs.declared.grade.GradeAnswer.{GradeAnswer}
+use Rattle.call_grade.specs.declared.grade.GradeAnswer.the-variants as gradings
 use Rattle.call_run.specs.declared.run.RunAnswer.{RunAnswer}
 use Rattle.call_query.specs.EgressList.{ListPartOf}
 use Rattle.call_query.specs.Size.{Sizes}
@@ -30,6 +32,7 @@ use Rattle.call_query.specs.Relies.{reliesFlag, Relied}
 use Rattle.call_verdict.specs.Verdict.{verdictIsStable, verdictSize, VerdictCall}
 use Rattle.call_steady.specs.Steady.{countOf, SteadyCall}
 use Rattle.call_hopset.specs.HopSet.{setNamed, HopSetCall}
+use Rattle.call_grade.specs.Grade.{gradeOf, roundsOf, GradeCall}
 use Rattle.call_compare.specs.Compare.{compareBetter, compareHasMargin, compareMargin, Compares}
 use Rattle.route_explain_rules.specs.declared.explanation.Explanation.{Explanation}
 use Rattle.route_explain_rules.specs.declared.explanation.Explanation.the-variants as explanations
@@ -70,6 +73,8 @@ pub record RefusedCalls : Type 0 where
       → (r ≡ steadies.Refused (steadyRefusal plan k (out .before))) × (countOf r ≡ 0) × (out .after ≡ out .before)
   pub hopSet : (plan : List ℕ) (k : ℕ) (r : HopSetAnswer) → HopSetCall plan k r → (hopSetRefusal plan k ≡ 0 → ⊥)
       → (r ≡ sets.Refused (hopSetRefusal plan k)) × (setNamed r ≡ 0)
+  pub grade : (plan : List ℕ) (k : ℕ) (r : GradeAnswer) → GradeCall plan k r → (gradeRefusal plan k ≡ 0 → ⊥)
+      → (r ≡ gradings.Refused (gradeRefusal plan k)) × (gradeOf r ≡ 0) × (roundsOf r ≡ 0)
   -- both lent buffers too
   pub figures : (plan : List ℕ) (r : FiguresAnswer) (ranks routers : Lent (List ℕ)) → FiguresCall plan r ranks routers
       → (figuresRefusal plan (ranks .before) (routers .before) ≡ 0 → ⊥)

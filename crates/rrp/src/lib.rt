@@ -7,7 +7,7 @@ ghost use Rattle.plan_rules.specs.Refusal.{planRefusal};
 ghost use Rattle.call_run.specs.Activate.{Activates};
 ghost use Rattle.links_rules.specs.Distances.{DistancesCall};
 ghost use Rattle.c_rules.specs.Exports.{SizeExport, ListExport, CompareExport, ReliesExport, ExplainExport};
-ghost use Rattle.c_rules.specs.Exports.{VerdictExport, SteadyExport, HopSetExport, RunExport, WidenExport, NarrowExport, FiguresExport};
+ghost use Rattle.c_rules.specs.Exports.{VerdictExport, SteadyExport, HopSetExport, GradeExport, RunExport, WidenExport, NarrowExport, FiguresExport};
 
 #[no_mangle]
 pub extern "C" fn rrp_check(plan: &[u8]) -> u8
@@ -130,6 +130,13 @@ pub extern "C" fn rrp_hop_set(plan: &[u8], list: usize, set: &mut u64) -> u8
     ensures { λ r. ⌜ HopSetExport (now (plan .entry)) list r (lent set) ⌝ }
 {
     c_query::hop_set(plan, list, set)
+}
+
+#[no_mangle]
+pub extern "C" fn rrp_grade(plan: &[u8], list: usize, grade: &mut u8, rounds: &mut u64) -> u8
+    ensures { λ r. ⌜ GradeExport (now (plan .entry)) list r (lent grade) (lent rounds) ⌝ }
+{
+    c_grade::grade(plan, list, grade, rounds)
 }
 
 #[no_mangle]

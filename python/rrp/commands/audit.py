@@ -12,6 +12,7 @@ from ..filing import SUFFIX
 from ..output import write_json
 from ..plan_folders import NAMES, no_plan
 from ..progress import with_progress
+from ..rest import grade_values, grade_words
 from ..verdict_files import digest_of, lines_of
 
 
@@ -46,25 +47,31 @@ def run(options: Namespace) -> int:
     else:
         for finding in told:
             print(f"{finding.kind}: {finding.path}: " + "\n    ".join(finding.details))
-        print(_summary(_counts(found.count(), findings)))
+        print(_summary(_counts(found.count(), findings), _grades(findings)))
     unreadable = any(finding.kind == UNREADABLE for finding in told)
     return 2 if unreadable else 1 if told else 0
 
 
 def _counts(plans: int, findings: list[Finding]) -> dict[str, int]:
     """How many plans there are, how many findings of each kind, how many lists are stable and how
-    many suspect, and how many plans are refused."""
+    many suspect, of which grades, and how many plans are refused."""
     kinds = Counter(finding.kind for finding in findings)
     return {
         "plans": plans,
         **{kind: kinds[kind] for kind in KINDS},
         "stable_lists": sum(finding.stable for finding in findings),
         "suspect_lists": sum(finding.suspect for finding in findings),
+        **grade_values(_grades(findings)),
         "refused_plans": sum(finding.refused for finding in findings),
     }
 
 
-def _summary(counts: dict[str, int]) -> str:
+def _grades(findings: list[Finding]) -> Counter[int | None]:
+    """How many suspect lists have which grade."""
+    return Counter(grade for finding in findings for grade in finding.grades)
+
+
+def _summary(counts: dict[str, int], grades: Counter[int | None]) -> str:
     """A line that counts what was found: in any case what is right and what is false, and the lists
     that are stable and suspect."""
     words = {
@@ -79,6 +86,7 @@ def _summary(counts: dict[str, int]) -> str:
     said = [kind for kind in words if counts[kind] or kind in (RIGHT, FALSE)]
     parts = ", ".join(f"{counts[kind]:,} {words[kind]}" for kind in said)
     lists = f"{counts['stable_lists']:,} stable, {counts['suspect_lists']:,} suspect"
+    lists += f" ({grade_words(grades)})" if grades else ""
     refused = counts["refused_plans"]
     last = f"; {refused:,} {'plan is' if refused == 1 else 'plans are'} refused" if refused else ""
     plans = "1 plan" if counts["plans"] == 1 else f"{counts['plans']:,} plans"

@@ -9,11 +9,12 @@ from argparse import ArgumentParser, Namespace
 from ..columns import row_lines
 from ..effects import effect_on
 from ..encoding import NARROW, WIDE, longest
-from ..inputs import PLAN_HELP, add_set, need_one_plan
+from ..errors import RrpError
+from ..inputs import PLAN_HELP, add_accept, add_set, need_one_plan
 from ..output import plan_line, plan_values, rest_lines, verdict_lines
 from ..output import write_json, write_lists, write_notes
 from ..plan import Plan, Verdict
-from ..rest import NO_PROMISE, Rest, any_table, rest_of
+from ..rest import Rest, pass_all, promise_lines, rest_of
 
 STRICT_HELP = "end with 1 also where a list is stable but leaves a router without a route"
 
@@ -27,37 +28,44 @@ def arguments(parser: ArgumentParser) -> None:
     parser.add_argument("plans", metavar="PLAN", nargs="+", help=what)
     add_set(parser, "judge a change of the plan, if it is one, beside what was")
     parser.add_argument("--strict", action="store_true", help=STRICT_HELP)
+    add_accept(parser)
     parser.epilog = (
         "Routers that a stable list leaves without a route are named. Where nobody is in a list, "
         "as where a prefix is gone everywhere, it is told within how many rounds all routes are "
         "flushed; with --strict that ends with 1 too. With --set, routers that settle on another "
         "route are named; as before says that every rank and route is the same, and same cycle "
-        "that a list is suspect with the cycle that it had, its routes not compared. "
-        "Of a suspect list it is told in how many tables it may rest, which is no promise that its "
-        "routers get there; rrp steady PLAN LIST shows them. Several plans have a line each, with "
-        "the names of the suspect lists and of those that leave routers without a route. In a "
-        "directory and all below it, plans are the files that rrp audit takes for plans. "
+        "that a list is suspect with the cycle that it had, its routes not compared. Of a suspect "
+        "list it is told by its grade whether it comes to rest, and in how many tables it may, "
+        "which alone is no promise that its routers get there; rrp steady PLAN LIST shows them. "
+        "Several plans have a line each, with the names of the suspect lists and of those that "
+        "leave routers without a route. In a directory and all below it, plans are the files that "
+        "rrp audit takes for plans. "
         "Exit status: 0 all lists are stable, after the changes if any; 1 some list is suspect, "
-        "or with --strict some router ends without a route; 2 error, also where one of several "
-        "plans is not judged."
+        "with --accept one that is not known to come to rest whatever the order; or with --strict "
+        "some router ends without a route; 2 error, also where one of several plans is not "
+        "judged."
     )
 
 
 def run(options: Namespace) -> int:
-    """Judges every list. Returns 0 if all are stable, after the changes if any, else 1. If strict,
-    it also returns 1 where a router ends without a route."""
+    """Judges every list. Returns 0 if all are stable, after the changes if any, or come to rest if
+    that is accepted, else 1. If strict, it also returns 1 where a router ends without a route."""
+    if options.strict and options.accept:
+        known = "which is known of stable lists alone: leave out --accept"
+        raise RrpError(f"--strict asks whether every router ends with a route, {known}")
     if len(options.plans) > 1 or os.path.isdir(options.plans[0]):
         return _run_several(options)
-    verdicts = _run_changed(options) if options.set else _run_plain(options)
-    stable = all(verdict.stable for verdict in verdicts)
-    lacking = options.strict and any(verdict.without_route for verdict in verdicts)
-    return 0 if stable and not lacking else 1
+    found = _run_changed(options) if options.set else _run_plain(options)
+    passed = pass_all((rest for _, rest in found), bool(options.accept))
+    lacking = options.strict and any(verdict.without_route for verdict, _ in found)
+    return 0 if passed and not lacking else 1
 
 
 def _run_several(options: Namespace) -> int:
     """Judges several plans, a line each. Returns 2 where one is not judged."""
     from ..judging import Judged, judged, judged_rows, judged_sums, judged_words
     from ..plan_folders import Failed
+    from ..rest import standing_lines
     from ..several import of_all
 
     need_one_plan(options)
@@ -69,15 +77,18 @@ def _run_several(options: Namespace) -> int:
         values = {"judged": [each.values() for each in plans], **judged_sums(found)}
         write_json({**values, "errors": errors})
     else:
-        for line in [*row_lines(judged_rows(found)), judged_words(found)]:
+        grades = [grade for each in plans for grade in each.grades]
+        rows = row_lines(judged_rows(found))
+        for line in [*rows, *standing_lines(grades), judged_words(found)]:
             print(line)
         if any(not os.path.exists(each.path) for each in failures):
             print("check judges all lists of a plan: rrp show PLAN LIST explains one")
-    suspect = any(each.suspect or options.strict and each.lacking for each in plans)
+    lacking = options.strict and any(each.lacking for each in plans)
+    suspect = lacking or any(not each.passes(bool(options.accept)) for each in plans)
     return 2 if failures else 1 if suspect else 0
 
 
-def _run_plain(options: Namespace) -> tuple[Verdict, ...]:
+def _run_plain(options: Namespace) -> list[tuple[Verdict, Rest | None]]:
     (path,) = options.plans
     plan = Plan.read(path)
     verdicts = plan.verdicts()
@@ -90,10 +101,10 @@ def _run_plain(options: Namespace) -> tuple[Verdict, ...]:
         rows = [row for each in verdicts for row in _rows(each, rests[each.name])]
         for line in [*row_lines(rows), *rest_lines(path, rests)]:
             print(line)
-    return verdicts
+    return [(verdict, rests[verdict.name]) for verdict in verdicts]
 
 
-def _run_changed(options: Namespace) -> tuple[Verdict, ...]:
+def _run_changed(options: Namespace) -> list[tuple[Verdict, Rest | None]]:
     from ..text.changes import other_roles
 
     plan = Plan.read(*options.plans)
@@ -115,9 +126,9 @@ def _run_changed(options: Namespace) -> tuple[Verdict, ...]:
             print(line)
         for line in row_lines([row for each in effects for row in each.rows()]):
             print(line)
-        if any_table(each.rest for each in effects):
-            print(NO_PROMISE)
-    return tuple(each.after for each in effects)
+        for line in promise_lines(each.rest for each in effects):
+            print(line)
+    return [(each.after, each.rest) for each in effects]
 
 
 def _rows(verdict: Verdict, rest: Rest | None) -> list[tuple[str, ...]]:

@@ -11,7 +11,7 @@ from ..inputs import PLAN_HELP, add_set
 from ..output import count_words, plan_line, plan_values, write_json, write_notes
 from ..plan import Plan
 from ..plan_differences import Differences, differences_of, differs
-from ..rest import NO_PROMISE, any_table
+from ..rest import promise_lines
 
 
 def arguments(parser: ArgumentParser) -> None:
@@ -23,9 +23,9 @@ def arguments(parser: ArgumentParser) -> None:
         "Told are lists and routers that one plan alone has, and of each list that both have what "
         "differs, from A to B: its routers, its verdict, and the routers whose rank, egress or "
         "sender differ. Routers and lists are the same where their names are. Of a list that is "
-        "suspect in A or in B, no routes are compared: told is whether the cycle, the groups and "
-        "the tables to rest in are the same. Where nothing differs, it is told what the plans "
-        "themselves state otherwise, as distances that move no route. "
+        "suspect in A or in B, no routes are compared: told is its grade, and whether the cycle, "
+        "the groups and the tables to rest in are the same. Where nothing differs, it is told "
+        "what the plans themselves state otherwise, as distances that move no route. "
         "Exit status: 0 nothing differs, be lists stable or suspect; 1 something does; 2 error."
     )
 
@@ -69,8 +69,7 @@ def _lines(before: Plan, after: Plan, found: Differences) -> Iterator[str]:
     other = [each for each in found.effects if differs(each)]
     if other:
         yield from row_lines([row for each in other for row in each.rows()])
-    if any_table(each.rest for each in other):
-        yield NO_PROMISE
+    yield from promise_lines(each.rest for each in other)
     same = [each for each in found.effects if not differs(each)]
     stable = [each.after.name for each in same if each.after.stable]
     suspect = [each.after.name for each in same if not each.after.stable]
@@ -78,8 +77,9 @@ def _lines(before: Plan, after: Plan, found: Differences) -> Iterator[str]:
         whose = " of routers that both have" if found.routers_before + found.routers_after else ""
         yield from wrapped(f"{_same(stable)} as before, every rank and route{whose}: ", stable)
     if suspect:
-        words = "suspect as before, cycle, groups and tables to rest in; routes are not compared: "
-        yield from wrapped(f"{_same(suspect)} {words}", suspect)
+        words = "suspect as before, cycle, groups, grade and tables to rest in"
+        graded = [f"{each.after.name} ({each.rest.brief})" for each in same if each.rest]
+        yield from wrapped(f"{_same(suspect)} {words}; routes are not compared: ", graded)
     if not found.differ:
         yield f"nothing that is compared differs; {_parts_words(found.parts)}"
 

@@ -11,8 +11,9 @@ from shlex import join
 from ..errors import RrpError
 from ..figure_tables import figure_lines, many
 from ..figures import Counted, Sums, counted, sums_of
-from ..inputs import PLAN_HELP, add_set, need_one_plan, read_plan
+from ..inputs import PLAN_HELP, add_accept, add_set, need_one_plan, read_plan
 from ..output import plan_line, set_words, with_lines, write_json, write_notes
+from ..plan import ALWAYS_RESTS
 from ..plan_folders import NAMES, Failed
 from ..several import of_all
 
@@ -31,25 +32,28 @@ def arguments(parser: ArgumentParser) -> None:
     what = f"{PLAN_HELP}; or a directory that has plans"
     parser.add_argument("plans", metavar="PLAN", nargs="+", help=what)
     parser.add_argument("--csv", action="store_true", help="write CSV, for a spreadsheet")
+    add_accept(parser)
     add_set(parser, "count the plan, if it is one, with a change")
     parser.epilog = (
-        "Counted are the stable and the suspect lists, the highest rank among the stable ones, how "
-        "many stable lists have each rank as their highest, and for each router in how many lists "
-        "it is in a group of two or more, which suspect lists alone have. Routers that are so most "
-        "often come first. The figures of several plans are summed, and routers of the same name "
-        "and identifier are taken for one. Of a directory and all below it, a plan is a file whose "
-        f"name ends in {NAMES}, or that has a verdict beside it. A file that is named twice is "
-        "counted once. What is refused, has errors or cannot be read is named, and not counted. In "
-        "CSV each line has a figure, what it is of, and its value. Where no list is stable, the "
-        "highest rank is empty in CSV and null in JSON. "
-        "Exit status: 0 all lists are stable; 1 some list is suspect; 2 something is not counted, "
-        "be the lists that are counted stable or suspect, or another error."
+        "Counted are the stable and the suspect lists, the grades of these, the highest rank "
+        "among the stable ones, how many stable lists have each rank as their highest, and for "
+        "each router in how many lists it is in a group of two or more, which suspect lists alone "
+        "have. Routers that are so most often come first. The figures of several plans are "
+        "summed, and routers of the same name and identifier are taken for one. Of a directory "
+        f"and all below it, a plan is a file whose name ends in {NAMES}, or that has a verdict "
+        "beside it. A file that is named twice is counted once. What is refused, has errors or "
+        "cannot be read is named, and not counted. In CSV each line has a figure, what it is of, "
+        "and its value. Where no list is stable, the highest rank is empty in CSV and null in "
+        "JSON. "
+        "Exit status: 0 all lists are stable; 1 some list is suspect, with --accept one that is "
+        "not known to come to rest whatever the order; 2 something is not counted, be the lists "
+        "that are counted stable or suspect, or another error."
     )
 
 
 def run(options: Namespace) -> int:
-    """Writes the figures. Returns 0 if all lists are stable, 1 if some list is suspect, 2 if
-    something is not counted."""
+    """Writes the figures. Returns 0 if all lists are stable, or come to rest if that is accepted, 1
+    if some list is suspect, 2 if something is not counted."""
     if options.json and options.csv:
         raise RrpError("--json and --csv are two forms of one answer: ask for one of them")
     if len(options.plans) == 1 and not os.path.isdir(options.plans[0]):
@@ -64,7 +68,7 @@ def run(options: Namespace) -> int:
         _write_csv(sums, failures)
     else:
         _print_sums(sums, failures)
-    return 2 if failures else _status(sums)
+    return 2 if failures else _status(sums, options)
 
 
 def _run_plan(options: Namespace) -> int:
@@ -75,22 +79,23 @@ def _run_plan(options: Namespace) -> int:
     if options.json:
         changes = {"set": plan.changes} if plan.changes else {}
         write_json({**changes, **_values(sums, [], plan.notes)})
-        return _status(sums)
+        return _status(sums, options)
     write_notes(plan.notes)
     if options.csv:
         write_notes(with_lines(plan))
         _write_csv(sums, [])
-        return _status(sums)
+        return _status(sums, options)
     for line in [plan_line(plan), *figure_lines(sums, by_plan=False)]:
         print(line)
     if sums.suspect:
         command = join(["rrp", "check", path, *set_words(plan.changes)])
         print(f"to see the verdict for each list: {command}")
-    return _status(sums)
+    return _status(sums, options)
 
 
-def _status(sums: Sums) -> int:
-    return 1 if sums.suspect else 0
+def _status(sums: Sums, options: Namespace) -> int:
+    passed = sums.by_grade.get(ALWAYS_RESTS, 0) if options.accept else 0
+    return 1 if sums.suspect > passed else 0
 
 
 def _failure_lines(failures: Iterable[Failed]) -> list[str]:

@@ -9,10 +9,11 @@ from ..columns import left, widest
 from ..delays import Delays
 from ..errors import RrpError
 from ..inputs import add_plan, add_set, read_plan
+from ..library import REFUSALS, TOO_MANY_GROUPED
 from ..orders import order_words, read_order
 from ..output import NOBODY_LISTED, count_words, routers_do, source_values, with_lines
 from ..output import write_json, write_notes
-from ..plan import Plan, Verdict
+from ..plan import ALWAYS_RESTS, CAN_REST, CANNOT_REST, Plan, Verdict
 from ..rest import Rest, rest_of
 from ..steady import number_of
 from ..table_files import NOTHING, Read, read_table, route_values, route_words, table_values
@@ -37,7 +38,7 @@ A run ends when no activation changes the table; when table and place in the ord
 before, so that it goes round forever under this order; or after N rounds. A round ends as soon as
 every router has been activated since the last one ended. An order that leaves routers out ends no
 round, and is gone through N times. A table that no activation changes is named by its number, by
-which rrp steady PLAN LIST shows it.
+which rrp steady PLAN LIST shows it. Last is what the grade of a suspect list promises.
 
 With --delayed, updates take time: an activation reads each neighbour as it stood at a moment of its
 own, which the seed draws, no earlier than the start of the round before and no later than the
@@ -72,7 +73,7 @@ def arguments(parser: ArgumentParser) -> None:
         "--rounds",
         metavar="N",
         type=_number,
-        help=f"the most rounds (stable: as many as promised, suspect: {SUSPECT_ROUNDS})",
+        help=f"the most rounds (as many as promised, of a suspect list {SUSPECT_ROUNDS} at least)",
     )
     add_set(parser)
     parser.formatter_class, parser.epilog = RawDescriptionHelpFormatter, _EPILOG
@@ -115,10 +116,17 @@ def _tracing(plan: Plan, verdict: Verdict, table: Table, options: Namespace) -> 
     order = _order(plan, options)
     late = options.delayed is not None
     promised = verdict.delayed_rounds if late else verdict.rounds
-    limit = options.rounds if options.rounds is not None else promised or SUSPECT_ROUNDS
+    limit = options.rounds if options.rounds is not None else promised or _most(plan, verdict)
     if late:
         return Delays(plan, verdict, order, table, limit, Random(options.delayed))
     return Tracing(plan, verdict, order, table, limit)
+
+
+def _most(plan: Plan, verdict: Verdict) -> int:
+    """The most rounds of a suspect list: at least those within which it is promised to rest."""
+    rest = rest_of(plan, verdict)
+    promised = rest.grade.rounds if rest is not None and rest.grade is not None else None
+    return max(SUSPECT_ROUNDS, promised or 0)
 
 
 def _order(plan: Plan, options: Namespace) -> Order:
@@ -182,14 +190,38 @@ def _outcome_lines(tracing: Tracing) -> list[str]:
     made = f"after {acts} ({count_words(tracing.rounds, 'round')} ended)"
     outcomes = _DELAYED_OUTCOMES if isinstance(tracing, Delays) else _OUTCOMES
     lines = outcomes[tracing.outcome.kind](tracing, made)
-    return [*lines, *_never_lines(tracing), *_lacking_lines(tracing)]
+    return [*lines, *_lacking_lines(tracing), *_grade_lines(tracing)]
 
 
-def _never_lines(tracing: Tracing) -> list[str]:
-    """That a suspect list never comes to rest, where it has no table to rest in."""
-    if not _never_rests(tracing):
+def _grade_lines(tracing: Tracing) -> list[str]:
+    """What the grade of a suspect list promises, whatever this run did."""
+    rest = rest_of(tracing.plan, tracing.verdict)
+    if rest is None:
         return []
-    return ["No order brings the list to rest: every table has an activation that changes it."]
+    if rest.number == ALWAYS_RESTS:
+        return [f"{_always_words(rest)}{_late_words(tracing)}."]
+    if rest.number == CAN_REST:
+        every = "that every order does is not promised"
+        return [f"Grade 2: from every table some order brings the list to rest; {every}."]
+    if rest.number == CANNOT_REST:
+        return ["Grade 3: from some tables no order brings the list to rest, from others some do."]
+    if rest.grade is None:
+        return [f"Not graded: {REFUSALS[TOO_MANY_GROUPED]} ({rest.grouped} do)."]
+    changes = "every table has an activation that changes it"
+    return [f"Grade 4: no order brings the list to rest: {changes}."]
+
+
+def _always_words(rest: Rest) -> str:
+    within = f"within {rest.grade.rounds} rounds"
+    words = f"Grade 1: from any table and whatever the order the list comes to rest {within}"
+    return f"{words}, in which table is not promised" if len(rest.numbers) > 1 else words
+
+
+def _late_words(tracing: Tracing) -> str:
+    """What is promised where neighbours are read late."""
+    if not isinstance(tracing, Delays):
+        return ""
+    return "; that is promised where neighbours are read as they stand, and not read late"
 
 
 def _never_rests(tracing: Tracing) -> bool:
@@ -254,10 +286,17 @@ def _other_orders(tracing: Tracing, number: int | None) -> str:
         return "the run starts in this table, which no order changes"
     rest = rest_of(tracing.plan, tracing.verdict)
     if rest.numbers == (number,):
-        return "it has no other table to rest in; that every order comes to it is not promised"
+        sure = _unless_sure(tracing, rest, "that every order comes to it")
+        return f"it has no other table to rest in{sure}"
     moments = ", or read at other moments," if isinstance(tracing, Delays) else ""
     may = f"in another order{moments} its routers may rest {_elsewhere(rest, number)}"
-    return f"{may}; that they come to rest at all is not promised"
+    return f"{may}{_unless_sure(tracing, rest, 'that they come to rest at all')}"
+
+
+def _unless_sure(tracing: Tracing, rest: Rest, what: str) -> str:
+    """That something is not promised, unless it is."""
+    sure = rest.number == ALWAYS_RESTS and not isinstance(tracing, Delays)
+    return "" if sure else f"; {what} is not promised"
 
 
 def _elsewhere(rest: Rest, number: int | None) -> str:
@@ -358,6 +397,7 @@ def _write_values(tracing: Tracing, options: Namespace, notes: list[str]) -> Non
             "routers": tracing.verdict.egresses,
             "stable": tracing.verdict.stable,
             "rounds": tracing.verdict.rounds,
+            **_grade_values(tracing),
             "order": tracing.order.routers if seed is None else None,
             "seed": seed,
             "delayed": options.delayed,
@@ -375,6 +415,13 @@ def _write_values(tracing: Tracing, options: Namespace, notes: list[str]) -> Non
             "notes": notes,
         }
     )
+
+
+def _grade_values(tracing: Tracing) -> dict[str, object]:
+    """The grade of a suspect list, and within how many rounds it comes to rest."""
+    rest = rest_of(tracing.plan, tracing.verdict)
+    values = {} if rest is None else rest.values()
+    return {name: values.get(name) for name in ("grade", "rest_rounds")}
 
 
 def _step_values(step: Step) -> dict[str, object]:

@@ -4,19 +4,20 @@ what would end that. Without a list it names the lists of the plan."""
 from __future__ import annotations
 
 from argparse import ArgumentParser, Namespace
+from collections.abc import Iterable
 from textwrap import wrap
 
 from ..accounts import Account, account
 from ..columns import left, right, widest
 from ..hop_sets import not_worked_out, set_if_few, tried_lines, tried_values
-from ..inputs import add_plan, add_set, read_plan
+from ..inputs import add_accept, add_plan, add_set, read_plan
 from ..output import list_command, plan_line, rest_lines
 from ..output import source_values, verdict_lines, verdict_values, verdict_words
 from ..output import without_route_lines, write_json, write_lists, write_notes, write_start
 from ..plan import Plan, Verdict
 from ..remedies import Remedy, smallest_remedy
 from ..repairs import Repairs, find_repairs
-from ..rest import Rest, rest_of
+from ..rest import Rest, pass_all, rest_of
 from ..senders import heard_again, sender_note
 from ..table_files import NOTHING, table_values
 
@@ -37,24 +38,27 @@ def arguments(parser: ArgumentParser) -> None:
     add_plan(parser)
     which = "a list, by name or number; without it all are named"
     parser.add_argument("list", metavar="LIST", nargs="?", help=which)
+    add_accept(parser)
     add_set(parser)
     parser.epilog = (
-        "Routers that a stable list leaves without a route are named. Of a suspect list it is told "
-        "in how many tables it may rest, which is no promise that its routers get there; rrp "
-        "steady PLAN LIST shows them. What is shown was tried. The change at a reliance is the "
-        "smallest of one distance that ends it and that a plan of the same mark holds: up to "
-        "65,534 in RRP1, 4,294,967,294 in RRP2. Below are changes that make the list stable, "
-        "judged for all lists: of one weight where the plan has links, else of one distance, and "
-        "of two where none serves without making another list suspect. It is told how many were "
-        "tried, and at most 20,000 of one and of two are. The last lines have a smallest set of "
-        "reflectors that makes the list stable once the hop step is loaded on them, tried too; rrp "
-        "hop-set PLAN LIST says more. Exit "
-        "status: 0 the list is stable, or all are where none is given; 1 suspect; 2 error."
+        "Routers that a stable list leaves without a route are named. Of a suspect list it is "
+        "told by its grade whether it comes to rest, and in how many tables it may, which alone "
+        "is no promise that its routers get there; rrp steady PLAN LIST shows them. What is shown "
+        "was tried. The change at a reliance is the smallest of one distance that ends it and "
+        "that a plan of the same mark holds: up to 65,534 in RRP1, 4,294,967,294 in RRP2. Below "
+        "are changes that make the list stable, judged for all lists: of one weight where the "
+        "plan has links, else of one distance, and of two where none serves without making "
+        "another list suspect. It is told how many were tried, and at most 20,000 of one and of "
+        "two are. The last lines have a smallest set of reflectors that makes the list stable "
+        "once the hop step is loaded on them, tried too; rrp hop-set PLAN LIST says more. "
+        "Exit status: 0 the list is stable, or all are where none is given; 1 suspect, with "
+        "--accept not known to come to rest whatever the order; 2 error."
     )
 
 
 def run(options: Namespace) -> int:
-    """Explains the verdict for a list. Returns 0 if it is stable, or all are, else 1."""
+    """Explains the verdict for a list. Returns 0 if it is stable, or all are, or comes to rest if
+    that is accepted, else 1."""
     plan = read_plan(options)
     if options.list is None:
         return _show_lists(plan, options)
@@ -62,11 +66,16 @@ def run(options: Namespace) -> int:
     if not options.json:
         write_start(plan)
         print(f"{verdict.name} is {verdict_words(verdict)}")
-    if verdict.stable:
+    rest = rest_of(plan, verdict)
+    if rest is None:
         _show_stable(plan, verdict, options)
     else:
-        _show_suspect(plan, verdict, find_repairs(plan, verdict), options)
-    return 0 if verdict.stable else 1
+        _show_suspect(plan, verdict, rest, find_repairs(plan, verdict), options)
+    return _status([rest], options)
+
+
+def _status(rests: Iterable[Rest | None], options: Namespace) -> int:
+    return 0 if pass_all(rests, bool(options.accept)) else 1
 
 
 def _show_lists(plan: Plan, options: Namespace) -> int:
@@ -89,7 +98,7 @@ def _show_lists(plan: Plan, options: Namespace) -> int:
         print(f"to explain one: {list_command('show', options.plan, plan.lists[0], plan.changes)}")
         for line in rest_lines(options.plan, rests, plan.changes):
             print(line)
-    return 0 if all(each.stable for each in verdicts) else 1
+    return _status(rests.values(), options)
 
 
 def _router_lines(verdict: Verdict, rest: Rest | None) -> list[str]:
@@ -122,7 +131,9 @@ def _show_stable(plan: Plan, verdict: Verdict, options: Namespace) -> None:
         print(line)
 
 
-def _show_suspect(plan: Plan, verdict: Verdict, repairs: Repairs, options: Namespace) -> None:
+def _show_suspect(
+    plan: Plan, verdict: Verdict, rest: Rest, repairs: Repairs, options: Namespace
+) -> None:
     """The groups, where the list may rest, each reliance of the cycle with the smallest change that
     ends it, and the changes that make the list stable."""
     pairs = zip(verdict.cycle, [*verdict.cycle[1:], verdict.cycle[0]])
@@ -130,7 +141,6 @@ def _show_suspect(plan: Plan, verdict: Verdict, repairs: Repairs, options: Names
         (account(plan, verdict.name, *pair), smallest_remedy(plan, verdict.name, *pair))
         for pair in pairs
     ]
-    rest = rest_of(plan, verdict)
     if options.json:
         reliances = [
             {**one.values(), "change": None if remedy is None else remedy.values()}

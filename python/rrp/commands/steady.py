@@ -9,7 +9,7 @@ from ..columns import COLUMNS, left, widest, wrapped
 from ..inputs import add_plan, add_set, read_plan
 from ..output import source_values, verdict_lines, verdict_values, write_json, write_start
 from ..plan import Plan, Verdict
-from ..rest import NO_PROMISE, rest_of
+from ..rest import promise_lines, rest_of
 from ..steady import Steady, SteadyTable
 from ..table_files import route_words, table_values
 
@@ -26,8 +26,9 @@ def arguments(parser: ArgumentParser) -> None:
         "Every table that no activation changes is given, by its number: a bit for each router in "
         "a group of two or more, lowest first, set if it holds its best client's own route. Of "
         "several tables the routers are shown that differ, and the others below. A suspect list "
-        "that rests does so in one of them; that it rests is not promised. A list with more than "
-        "12 routers in such groups is refused with 15. "
+        "that rests does so in one of them; its grade says how far that is promised, and never in "
+        "which one of several. A list with more than 12 routers in such groups is refused with "
+        "15. "
         "Exit status: 0 the list is stable, 1 suspect, 2 error."
     )
 
@@ -49,7 +50,7 @@ def _values(plan: Plan, verdict: Verdict, found: Steady) -> dict[str, object]:
         **source_values(plan),
         "list": verdict.name,
         "routers": verdict.egresses,
-        **verdict_values(verdict),
+        **verdict_values(verdict, rest_of(plan, verdict)),
         "steady_numbers": found.numbers,
         "count": len(found.tables),
         "grouped": found.grouped,
@@ -63,12 +64,13 @@ def _values(plan: Plan, verdict: Verdict, found: Steady) -> dict[str, object]:
 
 
 def _print_tables(plan: Plan, verdict: Verdict, found: Steady) -> None:
-    first, *more = verdict_lines(verdict, rest_of(plan, verdict))
+    rest = rest_of(plan, verdict)
+    first, *more = verdict_lines(verdict, rest)
     print("\n".join([f"{verdict.name} is {first}", *more]))
     if verdict.stable:
         print("rests in the table that it settles on, and in no other")
-    elif found.tables:
-        print(NO_PROMISE)
+    for line in promise_lines([rest]):
+        print(line)
     several = len(found.tables) > 1
     routers = found.differing if several else plan.routers
     for block in _blocks(found.tables, routers):

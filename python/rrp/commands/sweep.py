@@ -10,11 +10,12 @@ from typing import NamedTuple
 from ..columns import right, row_lines, widest
 from ..errors import RrpError
 from ..failures import KINDS, LINK, ROUTER, Failure, failures_of, statements_of
-from ..inputs import add_plan, add_set, read_plan
+from ..inputs import add_accept, add_plan, add_set, read_plan
 from ..output import count_words, cycle_words, list_values, plan_line, plan_values, set_command
 from ..output import verdict_lines, write_json, write_notes
 from ..plan import Plan, Verdict
 from ..progress import with_progress
+from ..rest import GRADES, Rest, promise_lines, rest_of
 from ..sweeping import CLASSES, CUT, KEPT, MOVED, SUSPECT, Judged, NotJudged, Outcome, Sweep
 from ..sweeping import beyond, pairs_of
 
@@ -60,33 +61,37 @@ def arguments(parser: ArgumentParser) -> None:
     parser.add_argument("--pairs", action="store_true", help=pairs)
     every = f"show every failure that does something, and not the worst {_MOST_ROWS}"
     parser.add_argument("--all", action="store_true", help=every)
+    add_accept(parser)
     add_set(parser)
     parser.epilog = (
         "Each failure is judged by itself, with --pairs each two at once as well, for every list. "
-        "The worst come first: those that make a stable list suspect, that leave routers without a "
-        "route, that move routers to another egress. A link fails in both directions, and the "
+        "The worst come first: those that make a stable list suspect, that leave routers without "
+        "a route, that move routers to another egress. A link fails in both directions, and the "
         "distances are worked out again from the links that are left; those that are stated stay. "
         "A router that fails takes its sessions, links and listings with it: a list that had it "
         "alone is then one of nobody. A client that loses its last session with a reflector is "
         "judged as cut off: it ends without a route, unless it has its own or one by another "
-        "session. Of a plan that states distances and no links, as in bytes, links are not judged. "
-        "Of a list that is suspect, before or after, no routes are compared. Two failures are "
-        "shown where they do more than either alone. "
-        "Exit status: 0 no failure makes a stable list suspect, be lists suspect as the plan is or "
-        "not; 1 some failure does; 2 error, also where the plan without what fails is refused, so "
-        "that this failure is not judged."
+        "session. Of a plan that states distances and no links, as in bytes, links are not "
+        "judged. Of a list that is suspect, before or after, no routes are compared; told is its "
+        "grade, whether it comes to rest. Two failures are shown where they do more than either "
+        "alone. "
+        "Exit status: 0 no failure makes a stable list suspect, be lists suspect as the plan is "
+        "or not; 1 some failure does, with --accept one after which a list is not known to come "
+        "to rest whatever the order; 2 error, also where the plan without what fails is refused, "
+        "so that this failure is not judged."
     )
 
 
 def run(options: Namespace) -> int:
-    """Judges failures. Returns 1 if one makes a stable list suspect, 2 if one is not judged."""
+    """Judges failures. Returns 1 if one makes a stable list suspect, and it does not come to rest
+    or that is not accepted, 2 if one is not judged."""
     plan = read_plan(options)
     numbers = [plan.list_number(which) for which in dict.fromkeys(options.lists)]
     lists = sorted(set(numbers)) or range(len(plan.lists))
     failures = _failures(plan, options)
     sweep = Sweep(plan, lists)
     swept = _swept(sweep, failures, options.pairs)
-    verdicts = [plan.verdict(number) for number in lists]
+    verdicts = [(each, rest_of(plan, each)) for each in map(plan.verdict, lists)]
     limits = list(_limits(plan, failures, options))
     if options.json:
         _write_values(plan, verdicts, failures, swept, limits)
@@ -96,7 +101,8 @@ def run(options: Namespace) -> int:
             print(line)
     if swept.not_judged:
         return 2
-    return 1 if any(each.kind == SUSPECT for each in (*swept.judged, *swept.pairs)) else 0
+    resting = bool(options.accept)
+    return 0 if all(each.passes(resting) for each in (*swept.judged, *swept.pairs)) else 1
 
 
 def _failures(plan: Plan, options: Namespace) -> list[Failure]:
@@ -151,7 +157,7 @@ def _limits(plan: Plan, failures: Sequence[Failure], options: Namespace) -> Iter
 
 def _lines(
     plan: Plan,
-    verdicts: Sequence[Verdict],
+    verdicts: Sequence[tuple[Verdict, Rest | None]],
     failures: Sequence[Failure],
     swept: Swept,
     limits: Iterable[str],
@@ -175,22 +181,36 @@ def _lines(
         yield f"judged two at once: {count_words(len(swept.pairs), 'pair')}"
         yield from _summary(swept.beyond, f" {_BEYOND}")
         yield from _rows(swept.beyond, options.all)
+    told = [*swept.judged, *swept.beyond]
+    yield from promise_lines(
+        [*(rest for _, rest in verdicts), *(one.rest for each in told for one in each.outcomes)]
+    )
     yield from _advice(plan, options.plan, swept)
 
 
-def _as_it_is(verdicts: Sequence[Verdict], judged: Sequence[Judged]) -> Iterator[str]:
+def _as_it_is(
+    verdicts: Sequence[tuple[Verdict, Rest | None]], judged: Sequence[Judged]
+) -> Iterator[str]:
     """What there is to say of lists as the plan is: those that are suspect, and those that leave
     routers without a route."""
-    for verdict in verdicts:
+    for verdict, rest in verdicts:
         first, *more = verdict_lines(verdict)
         if not verdict.stable:
             outcomes = [each for one in judged for each in one.outcomes]
-            still = sum(bool(each.cycle) for each in outcomes if each.name == verdict.name)
+            still = [each.rest for each in outcomes if each.name == verdict.name and each.cycle]
             yield f"as it is, {verdict.name} is {first}"
-            under = f"under {still} of {count_words(len(judged), 'failure')}"
+            yield f"    {rest.words}"
+            under = f"under {len(still)} of {count_words(len(judged), 'failure')}{_times(still)}"
             yield f"    it is suspect {under}; its routes are not compared with those as it is"
         elif verdict.without_route:
             yield f"as it is, {verdict.name} is stable: {'; '.join(more)}"
+
+
+def _times(rests: Sequence[Rest]) -> str:
+    """How often a list that is suspect under some failures does what, by its grade then."""
+    counts = Counter(rest.number for rest in rests)
+    parts = [f"{words[0]}: {counts[grade]}" for grade, words in GRADES.items() if counts[grade]]
+    return f" ({', '.join(parts)})" if parts else ""
 
 
 def _summary(judged: Sequence[Judged], suffix: str = "") -> Iterator[str]:
@@ -225,7 +245,7 @@ def _rows(judged: Sequence[Judged], every: bool) -> Iterator[str]:
 def _words(outcome: Outcome) -> str:
     """What a failure does to a list, in a line."""
     if outcome.cycle:
-        return f"suspect: {cycle_words(outcome.cycle)}"
+        return f"suspect: {cycle_words(outcome.cycle)}; {outcome.rest.brief}"
     parts = [] if outcome.was_stable else ["then stable"]
     if outcome.lost:
         parts.append(f"without a route: {_names(outcome.lost)}")
@@ -256,7 +276,7 @@ def _advice(plan: Plan, path: str, swept: Swept) -> Iterator[str]:
 
 def _write_values(
     plan: Plan,
-    verdicts: Sequence[Verdict],
+    verdicts: Sequence[tuple[Verdict, Rest | None]],
     failures: Sequence[Failure],
     swept: Swept,
     limits: list[str],
@@ -269,7 +289,7 @@ def _write_values(
             "judged": {**judged, "pairs": len(swept.pairs)},
             "limits": limits,
             "not_judged": [each.values() for each in swept.not_judged],
-            "as_it_is": [list_values(each, None) for each in verdicts],
+            "as_it_is": [list_values(*each) for each in verdicts],
             "counts": _counts(swept.judged),
             "failures": [each.values() for each in swept.judged],
             "pair_counts": _counts(swept.pairs),

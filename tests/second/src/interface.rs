@@ -202,6 +202,27 @@ impl FigureFields {
     }
 }
 
+/// What the grade of a list gives.
+#[derive(Clone, Copy)]
+pub struct GradeFields {
+    /// 1 always comes to rest, 2 can always come to rest, 3 from some table never does though
+    /// there is a steady one, 4 no steady table.
+    pub grade: Flag,
+    /// For 1 a number of rounds within which the list comes to rest, else 0.
+    pub rounds: Lent<u64>,
+}
+
+impl GradeFields {
+    pub fn new(grade: u8, rounds: u64) -> Self {
+        GradeFields { grade: Flag::new(grade), rounds: Lent::new(rounds) }
+    }
+
+    pub fn put(&mut self, grade: u8, rounds: u64) {
+        self.grade.value = grade;
+        self.rounds.value = rounds;
+    }
+}
+
 #[derive(Clone, Copy)]
 pub struct RunFields {
     pub applied: u64,
@@ -240,6 +261,9 @@ pub trait Checker {
     /// Gives the number of a smallest set of routers that makes the list stable once they have
     /// the hop step.
     fn hop_set(&mut self, plan: &[u8], list: usize, set: &mut Lent<u64>) -> u8;
+
+    /// Says whether the routers of a list come to rest, whatever the order in which they act.
+    fn grade(&mut self, plan: &[u8], list: usize, fields: &mut GradeFields) -> u8;
 
     /// Writes how many stable lists had each rank as their highest, and for each router in how
     /// many lists it was in a group of two or more.

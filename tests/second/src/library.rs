@@ -3,8 +3,8 @@
 
 use crate::harness::plans::small_plans::star;
 use crate::interface::{
-    Acts, Checker, CompareFields, ExplainFields, FigureFields, Handed, Lent, ListFields, RunFields, SizeFields,
-    VerdictBuffers, VerdictFields,
+    Acts, Checker, CompareFields, ExplainFields, FigureFields, GradeFields, Handed, Lent, ListFields, RunFields,
+    SizeFields, VerdictBuffers, VerdictFields,
 };
 use crate::oracle::plan::STEPPING;
 use std::ffi::{c_char, c_int, c_void, CStr, CString};
@@ -103,6 +103,8 @@ functions! {
 
     fn rrp_hop_set(plan: *const u8, plan_len: usize, list: usize, set: *mut u64);
 
+    fn rrp_grade(plan: *const u8, plan_len: usize, list: usize, grade: *mut u8, rounds: *mut u64);
+
     fn rrp_figures(
         plan: *const u8,
         plan_len: usize,
@@ -183,6 +185,11 @@ impl Library {
     /// Whether the library names smallest sets of routers to give the hop step.
     pub fn names_hop_sets(&self) -> bool {
         self.rrp_hop_set.is_some()
+    }
+
+    /// Whether the library grades lists.
+    pub fn grades(&self) -> bool {
+        self.rrp_grade.is_some()
     }
 
     /// Whether the library gives the figures of a plan.
@@ -282,6 +289,12 @@ impl Checker for Library {
     fn hop_set(&mut self, plan: &[u8], list: usize, set: &mut Lent<u64>) -> u8 {
         // SAFETY: as above.
         unsafe { self.rrp_hop_set.expect(MISSING)(plan.as_ptr(), plan.len(), list, &mut set.value) }
+    }
+
+    fn grade(&mut self, plan: &[u8], list: usize, fields: &mut GradeFields) -> u8 {
+        let grade = self.rrp_grade.expect(MISSING);
+        // SAFETY: as above.
+        unsafe { grade(plan.as_ptr(), plan.len(), list, &mut fields.grade.value, &mut fields.rounds.value) }
     }
 
     fn figures(&mut self, plan: &[u8], by_rank: &mut [u8], by_router: &mut [u8], fields: &mut FigureFields) -> u8 {

@@ -11,6 +11,7 @@ use second_checker::harness::faults::empty_list_misreadings::{MisreadEmptyList, 
 use second_checker::harness::faults::empty_list_slips::EMPTY_LIST_SLIPS;
 use second_checker::harness::faults::explain_misreadings::{MisreadExplanation, EXPLAIN_MISREADINGS};
 use second_checker::harness::faults::figure_slips::{FIGURE_SLIPS, STATED_FIGURE_SLIPS};
+use second_checker::harness::faults::grade_slips::{GRADE_SLIPS, STATED_GRADE_SLIPS};
 use second_checker::harness::faults::hop_misreadings::{MisreadHop, HOP_MISREADINGS};
 use second_checker::harness::faults::hop_set_slips::{HOP_SET_SLIPS, STATED_HOP_SET_SLIPS};
 use second_checker::harness::faults::hop_slips::HOP_SLIPS;
@@ -208,6 +209,21 @@ fn each_slip_in_the_call_for_hop_sets_is_found() {
 fn what_is_stated_of_hop_sets_tells_slips_in_them_beside_themselves() {
     none_missed(STATED_HOP_SET_SLIPS, |&slip| {
         let [mut one, mut other] = [0, 1].map(|_| Careless::new(Slip::HopSet(slip)));
+        differ(&mut one, &mut other, SEED, plans_with_groups())
+    });
+}
+
+#[test]
+fn each_slip_in_the_call_for_grades_is_found() {
+    none_missed(GRADE_SLIPS, |&slip| {
+        differ(&mut Oracle::right(), &mut Careless::new(Slip::Grade(slip)), SEED, plans_with_groups())
+    });
+}
+
+#[test]
+fn what_is_stated_of_grades_tells_slips_in_them_beside_themselves() {
+    none_missed(STATED_GRADE_SLIPS, |&slip| {
+        let [mut one, mut other] = [0, 1].map(|_| Careless::new(Slip::Grade(slip)));
         differ(&mut one, &mut other, SEED, plans_with_groups())
     });
 }

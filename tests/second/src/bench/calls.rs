@@ -4,8 +4,8 @@ use crate::harness::comparison::arguments;
 use crate::harness::plans::draft::Draft;
 use crate::harness::random::Random;
 use crate::interface::{
-    Acts, Checker, CompareFields, ExplainFields, FigureFields, Flag, Handed, Lent, ListFields, RunFields, SizeFields,
-    VerdictBuffers, VerdictFields,
+    Acts, Checker, CompareFields, ExplainFields, FigureFields, Flag, GradeFields, Handed, Lent, ListFields,
+    RunFields, SizeFields, VerdictBuffers, VerdictFields,
 };
 use crate::oracle::mark::Mark;
 use crate::oracle::plan;
@@ -74,6 +74,12 @@ pub fn hop_set(checker: &mut dyn Checker, plan: &[u8]) {
     let mut set = Lent::new(0);
     assert_eq!(checker.hop_set(black_box(plan), 0, &mut set), 0);
     black_box(set.value);
+}
+
+pub fn grade(checker: &mut dyn Checker, plan: &[u8]) {
+    let mut fields = GradeFields::new(0, 0);
+    assert_eq!(checker.grade(black_box(plan), 0, &mut fields), 0);
+    black_box((fields.grade.value, fields.rounds.value));
 }
 
 pub fn figures(checker: &mut dyn Checker, plan: &[u8]) {

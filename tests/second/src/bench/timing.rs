@@ -4,8 +4,8 @@
 //! while slows both sides.
 
 use super::calls::{
-    activate, check, compare, convert, distances, explain, figures, hop_set, list, relies, size, steady, verdict,
-    verdict_of, Run,
+    activate, check, compare, convert, distances, explain, figures, grade, hop_set, list, relies, size, steady,
+    verdict, verdict_of, Run,
 };
 use super::shapes::{full_sheet, one_group, ring_and_chords, threes_and_others, two_parts, Shape, SIZES};
 use super::tight::Tight;
@@ -227,6 +227,27 @@ fn time_hop_sets(bench: &Bench) {
     bench.line("hop set, 12 in one group, n = 64", 1, |checker| hop_set(checker, &plan));
 }
 
+/// Grades, and the verdicts of the same plans: a cycle of twelve, in which moves come back, one group
+/// of twelve, groups of three with others after them, and plans of a usual shape.
+fn time_grades(bench: &Bench, random: &mut Random) {
+    let bench = Bench { other: bench.other.filter(Library::grades), ..*bench };
+    let mut plans = vec![
+        (preferring_the_next(12), "12 in a cycle, n = 24".to_string()),
+        (one_group(), "12 in one group, n = 64".to_string()),
+        (threes_and_others(), "12 in threes, n = 60".to_string()),
+    ];
+    for n in SIZES {
+        let mesh = Shape::mesh(n);
+        plans.push((mesh.draft(random, true), format!("stable, n = {n}")));
+        plans.extend(mesh.draft_with_groups(random).map(|draft| (draft, format!("suspect, n = {n}"))));
+    }
+    for (draft, name) in plans {
+        let plan = draft.bytes();
+        bench.line(&format!("grade, {name}"), 1, |checker| grade(checker, &plan));
+        bench.line(&format!("verdict beside grade, {name}"), 1, |checker| _ = verdict(checker, &plan));
+    }
+}
+
 /// The figures of a plan of 64 lists, every fifth client in each from another one on, and so many
 /// verdicts beside them.
 fn time_figures(bench: &Bench, random: &mut Random) {
@@ -294,4 +315,5 @@ pub fn bench(word: &str, other: Option<Library>) {
     time_widths(&bench, &mut random);
     time_conversions(&bench, &mut random);
     time_steady(&bench, &mut random);
+    time_grades(&bench, &mut random);
 }

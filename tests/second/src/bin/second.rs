@@ -6,11 +6,13 @@ use second_checker::harness::comparison::compare;
 use second_checker::harness::plans::draft::Draft;
 use second_checker::harness::plans::{generate, questions};
 use second_checker::harness::random::Random;
+use second_checker::harness::surveys::grades;
 use second_checker::interface::Checker;
 use second_checker::oracle::mark::Mark;
 use second_checker::oracle::{margin_line, verdict_lines};
 use std::env;
 use std::error::Error;
+use std::fmt::Display;
 use std::fs;
 use std::io::{self, Read, Write};
 use std::path::Path;
@@ -24,8 +26,12 @@ second verdict                               print the lines the verdict program
 second margin                                print the line the margin program is due to print for standard input
 second write FOLDER [--seed S] [--plans N]   write plans and the lines the verdict program is due to print
 second ask FOLDER [--seed S] [--plans N]     write inputs and the lines the margin program is due to print
+second grades [--against C] [--seed S] [--lists N]   print a table of the grades of N random suspect lists a kind
 second plan largest|largest-rrp2|deepest|deepest-rrp2
                                              write the plan with the most bytes or the highest rank, of a mark";
+
+/// The checker compared if none is named.
+const DEFAULT: &str = if cfg!(feature = "library") { "library" } else { "tight" };
 
 struct Options {
     words: Vec<String>,
@@ -33,11 +39,12 @@ struct Options {
     seed: u64,
     first: u64,
     plans: u64,
+    lists: u64,
 }
 
 fn options() -> Result<Options, Box<dyn Error>> {
-    let mut options =
-        Options { words: Vec::new(), against: "library".to_string(), seed: 4456, first: 0, plans: 20_000 };
+    let (words, against) = (Vec::new(), DEFAULT.to_string());
+    let mut options = Options { words, against, seed: 4456, first: 0, plans: 20_000, lists: 10_000 };
     let mut arguments = env::args().skip(1);
     while let Some(argument) = arguments.next() {
         let mut value = || arguments.next().ok_or("a value is missing");
@@ -46,6 +53,7 @@ fn options() -> Result<Options, Box<dyn Error>> {
             "--seed" => options.seed = value()?.parse()?,
             "--first" => options.first = value()?.parse()?,
             "--plans" => options.plans = value()?.parse()?,
+            "--lists" => options.lists = value()?.parse()?,
             word if word.starts_with("--") => return Err(format!("unknown option {word}").into()),
             _ => options.words.push(argument),
         }
@@ -72,6 +80,19 @@ fn compare(options: &Options) -> Result<bool, Box<dyn Error>> {
     println!("seconds {:.1}", started.elapsed().as_secs_f64());
     println!("{counts}");
     Ok(counts.mismatches == 0)
+}
+
+/// Prints tables; says whether the checker gave the same.
+fn print_tables<T: Display>(tables: Vec<T>, mismatches: fn(&T) -> u64) -> Result<bool, Box<dyn Error>> {
+    tables.iter().for_each(|table| println!("{table}"));
+    Ok(tables.iter().all(|table| mismatches(table) == 0))
+}
+
+fn survey_grades(options: &Options) -> Result<bool, Box<dyn Error>> {
+    let mut subject = subject(&options.against)?;
+    println!("seed {} beside {}", options.seed, options.against);
+    let tables = grades::grades(Some(subject.as_mut()), options.seed, options.lists);
+    print_tables(tables, |table| table.mismatches)
 }
 
 fn fixed_plan(name: &str, seed: u64) -> Result<Draft, Box<dyn Error>> {
@@ -131,6 +152,7 @@ fn program() -> Result<bool, Box<dyn Error>> {
         ["margin"] => print_due(margin_line),
         ["write", folder] => write_inputs(folder, &options, "plan", plan_numbered, verdict_lines),
         ["ask", folder] => write_inputs(folder, &options, "input", questions::numbered, margin_line),
+        ["grades"] => survey_grades(&options),
         ["plan", name] => write(&fixed_plan(name, options.seed)?.bytes()),
         _ => Err("unknown words".into()),
     }

@@ -6,3 +6,4 @@ pub mod comparison;
 pub mod faults;
 pub mod plans;
 pub mod random;
+pub mod surveys;

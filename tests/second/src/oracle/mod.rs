@@ -1,10 +1,12 @@
-//! The second checker, written from documents 01 and 02 alone and by other
-//! algorithms than the library's: sets and sorted orders, choices step by step,
-//! depth-first search, layers, tables and sets tried one by one, Dijkstra's search.
+//! The second checker, written from documents 01 and 02 alone, and from the texts of the calls
+//! that go beyond them, and by other algorithms than the library's: sets and sorted orders,
+//! choices step by step, depth-first search, layers, tables and sets tried one by one, Dijkstra's
+//! search.
 
 mod convert;
 pub mod delayed;
 pub mod figures;
+pub mod grade;
 pub mod hop_set;
 mod lines;
 pub mod links;
@@ -16,10 +18,11 @@ pub mod tables;
 pub mod verdict;
 
 use crate::interface::{
-    store, Acts, Checker, CompareFields, Compared, ExplainFields, Explained, FigureFields, Flag, Handed, Lent,
-    ListFields, RunFields, SizeFields, VerdictBuffers, VerdictFields,
+    store, Acts, Checker, CompareFields, Compared, ExplainFields, Explained, FigureFields, Flag, GradeFields, Handed,
+    Lent, ListFields, RunFields, SizeFields, VerdictBuffers, VerdictFields,
 };
 use figures::Figures;
+use grade::Graded;
 pub use lines::{margin_line, verdict_lines};
 use mark::Mark;
 use plan::Plan;
@@ -189,6 +192,11 @@ impl<R: Rules> Oracle<R> {
         hop_set::hop_set(&self.rules, plan, list)
     }
 
+    fn try_grade(&mut self, plan: &[u8], list: usize) -> Result<Graded, u8> {
+        let reading = self.reading(plan);
+        grade::grade(&self.rules, case_of(plan_of(&reading)?, list, &[])?)
+    }
+
     fn try_figures(
         &mut self,
         plan: &[u8],
@@ -284,6 +292,11 @@ impl<R: Rules> Checker for Oracle<R> {
 
     fn hop_set(&mut self, plan: &[u8], list: usize, set: &mut Lent<u64>) -> u8 {
         store(self.try_hop_set(plan, list), &mut set.value)
+    }
+
+    fn grade(&mut self, plan: &[u8], list: usize, fields: &mut GradeFields) -> u8 {
+        let graded = self.try_grade(plan, list);
+        store(graded.map(|Graded { grade, rounds }| fields.put(grade as u8, rounds)), &mut ())
     }
 
     fn figures(&mut self, plan: &[u8], by_rank: &mut [u8], by_router: &mut [u8], fields: &mut FigureFields) -> u8 {

@@ -39,7 +39,12 @@ pub fn verdict(rules: &impl Rules, case: Case) -> Verdict {
 
 /// The routers in groups of two or more, lowest first.
 pub fn grouped(rules: &impl Rules, case: Case) -> Vec<Router> {
-    let groups = groups(&reliances(rules, case));
+    grouped_by(&reliances(rules, case))
+}
+
+/// .. by these reliances.
+pub fn grouped_by(reliances: &Reliances) -> Vec<Router> {
+    let groups = groups(reliances);
     let shared: BTreeSet<Router> = groups.into_iter().filter(|group| group.len() > 1).flatten().collect();
     shared.into_iter().collect()
 }
@@ -106,7 +111,7 @@ fn labels(groups: &[BTreeSet<Router>]) -> Vec<Router> {
 
 /// The rank of a router is the number of the layer it is taken away with: a
 /// layer is all those that rely on none but routers taken away before.
-fn ranks(reliances: &Reliances) -> Ranks {
+pub fn ranks(reliances: &Reliances) -> Ranks {
     let mut ranks = Ranks::new();
     for rank in 0.. {
         let layer: Vec<Router> = reliances

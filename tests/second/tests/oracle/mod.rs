@@ -4,6 +4,7 @@ mod conversions;
 mod delayed_reading;
 mod empty_lists;
 mod explained_pairs;
+mod grades;
 mod hop_sets;
 mod hop_steps;
 mod least_sums;

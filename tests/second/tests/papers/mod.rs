@@ -5,6 +5,7 @@ mod small_delays;
 mod small_empty_lists;
 mod small_explanations;
 mod small_figures;
+mod small_grades;
 mod small_hop_sets;
 mod small_hop_steps;
 mod small_margins;

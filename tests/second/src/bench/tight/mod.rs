@@ -5,6 +5,7 @@
 mod convert;
 mod distance;
 mod figures;
+mod grade;
 mod hop_set;
 mod links;
 mod reader;
@@ -13,12 +14,13 @@ mod steady;
 mod verdict;
 
 use crate::interface::{
-    store, Acts, Checker, CompareFields, Compared, ExplainFields, Explained, FigureFields, Flag, Handed, Lent,
-    ListFields, RunFields, SizeFields, VerdictBuffers, VerdictFields,
+    store, Acts, Checker, CompareFields, Compared, ExplainFields, Explained, FigureFields, Flag, GradeFields, Handed,
+    Lent, ListFields, RunFields, SizeFields, VerdictBuffers, VerdictFields,
 };
 use convert::{narrow, widen};
 use distance::Distance;
 use figures::{count, Counted};
+use grade::grade as grade_of;
 use hop_set::hop_set as hop_set_of;
 use links::distances;
 use reader::{check, read};
@@ -127,6 +129,10 @@ fn hop_set<D: Distance>(plan: &[u8], list: usize) -> Result<u64, u8> {
     hop_set_of(&network::<D>(plan, list)?)
 }
 
+fn grade<D: Distance>(plan: &[u8], list: usize) -> Result<(u8, u64), u8> {
+    grade_of(&network::<D>(plan, list)?)
+}
+
 fn figures<D: Distance>(plan: &[u8], by_rank: &mut [u8], by_router: &mut [u8]) -> Result<Counted, u8> {
     let network = network::<D>(plan, 0)?;
     count(network, by_rank, by_router)
@@ -201,6 +207,10 @@ impl Checker for Tight {
 
     fn hop_set(&mut self, plan: &[u8], list: usize, set: &mut Lent<u64>) -> u8 {
         store(by_mark!(hop_set(plan, list)), &mut set.value)
+    }
+
+    fn grade(&mut self, plan: &[u8], list: usize, fields: &mut GradeFields) -> u8 {
+        store(by_mark!(grade(plan, list)).map(|(grade, rounds)| fields.put(grade, rounds)), &mut ())
     }
 
     fn figures(&mut self, plan: &[u8], by_rank: &mut [u8], by_router: &mut [u8], fields: &mut FigureFields) -> u8 {

@@ -130,4 +130,13 @@ impl Line<'_> {
         self.word("numbers");
         self.bytes(&answer.buffers[0]);
     }
+
+    /// The refusal, or the grade and the rounds.
+    pub fn grade(&mut self, list: usize) {
+        let answer = self.answer(&Call::Grade { list });
+        match (answer.refusal, &answer.fields[..]) {
+            (0, [grade, rounds]) => self.word(format!("grade {grade} rounds {rounds}")),
+            (refusal, _) => self.word(refusal),
+        }
+    }
 }

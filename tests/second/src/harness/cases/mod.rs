@@ -5,6 +5,7 @@ mod asked;
 mod cuts;
 mod damaged;
 mod empty_lists;
+mod grades;
 mod hop_steps;
 mod limits;
 mod line;
@@ -32,6 +33,6 @@ fn small(p: u32, q: u32) -> Vec<u8> {
 pub fn lines() -> String {
     let plans = [limits::lines(), damaged::lines(), parents::lines(), asked::lines()];
     let rules = [misread::lines(), runs::lines(), cuts::lines(), skips::lines()];
-    let requests = [widths::lines(), empty_lists::lines(), hop_steps::lines(), steady::lines()];
+    let requests = [widths::lines(), empty_lists::lines(), hop_steps::lines(), steady::lines(), grades::lines()];
     [plans.concat(), rules.concat(), requests.concat()].concat().concat()
 }

@@ -39,7 +39,7 @@ fn small_plan() -> Vec<String> {
 
 /// So many reflectors in a cycle, each followed by its client, which is at 10; the next one's is at
 /// 6, and all else at 14.
-fn cycle(count: usize) -> Draft {
+pub fn cycle(count: usize) -> Draft {
     let n = 2 * count;
     let distance = |from: usize, to: usize| match (to + n - from) % n {
         0 => 0,

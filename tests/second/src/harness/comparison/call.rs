@@ -2,8 +2,8 @@
 //! leaves: results, buffers, and the bytes around them.
 
 use crate::interface::{
-    Acts, Checker, CompareFields, Compared, ExplainFields, FigureFields, Flag, Handed, Lent, ListFields, RunFields,
-    SizeFields, VerdictBuffers, VerdictFields,
+    Acts, Checker, CompareFields, Compared, ExplainFields, FigureFields, Flag, GradeFields, Handed, Lent, ListFields,
+    RunFields, SizeFields, VerdictBuffers, VerdictFields,
 };
 
 /// One call, with the content of its buffers before it.
@@ -39,6 +39,9 @@ pub enum Call {
         out: Vec<u8>,
     },
     HopSet {
+        list: usize,
+    },
+    Grade {
         list: usize,
     },
     /// The buffers are the counts by rank and those by router.
@@ -84,8 +87,8 @@ pub struct Answer {
     /// Every byte of every lent buffer after the call.
     pub buffers: Vec<Vec<u8>>,
     /// The bytes before and after each buffer, each result variable of one byte and those of
-    /// a comparison, an explanation, a count of steady tables, a set, figures and a conversion,
-    /// the plan, the sequence and the links are as they were.
+    /// a comparison, an explanation, a count of steady tables, a set, a grade, figures and
+    /// a conversion, the plan, the sequence and the links are as they were.
     pub surroundings_kept: bool,
 }
 
@@ -113,6 +116,11 @@ impl Answer {
         let (written, _) = self.buffers[0].as_chunks();
         let numbers = written.iter().map(|&bytes| u64::from(u16::from_le_bytes(bytes)));
         numbers.take(self.fields[0] as usize).collect()
+    }
+
+    /// The grade and the rounds of a call for them that is not refused.
+    pub fn graded(&self) -> (u8, u64) {
+        (self.fields[0] as u8, self.fields[1] as u64)
     }
 
     fn beside<T>(mut self, result: Lent<T>) -> Self {
@@ -187,6 +195,12 @@ pub fn perform(checker: &mut dyn Checker, plan: &[u8], call: &Call, prior: u64) 
             let mut set = Lent::new(prior);
             let refusal = checker.hop_set(&lent_plan, *list, &mut set);
             Answer::new(refusal, [set.value.into()]).beside(set)
+        }
+        Call::Grade { list } => {
+            let mut fields = GradeFields::new(prior as u8, !prior);
+            let refusal = checker.grade(&lent_plan, *list, &mut fields);
+            let GradeFields { grade, rounds } = fields;
+            Answer::new(refusal, [grade.value.into(), rounds.value.into()]).beside(grade).beside(rounds)
         }
         Call::Figures { buffers } => perform_figures(checker, &lent_plan, buffers, prior),
         Call::Activate { list, router, table } => perform_activate(checker, &lent_plan, *list, *router, table),

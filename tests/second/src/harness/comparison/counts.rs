@@ -52,6 +52,7 @@ pub struct Counts {
     pub explanations: Explanations,
     pub steady: SteadyCounts,
     pub hop_sets: HopSetCounts,
+    pub grades: GradeCounts,
     pub figures: FigureCounts,
     /// Calls made on the checker alone, to hold one against another.
     pub calls_alone: u64,
@@ -205,6 +206,26 @@ impl fmt::Display for HopSetCounts {
     }
 }
 
+/// What was asked and given of the grades of lists.
+#[derive(Default)]
+pub struct GradeCounts {
+    pub calls: u64,
+    /// Suspect lists that are not refused, by grade.
+    pub lists: [u64; 4],
+    /// The most rounds of a suspect list.
+    pub most: u64,
+    /// Series on suspect lists that came to rest as promised, and the acts in these.
+    pub series: u64,
+    pub acts: u64,
+}
+
+impl fmt::Display for GradeCounts {
+    fn fmt(&self, out: &mut fmt::Formatter) -> fmt::Result {
+        write!(out, "calls for grades {}, suspect lists by grade {:?}, ", self.calls, self.lists)?;
+        write!(out, "rounds up to {}, series that rested {}, acts in these {}", self.most, self.series, self.acts)
+    }
+}
+
 /// What was asked and given of the figures of plans.
 #[derive(Default)]
 pub struct FigureCounts {
@@ -254,6 +275,7 @@ impl Counts {
             (Call::Explain { .. }, 0) => self.explanations.count(answer),
             (Call::Steady { .. }, _) => self.steady.calls += 1,
             (Call::HopSet { .. }, _) => self.hop_sets.calls += 1,
+            (Call::Grade { .. }, _) => self.grades.calls += 1,
             (Call::Figures { .. }, _) => self.figures.calls += 1,
             _ => (),
         }
@@ -298,6 +320,7 @@ impl fmt::Display for Counts {
         writeln!(out, "{}", self.explanations)?;
         writeln!(out, "{}", self.steady)?;
         writeln!(out, "{}", self.hop_sets)?;
+        writeln!(out, "{}", self.grades)?;
         writeln!(out, "{}", self.figures)?;
         writeln!(
             out,

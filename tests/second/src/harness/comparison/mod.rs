@@ -9,6 +9,7 @@ pub mod counts;
 pub mod delays;
 pub mod empty_lists;
 mod figure_calls;
+mod grade_calls;
 mod hop_set_calls;
 pub mod hop_step;
 pub mod plan_calls;

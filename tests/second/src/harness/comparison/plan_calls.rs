@@ -7,6 +7,7 @@ use super::convert_calls;
 use super::delays;
 use super::empty_lists;
 use super::figure_calls;
+use super::grade_calls;
 use super::hop_set_calls;
 use super::hop_step;
 use super::preferences::Preferences;
@@ -49,7 +50,7 @@ fn refused(comparison: &mut Comparison, random: &mut Random, bytes: &[u8]) -> Ou
 }
 
 /// One call of each kind with arguments that need fit nothing.
-fn loose_calls(random: &mut Random) -> [Call; 10] {
+fn loose_calls(random: &mut Random) -> [Call; 11] {
     let mut number = |bound: usize| arguments::mostly_below(random, bound);
     let list = number(2);
     let (router, first, second) = (number(4), number(4), number(4));
@@ -70,6 +71,7 @@ fn loose_calls(random: &mut Random) -> [Call; 10] {
         Call::Verdict { list, buffers },
         Call::Steady { list, out },
         Call::HopSet { list },
+        Call::Grade { list },
         Call::Figures { buffers: figures },
         Call::Activate { list, router, table: table.clone() },
         Call::Run { list, sequence, limit, table },
@@ -86,8 +88,9 @@ fn sound(comparison: &mut Comparison, random: &mut Random, bytes: &[u8], plan: &
     past_the_lists(comparison, random, bytes, plan)?;
     reliance_calls::compare(comparison, random, bytes, plan)?;
     let verdicts = verdicts_of_lists(comparison, random, bytes, plan)?;
-    steady_calls::compare(comparison, random, bytes, plan, &verdicts)?;
+    let steady = steady_calls::compare(comparison, random, bytes, plan, &verdicts)?;
     hop_set_calls::compare(comparison, bytes, plan, &verdicts)?;
+    grade_calls::compare(comparison, random, bytes, plan, &verdicts, &steady)?;
     figure_calls::compare(comparison, random, bytes, plan, &verdicts)?;
     let list = random.below(plan.lists.len());
     hop_step::compare_with_all(comparison, random, bytes, list)?;
@@ -165,6 +168,7 @@ fn past_the_lists(comparison: &mut Comparison, random: &mut Random, bytes: &[u8]
         Call::Steady { list, out: random.bytes(2 * MOST_NUMBERS) },
         Call::Steady { list, out: random.bytes(room) },
         Call::HopSet { list },
+        Call::Grade { list },
         Call::Activate { list, router, table: arguments::broken_table(random, case) },
         Call::Run { list, sequence, limit, table },
     ];

@@ -1,5 +1,6 @@
 //! Series of act and run calls on one table, refused ones among them, until the rounds
-//! are as many as promised, the highest rank plus two; then the table is the verdict's.
+//! are as many as promised: the highest rank plus two, then the table is the verdict's; or as many
+//! as a grade names, then it stays as it is.
 
 use super::arguments;
 use super::call::{Answer, Call};
@@ -10,6 +11,7 @@ use crate::oracle::delayed::promised_rounds;
 use crate::oracle::plan::{self, Plan};
 use crate::oracle::rules::Case;
 use crate::oracle::tables::Rounds;
+use std::collections::BTreeSet;
 
 /// The table that every series of so many rounds ends in.
 pub struct Promise {
@@ -50,9 +52,7 @@ pub fn compare(
 ) -> Outcome {
     let mut series = Series::new(random, bytes, plan, list);
     let start = series.table.clone();
-    while series.rounds.whole < promise.rounds {
-        series.step(comparison, random)?;
-    }
+    series.run_to(comparison, random, promise.rounds)?;
     let settled = [&promise.table, &start[2 * plan.n..]].concat();
     for more in 0..6 {
         if series.table != settled {
@@ -69,6 +69,35 @@ pub fn compare(
     Ok(())
 }
 
+/// Compares one series for a list that comes to rest within so many rounds: its table then stays
+/// as it is while every router acts once more.
+pub fn compare_resting(
+    comparison: &mut Comparison,
+    random: &mut Random,
+    bytes: &[u8],
+    plan: &Plan,
+    list: usize,
+    rounds: u64,
+) -> Outcome {
+    let mut series = Series::new(random, bytes, plan, list);
+    let start = series.table.clone();
+    series.run_to(comparison, random, rounds)?;
+    let settled = series.table.clone();
+    let mut awaited: BTreeSet<u8> = (0..plan.n as u8).collect();
+    while !awaited.is_empty() {
+        let router = series.turns.next(random);
+        let call = Call::Activate { list, router, table: series.table.clone() };
+        series.apply(comparison, &call, &[router as u8])?;
+        awaited.remove(&(router as u8));
+        if series.table != settled {
+            return Err(series.unsettled(&start, &settled, plan.n - awaited.len()));
+        }
+    }
+    comparison.counts.grades.series += 1;
+    comparison.counts.grades.acts += series.acts;
+    Ok(())
+}
+
 impl<'a> Series<'a> {
     fn new(random: &mut Random, bytes: &'a [u8], plan: &'a Plan, list: usize) -> Self {
         let case = Case { plan, listed: &plan.lists[list].listed };
@@ -81,6 +110,13 @@ impl<'a> Series<'a> {
             rounds: Rounds::new(plan.n),
             acts: 0,
         }
+    }
+
+    fn run_to(&mut self, comparison: &mut Comparison, random: &mut Random, rounds: u64) -> Outcome {
+        while self.rounds.whole < rounds {
+            self.step(comparison, random)?;
+        }
+        Ok(())
     }
 
     /// One call: an act, a run, or one that is refused.

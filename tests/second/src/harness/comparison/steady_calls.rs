@@ -10,14 +10,15 @@ use crate::oracle::rules::{Case, Right};
 use crate::oracle::steady::{self, MOST_GROUPED, MOST_NUMBERS};
 use crate::oracle::tables;
 
-/// The calls for every list, whose verdicts are known, and runs for one of them.
+/// The calls for every list, whose verdicts are known, and runs for one of them. Gives the answers.
 pub fn compare(
     comparison: &mut Comparison,
     random: &mut Random,
     bytes: &[u8],
     plan: &Plan,
     verdicts: &[Answer],
-) -> Outcome {
+) -> Result<Vec<Answer>, Box<Mismatch>> {
+    let mut answers = Vec::new();
     let runs_for = random.below(verdicts.len());
     for (list, verdict) in verdicts.iter().enumerate() {
         let room = 2 * MOST_NUMBERS + random.below(3);
@@ -29,8 +30,9 @@ pub fn compare(
         if list == runs_for && answer.refusal == 0 {
             runs(comparison, random, bytes, plan, list, &answer.numbers())?;
         }
+        answers.push(answer);
     }
-    Ok(())
+    Ok(answers)
 }
 
 /// Buffers that are exact, longer and too short; none changes refusal 15.

@@ -5,6 +5,7 @@ use super::convert_slips::{self, Asked};
 use super::empty_list_slips::{self, EmptyListSlip};
 use super::explain_slips;
 use super::figure_slips;
+use super::grade_slips;
 use super::hop_set_slips;
 use super::parent_slips;
 use super::sheet_slips;
@@ -12,8 +13,8 @@ use super::slips::Slip;
 use super::steady_slips;
 use crate::harness::plans::draft::Bodies;
 use crate::interface::{
-    Acts, Checker, CompareFields, ExplainFields, FigureFields, Handed, Lent, ListFields, RunFields, SizeFields,
-    VerdictBuffers, VerdictFields,
+    Acts, Checker, CompareFields, ExplainFields, FigureFields, GradeFields, Handed, Lent, ListFields, RunFields,
+    SizeFields, VerdictBuffers, VerdictFields,
 };
 use crate::oracle::mark::Mark;
 use crate::oracle::plan;
@@ -151,6 +152,13 @@ impl Checker for Careless {
         match self.slip {
             Slip::HopSet(slip) => hop_set_slips::hop_set(slip, &mut self.inner, (plan, list), set),
             _ => self.inner.hop_set(plan, list, set),
+        }
+    }
+
+    fn grade(&mut self, plan: &[u8], list: usize, fields: &mut GradeFields) -> u8 {
+        match self.slip {
+            Slip::Grade(slip) => grade_slips::grade(slip, &mut self.inner, (plan, list), fields),
+            _ => self.inner.grade(plan, list, fields),
         }
     }
 

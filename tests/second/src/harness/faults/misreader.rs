@@ -1,8 +1,8 @@
 //! Checkers that, in one call, take a plan for another, as a slip has it.
 
 use crate::interface::{
-    Acts, Checker, CompareFields, ExplainFields, FigureFields, Handed, Lent, ListFields, RunFields, SizeFields,
-    VerdictBuffers, VerdictFields,
+    Acts, Checker, CompareFields, ExplainFields, FigureFields, GradeFields, Handed, Lent, ListFields, RunFields,
+    SizeFields, VerdictBuffers, VerdictFields,
 };
 use crate::oracle::rules::Right;
 use crate::oracle::Oracle;
@@ -19,6 +19,7 @@ pub enum PlanCall {
     Verdict,
     Steady,
     HopSet,
+    Grade,
     Figures,
     Activate,
     Run,
@@ -28,13 +29,14 @@ pub enum PlanCall {
 
 pub const WITHOUT_DISTANCES: [PlanCall; 3] = [PlanCall::Check, PlanCall::Size, PlanCall::List];
 
-pub const BY_DISTANCES: [PlanCall; 9] = [
+pub const BY_DISTANCES: [PlanCall; 10] = [
     PlanCall::Compare,
     PlanCall::Relies,
     PlanCall::Explain,
     PlanCall::Verdict,
     PlanCall::Steady,
     PlanCall::HopSet,
+    PlanCall::Grade,
     PlanCall::Figures,
     PlanCall::Activate,
     PlanCall::Run,
@@ -111,6 +113,11 @@ impl<F: Fn(&[u8]) -> Option<Vec<u8>>> Checker for Misreader<F> {
     fn hop_set(&mut self, plan: &[u8], list: usize, set: &mut Lent<u64>) -> u8 {
         let (inner, plan) = self.read(PlanCall::HopSet, plan);
         inner.hop_set(plan, list, set)
+    }
+
+    fn grade(&mut self, plan: &[u8], list: usize, fields: &mut GradeFields) -> u8 {
+        let (inner, plan) = self.read(PlanCall::Grade, plan);
+        inner.grade(plan, list, fields)
     }
 
     fn figures(&mut self, plan: &[u8], by_rank: &mut [u8], by_router: &mut [u8], fields: &mut FigureFields) -> u8 {

@@ -10,6 +10,7 @@ pub mod empty_list_slips;
 pub mod explain_misreadings;
 mod explain_slips;
 pub mod figure_slips;
+pub mod grade_slips;
 pub mod hop_misreadings;
 pub mod hop_set_slips;
 pub mod hop_slips;

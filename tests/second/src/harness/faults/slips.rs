@@ -4,6 +4,7 @@
 use super::convert_slips::ConvertSlip;
 use super::empty_list_slips::EmptyListSlip;
 use super::figure_slips::FigureSlip;
+use super::grade_slips::GradeSlip;
 use super::hop_set_slips::HopSetSlip;
 use super::hop_slips::HopSlip;
 use super::parent_slips::ParentSlip;
@@ -84,6 +85,7 @@ pub enum Slip {
     Hop(HopSlip),
     Steady(SteadySlip),
     HopSet(HopSetSlip),
+    Grade(GradeSlip),
     Figures(FigureSlip),
     EightBeforeThirteen,
     EntryWithoutAWayRefused,
@@ -118,7 +120,7 @@ pub enum Slip {
 }
 
 /// All but those in the check of a client's parents, in the converter, for an empty list, with
-/// the hop step, and in the calls for steady tables, for hop sets and for figures.
+/// the hop step, and in the calls for steady tables, hop sets, grades and figures.
 pub const SLIPS: [Slip; 96] = [
     Slip::FirstActOnly,
     Slip::ActLeavesTable,

@@ -1,0 +1,11 @@
+pub mod Examples
+pub mod Machines
+pub mod Toggled
+pub mod Stages
+pub mod Steps
+pub mod Rests
+pub mod Leading
+pub mod NeverResting
+pub mod Returning
+pub mod Looping
+pub mod MovingBits

@@ -1,0 +1,4 @@
+pub mod Machine
+pub mod Moving
+pub mod Grade
+pub mod Examples

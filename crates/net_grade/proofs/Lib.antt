@@ -1,0 +1,4 @@
+pub mod ColumnWalks
+pub mod Completing
+pub mod Foremost
+pub mod Gradings

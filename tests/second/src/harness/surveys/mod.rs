@@ -1,0 +1,4 @@
+//! Random plans of kinds that planners draw, and tables of what is answered for them.
+
+pub mod grades;
+pub mod meshes;
