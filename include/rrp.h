@@ -232,6 +232,13 @@ uint8_t rrp_grade(const uint8_t *plan, size_t plan_len, size_t list, uint8_t *gr
 uint8_t rrp_figures(const uint8_t *plan, size_t plan_len, uint8_t *by_rank, size_t by_rank_len, uint8_t *by_router,
                     size_t by_router_len, uint64_t *stable, uint64_t *suspect, uint8_t *has_highest, uint64_t *highest);
 
+/* Says whether the plan is stable for every egress list, whatever its own lists. *answer is 1 if it is: with every list, listed
+ * reflectors and the empty list among them, rrp_verdict says stable. It is 0 if a list was found for which the plan is suspect:
+ * list[0] to list[*count - 1] are then its router numbers, rising, all of clients. It is 2 if that is undecided; this happens only
+ * where a client has two parents without the hop step that are not alike. *count is 0 unless *answer is 0. Needs n bytes of list, and
+ * leaves those after the list as they were. Refusals 1 to 7, 9 and 13. */
+uint8_t rrp_every_list(const uint8_t *plan, size_t plan_len, uint8_t *answer, uint8_t *list, size_t list_len, uint64_t *count);
+
 /* Activates one router, in the table's 2n bytes: a router of the list keeps its own route, and any other then holds the best route
  * that a neighbour advertises to it at that moment, of those whose egress it has a way to, or none. No other router's entry
  * changes. Refusals 1 to 10 and 13. */

@@ -156,6 +156,22 @@ names_hop_set() {
 END
 }
 
+# What the C example of every list prints: a list, yes whatever the own lists, RRP2; or the refusal.
+answers_every_list() {
+    local plan expected
+    while IFS='|' read -r plan expected; do
+        [ "$("$out/every_list" "$plan")" = "$expected" ] || { echo "embedding: every_list $plan is not: $expected"; return 1; }
+    done <<'END'
+examples/m3.plan|suspect with list 2 3
+tests/verdict/cycle-of-four.plan|suspect with list 4 5 6 7
+tests/verdict/cycle-of-four-role-5.plan|stable for every list
+tests/verdict/no-way-from-0-to-3.plan|stable for every list
+tests/verdict/nobody-listed-alone.plan|suspect with list 2 3
+tests/verdict/rrp2-suspect.plan|suspect with list 2 3
+tests/verdict/refused-13-five-parents.plan|refused 13
+END
+}
+
 # What the C example of the figures prints, its lines joined: of several lists, no stable one, lists of nobody,
 # 64 lists, RRP2; or the refusal.
 counts() {
@@ -282,7 +298,7 @@ own_tests() {
 }
 
 mkdir -p "$out"
-rm -f "$out/verdicts" "$out/compare" "$out/why" "$out/run" "$out/distances" "$out/convert" "$out/flush" "$out/steady" "$out/hop_set" "$out/grade" "$out/figures" "$out/stack"
+rm -f "$out/verdicts" "$out/compare" "$out/why" "$out/run" "$out/distances" "$out/convert" "$out/flush" "$out/steady" "$out/hop_set" "$out/grade" "$out/figures" "$out/every_list" "$out/stack"
 try "the library" rt staticlib rrp
 try "the header as C99" gcc -std=c99 -pedantic -Wall -Wextra -Werror -Iinclude -fsyntax-only -x c include/rrp.h
 try "the header as C++" g++ -std=c++11 -pedantic -Wall -Wextra -Werror -Iinclude -fsyntax-only -x c++ include/rrp.h
@@ -311,6 +327,8 @@ try "the C example of a grade" example grade
 try "the C example's grades" grades_lists
 try "the C example of the figures" example figures
 try "the C example's figures" counts
+try "the C example of every list" example every_list
+try "the C example's answers on every list" answers_every_list
 try "the C examples on a list of nobody" on_list_of_nobody
 try "the C examples as documented" prints_as_documented
 try "the library's size in a program" measures_size

@@ -8,7 +8,7 @@ cd "$(dirname "$0")/.."
 seed=${1:-4456}
 plans=300
 # So many unit tests there were when this was last set; fewer are a sign that some are not found.
-fewest=690
+fewest=695
 out=target/tool
 part=tool
 . tests/try.sh
@@ -33,14 +33,15 @@ second() {
 
 # Plans that the second checker writes come back from text as the same bytes, are judged by name and filed as it expects,
 # have the steady tables that the library lists, no smaller set to load the hop step on than it names, the figures
-# that their verdicts give, and the grades of their machines.
+# that their verdicts give, the grades of their machines, and lists that make them suspect.
 random_plans() {
     rm -rf "$out/plans"
     second write "$out/plans" --seed "$seed" --plans "$plans" >/dev/null || return 1
     [ "$(find "$out/plans" -name '*.plan' | wc -l)" -eq "$plans" ] || return 1
     export RRP_PLANS=$PWD/$out/plans
     unit_tests 1 -p test_roundtrip.py && unit_tests 1 -p test_filing.py && unit_tests 1 -p test_steady.py &&
-        unit_tests 1 -p test_hop_set.py && unit_tests 1 -p test_figures.py && unit_tests 1 -p test_grades.py
+        unit_tests 1 -p test_hop_set.py && unit_tests 1 -p test_figures.py && unit_tests 1 -p test_grades.py &&
+        unit_tests 1 -p test_always.py
 }
 
 # The command finds the example's suspect list, started from anywhere and by a link to it.

@@ -19,13 +19,13 @@ static uint8_t plan[RRP_MAX_PLAN + 1];
 static size_t length, router, other;
 static uint8_t labels[RRP_MAX_ROUTERS], ranks[RRP_MAX_ROUTERS], settled[RRP_MAX_TABLE], cycle[RRP_MAX_ROUTERS];
 static uint8_t table[RRP_MAX_TABLE], sequence[ACTIVATIONS], numbers[RRP_MAX_STEADY];
-static uint8_t by_rank[RRP_MAX_ROUTERS], by_router[RRP_MAX_ROUTERS];
+static uint8_t by_rank[RRP_MAX_ROUTERS], by_router[RRP_MAX_ROUTERS], clients[RRP_MAX_ROUTERS];
 static uint8_t links[4 * LINKS], body[2 * RRP_MAX_ROUTERS * RRP_MAX_ROUTERS];
 static uint8_t rrp1[RRP_MAX_PLAN], rrp2[RRP_MAX_PLAN], result[RRP_MAX_PLAN];
 static uint64_t rrp1_length, rrp2_length, written;
-static uint8_t refused, better, has_margin, relied, code, has_own, stable, graded, exhausted, has_highest;
+static uint8_t refused, better, has_margin, relied, code, has_own, stable, graded, exhausted, has_highest, answer;
 static uint64_t routers, lists, start, count, offer, own, found, tables, set, applied, rounds;
-static uint64_t stable_lists, suspect_lists, highest;
+static uint64_t stable_lists, suspect_lists, highest, named;
 static int64_t margin;
 
 static void nothing(void) {}
@@ -51,6 +51,7 @@ static void figures(void)
     refused = rrp_figures(plan, length, by_rank, sizeof by_rank, by_router, sizeof by_router, &stable_lists, &suspect_lists,
                           &has_highest, &highest);
 }
+static void every_list(void) { refused = rrp_every_list(plan, length, &answer, clients, sizeof clients, &named); }
 static void activate(void) { refused = rrp_activate(plan, length, 0, router, table, sizeof table); }
 static void run(void)
 {
@@ -68,6 +69,7 @@ static const struct {
     { "rrp_relies", relies },       { "rrp_explain", explain }, { "rrp_verdict", verdict },   { "rrp_steady", steady },
     { "rrp_hop_set", hop_set },     { "rrp_grade", grade },     { "rrp_figures", figures },   { "rrp_activate", activate },
     { "rrp_run", run },             { "rrp_distances", distances }, { "rrp_widen", widen },   { "rrp_narrow", narrow },
+    { "rrp_every_list", every_list },
 };
 
 /* Ends the program if the last call was refused. */

@@ -13,18 +13,19 @@ if TYPE_CHECKING:
     from .figures import Figures
     from .hop_sets import HopSet
     from .library import Refused
-    from .plan import Comparison, Explanation, Grade, Plan, Run, TooFarToNarrow
-    from .plan import TooManyGrouped, Verdict
+    from .plan import Comparison, EveryList, Explanation, Grade, Plan, Run
+    from .plan import TooFarToNarrow, TooManyGrouped, Verdict
     from .steady import Steady, SteadyTable
     from .tables import Route, Table
     from .text import TextErrors
 
 #: The version of the package, which `rrp --version` writes; pyproject.toml has it too.
-__version__ = "1.11.0"
+__version__ = "1.12.0"
 
 #: The names of the package, and the modules that they are of.
 _HOMES = {
     "Comparison": "plan",
+    "EveryList": "plan",
     "Explanation": "plan",
     "Figures": "figures",
     "Grade": "plan",

@@ -30,6 +30,7 @@ COMMANDS = {
     "hop-set": "name a smallest set of reflectors to load the hop step on",
     "run": "activate routers one by one, and say what changes",
     "sweep": "judge every failure of a link, a session or a router",
+    "always": "say whether any egress list can make a plan suspect",
     "diff": "compare two plans, or a plan with its changed self, by name",
     "lab": "boot a list as real routers, and compare with its verdict",
     "dot": "write who relies on whom, or the links, for Graphviz",

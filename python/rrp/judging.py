@@ -5,16 +5,18 @@ from __future__ import annotations
 from collections.abc import Iterator, Sequence
 from typing import NamedTuple, Union
 
+from .always import always_values
 from .output import count_words
 from .rest import GRADES, rest_of
-from .plan import ALWAYS_RESTS, Plan
+from .plan import ALWAYS_RESTS, EveryList, Plan
 from .plan_folders import Failed
 
 
 class Judged(NamedTuple):
     """A plan that was judged, by its file: how many lists it has, the names of those that are
     suspect, with the number of each one's grade, of those that are stable but leave routers without
-    a route, and of those among them that nobody is in."""
+    a route, and of those among them that nobody is in; and whether any list at all makes the plan
+    suspect."""
 
     path: str
     lists: int
@@ -22,6 +24,7 @@ class Judged(NamedTuple):
     grades: tuple[int | None, ...]
     lacking: tuple[str, ...]
     nobody: tuple[str, ...]
+    every_list: EveryList
 
     @property
     def word(self) -> str:
@@ -63,6 +66,7 @@ class Judged(NamedTuple):
             "grades": dict(zip(self.suspect, self.grades)),
             "lists_without_route": self.lacking,
             "lists_of_nobody": self.nobody,
+            **always_values(self.every_list),
         }
 
 
@@ -81,6 +85,7 @@ def judged(plan: Plan) -> Judged:
         grades=tuple(rest.number for rest in rests),
         lacking=tuple(each.name for each in verdicts if each.without_route),
         nobody=tuple(each.name for each in verdicts if each.nobody),
+        every_list=plan.every_list(),
     )
 
 

@@ -120,6 +120,14 @@ class Graded(NamedTuple):
     rounds: int
 
 
+class EveryListed(NamedTuple):
+    """Whether a plan is stable for every list: 1 yes, 0 no, 2 undecided. With a no `routers` has a
+    list for which it is suspect, else nobody."""
+
+    answer: int
+    routers: bytes
+
+
 class Ran(NamedTuple):
     """A run: the table that it left, the activations made, the rounds that ended among them, and
     whether the sequence is longer than the limit."""
@@ -147,6 +155,7 @@ PROTOTYPES = {
     "rrp_explain": (*_BYTES, _SIZE, _SIZE, _SIZE, *_WHY_OUT),
     "rrp_verdict": (*_BYTES, _SIZE, *_BYTES, *_BYTES, *_BYTES, *_BYTES, _FLAG_OUT, _LONG_OUT),
     "rrp_figures": (*_BYTES, *_BYTES, *_BYTES, _LONG_OUT, _LONG_OUT, _FLAG_OUT, _LONG_OUT),
+    "rrp_every_list": (*_BYTES, _FLAG_OUT, *_BYTES, _LONG_OUT),
     "rrp_activate": (*_BYTES, _SIZE, _SIZE, *_BYTES),
     "rrp_run": (*_BYTES, _SIZE, *_BYTES, _LONG, *_BYTES, _LONG_OUT, _LONG_OUT, _FLAG_OUT),
     "rrp_steady": (*_BYTES, _SIZE, *_BYTES, _LONG_OUT),
@@ -302,6 +311,14 @@ def figures(plan: bytes) -> Counted:
     written = by_rank.raw[: plan[4]], by_router.raw[: plan[4]]
     rank = highest.value if has_highest.value else None
     return Counted(stable.value, suspect.value, rank, *written)
+
+
+def every_list(plan: bytes) -> EveryListed:
+    """Whether a plan is stable for every list, whatever its own lists are (rrp_every_list)."""
+    answer, count = ctypes.c_uint8(), ctypes.c_uint64()
+    found = ctypes.create_string_buffer(MAX_ROUTERS)
+    _raise_if(library().rrp_every_list(plan, len(plan), answer, found, len(found), count))
+    return EveryListed(answer.value, found.raw[: count.value])
 
 
 def activate(plan: bytes, egresses: int, router: int, table: bytes) -> bytes:

@@ -6,6 +6,7 @@ import sys
 from argparse import Namespace
 from collections.abc import Iterable, Mapping, Sequence
 from shlex import join
+from types import MappingProxyType
 
 from .encoding import CLIENT, WIDE, has_step
 from .errors import RrpError
@@ -171,11 +172,15 @@ def cycle_words(cycle: Sequence[str]) -> str:
 
 
 def write_lists(
-    plan: Plan, verdicts: Iterable[Verdict], rests: Mapping[str, Rest | None]
+    plan: Plan,
+    verdicts: Iterable[Verdict],
+    rests: Mapping[str, Rest | None],
+    more: Mapping[str, object] = MappingProxyType({}),
 ) -> None:
-    """Writes as JSON what a plan is and its lists, with where suspect ones may rest, by name."""
+    """Writes as JSON what a plan is and its lists, with where suspect ones may rest, by name, and
+    what more there is to say of the plan."""
     lists = [list_values(each, rests[each.name]) for each in verdicts]
-    write_json({**plan_values(plan), "lists": lists, "notes": plan.notes})
+    write_json({**plan_values(plan), "lists": lists, **more, "notes": plan.notes})
 
 
 def list_values(verdict: Verdict, rest: Rest | None) -> dict[str, object]:

@@ -67,6 +67,10 @@ _KEEP = (
     "is as far; never round, or a suspect list may look stable",
 )
 
+#: The answers on every list, by the library's number.
+YES, NO, UNDECIDED = "yes", "no", "undecided"
+EVERY_LIST = {1: YES, 0: NO, 2: UNDECIDED}
+
 #: The grades of a list, by the library's number.
 ALWAYS_RESTS, CAN_REST, CANNOT_REST, NO_TABLE = 1, 2, 3, 4
 
@@ -159,6 +163,15 @@ class Grade(NamedTuple):
 
     number: int
     rounds: int | None
+
+
+class EveryList(NamedTuple):
+    """Whether a plan is stable for every egress list, its own lists and any other: `answer` is
+    `yes`, `no` or `undecided`. With a no `routers` has a list for which the plan is suspect; it is
+    empty with another answer. Undecided, no such list was found, and some may exist."""
+
+    answer: str
+    routers: tuple[str, ...]
 
 
 class Run(NamedTuple):
@@ -491,6 +504,11 @@ class Plan:
         from .figures import figures_of
 
         return figures_of(self)
+
+    def every_list(self) -> EveryList:
+        """Whether the plan is stable for every egress list whatever. Its own lists play no part."""
+        found = library.every_list(self.data)
+        return EveryList(EVERY_LIST[found.answer], self._at(found.routers))
 
     def steady_numbers(self, egress_list: Which) -> tuple[int, ...]:
         """The numbers of all tables of a list that no activation changes, rising. Bit i of a number

@@ -11,10 +11,11 @@ from itertools import combinations
 from typing import NamedTuple
 
 from . import library
+from .always import always_values
 from .cores import on_all_cores
 from .failures import ROUTER, Failure, without
 from .library import NONE, Assessed
-from .plan import ALWAYS_RESTS, Plan
+from .plan import ALWAYS_RESTS, EVERY_LIST, YES, EveryList, Plan
 from .rest import Rest, rest_in
 from .text.assembly import bytes_of
 
@@ -69,10 +70,12 @@ class Outcome(NamedTuple):
 
 class Judged(NamedTuple):
     """What fails, and what that does to the lists: to each that was suspect before, and to those
-    whose verdict or egresses are others with it."""
+    whose verdict or egresses are others with it. And whether any list makes the plan suspect then,
+    if that is asked."""
 
     failures: tuple[Failure, ...]
     outcomes: tuple[Outcome, ...]
+    every_list: EveryList | None = None
 
     @property
     def words(self) -> str:
@@ -105,6 +108,7 @@ class Judged(NamedTuple):
             "failures": [each.values() for each in self.failures],
             "kind": self.kind,
             "lists": [each.values() for each in self.outcomes],
+            **({} if self.every_list is None else always_values(self.every_list)),
         }
 
 
@@ -125,10 +129,11 @@ class NotJudged(NamedTuple):
 
 
 class Sweep:
-    """A plan whose failures are judged, for some of its lists."""
+    """A plan whose failures are judged, for some of its lists and, if that is asked, for every list
+    whatever."""
 
-    def __init__(self, plan: Plan, lists: Sequence[int]) -> None:
-        self.plan, self.lists = plan, lists
+    def __init__(self, plan: Plan, lists: Sequence[int], always: bool = False) -> None:
+        self.plan, self.lists, self.always = plan, lists, always
         self.draft = plan.draft
         self.before = {number: library.verdict(plan.data, number) for number in lists}
 
@@ -142,13 +147,20 @@ class Sweep:
             self.plan.router_number(each.routers[0]) for each in failures if each.kind == ROUTER
         }
         found = (self._outcome(number, data, failed) for number in self.lists)
-        return Judged(failures, tuple(each for each in found if each is not None))
+        outcomes = tuple(each for each in found if each is not None)
+        return Judged(failures, outcomes, self._every_list(data) if self.always else None)
 
     def judge_all(
         self, failures: Sequence[tuple[Failure, ...]], processes: int | None = None
     ) -> Iterator[Judged | NotJudged]:
         """What each of some failures does, on all cores. It comes in any order."""
         return on_all_cores(self.judge, list(failures), processes)
+
+    def _every_list(self, data: bytes) -> EveryList:
+        """Whether any list makes the plan suspect whose bytes without what fails are these."""
+        found = library.every_list(data)
+        routers = tuple(self.plan.routers[each] for each in found.routers)
+        return EveryList(EVERY_LIST[found.answer], routers)
 
     def _outcome(self, number: int, data: bytes, failed: set[int]) -> Outcome | None:
         """What failures do to a list of the plan, whose bytes without them are these; None if it
@@ -191,6 +203,11 @@ def _routes(
         elif now != was and NONE not in (was, now):
             moved.append((router, was, now))
     return lost, moved
+
+
+def loses(judged: Judged) -> bool:
+    """Whether with what fails it is not known that no list makes the plan suspect."""
+    return judged.every_list is not None and judged.every_list.answer != YES
 
 
 def pairs_of(failures: Iterable[Failure]) -> list[tuple[Failure, ...]]:

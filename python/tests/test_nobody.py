@@ -203,7 +203,9 @@ class Commands(InFolder):
             answer = rrp("check", "x.rrp")
             words = f"stable: highest rank {rounds - 2}, settles within {rounds} rounds"
             due = [f"gone  {words}", f"      {flushed(rounds)}", f"      {LISTED}"]
-            self.assertEqual((answer.status, answer.output.splitlines()[1:]), (0, due), text)
+            *lines, every_list = answer.output.splitlines()[1:]
+            self.assertEqual((answer.status, lines), (0, due), text)
+            self.assertEqual(every_list, "no egress list can make this plan suspect")
             self.assertEqual(rrp("check", "x.rrp", "--strict").status, 1, text)
             (values,) = json.loads(rrp("check", "x.rrp", "--json").output)["lists"]
             self.assertEqual((values["list"], values["routers"]), ("gone", []))

@@ -29,7 +29,7 @@ use Rattle.graph_cycle.specs.Cycle.{start, next, walk, metAgainAt, metFirstAt, 
 use Rattle.route_theorems.specs.Settled.{chooseAll, chosenAfter, settledTable}
 use Rattle.net_tables.specs.TableBytes.{readRoute, tableOf, tableBytes, activateBytes, runBytes}
 use Rattle.call_rules.specs.Refusals.{egressListRefusal, compareRefusal, reliesRefusal, buffersOk, verdictRefusal}
-use Rattle.call_rules.specs.Refusals.{tableChecks, sequenceOk, activateRefusal, runRefusal, countsOk, figuresRefusal}
+use Rattle.call_rules.specs.Refusals.{tableChecks, sequenceOk, activateRefusal, runRefusal, countsOk, figuresRefusal, everyListRefusal}
 use Rattle.call_compare.specs.Compare.{whichBetter, hasMargin, marginNumber}
 use Rattle.call_run.specs.Activate.{activateTable}
 use Rattle.route_explain_rules.specs.Explained.{againstOwn, byOffer, onReflector, onClient, explained}
@@ -52,7 +52,11 @@ use Rattle.grade_rules.specs.Grade.{grade, restRounds, gradeRounds}
 use Rattle.call_steady.specs.Steady.{numberBytes, numbersAfter}
 use Rattle.figures_rules.specs.Figures.{stableLists, suspectLists, highestStable, stableWith, groupedLists, figuresOf}
 use Rattle.call_figures.specs.Figures.{rankCounts, routerCounts, rankCountsLeft, routerCountsLeft, rankCountsAfter, routerCountsAfter}
-use Rattle.c_rules.specs.Examples.{twoRouters, ExportExamples, ConvertExportExamples, SteadyExportExamples, HopSetExportExamples, GradeExportExamples, FiguresExportExamples}
+use Rattle.everylist_rules.specs.Pairs as pairing
+use Rattle.everylist_rules.specs.Pairs.{isPair, leadsTo, leftAfter, left, foreign, nearestForeign, found}
+use Rattle.everylist_rules.specs.EveryList.{noneLeft, everyList, suspectList}
+use Rattle.call_everylist.specs.EveryList.{listAfter}
+use Rattle.c_rules.specs.Examples.{twoRouters, ExportExamples, ConvertExportExamples, SteadyExportExamples, HopSetExportExamples, GradeExportExamples, FiguresExportExamples, EveryListExportExamples}
 
 pub export-examples : ExportExamples
 unfolding
@@ -186,4 +190,20 @@ figures-export-examples =
       absent = λ r k w a b p h e. (e .numbered, e .stable-are, e .suspect-are, e .flagged, e .ranked, e .byRank, e .byRouter);
       zero = λ r k w a b p h e. (e .numbered, e .stable-are, e .suspect-are, e .flagged, e .ranked, e .byRank, e .byRouter);
       refusedFigures = λ r k w a b p h e. (e .numbered, e .stable-are, e .suspect-are, e .flagged, e .ranked, e .byRank, e .byRouter);
+    }
+
+pub every-list-export-examples : EveryListExportExamples
+unfolding
+    fourRouters smallPlan M3Plan everyListRefusal listAfter numbersWhere
+    isPair leadsTo leftAfter left foreign nearestForeign pairing.walk found noneLeft everyList suspectList
+    together label stable grouped closing listedClientOf bestClient offer betterOffer relies nearer hasStep hops prefers
+    pairs inSession named refuse bodyChecks planChecks
+    markOk headerOk routerCountOk kindsOk placesOk sizesOk contentsOk routerOk routersOk sessionOk sessionsOk
+    parentCount fewParents parentsOk count distancesOk
+    listPlace memberOk listAtOk listOk eachListOk listsOk allBelow anyBelow keepBest best seek highest tab
+every-list-export-examples =
+    record {
+      yesForC = λ r a c l e. (e .numbered, e .answered, e .bytes, e .counted);
+      noForC = λ r a c l e. (e .numbered, e .answered, e .bytes, e .counted);
+      refusedEveryList = λ r a c l e. (e .numbered, e .answered, e .bytes, e .counted);
     }

@@ -12,7 +12,7 @@ use Rattle.plan_rules.specs.ConvertedExamples.{withNarrow, withWide}
 use Rattle.links_rules.specs.Distances.{DistancesCall}
 use Rattle.call_run.specs.Activate.{Activates}
 use Rattle.c_rules.specs.Exports.{SizeExport, ListExport, CompareExport, ReliesExport, ExplainExport, VerdictExport, SteadyExport, HopSetExport, GradeExport, RunExport}
-use Rattle.c_rules.specs.Exports.{WidenExport, NarrowExport, FiguresExport}
+use Rattle.c_rules.specs.Exports.{WidenExport, NarrowExport, FiguresExport, EveryListExport}
 
 -- two clients without a session; no way from 0 to 1, and back it is 7
 unfoldable pub twoRouters : List ℕ
@@ -242,3 +242,14 @@ pub record FiguresExportExamples : Type 0 where
       → FiguresExport M3Plan r (from five ranks) (from (9 ∷ 9 ∷ 9 ∷ []) routers) stable suspect hasHighest highest
       → (r ≡ 9) × (stable .after ≡ stable .before) × (suspect .after ≡ suspect .before) × (hasHighest .after ≡ hasHighest .before)
       × (highest .after ≡ highest .before) × (ranks ≡ five) × (routers ≡ 9 ∷ 9 ∷ 9 ∷ [])
+
+pub record EveryListExportExamples : Type 0 where
+  -- M1's distances: yes, no list, and the buffer is left as it was
+  pub yesForC : (r : ℕ) (answer count : Lent ℕ) (list : List ℕ) → EveryListExport (smallPlan 14 14 (1 ∷ 1 ∷ 2 ∷ [])) r answer (from five list) count
+      → (r ≡ 0) × (answer .after ≡ 1) × (list ≡ five) × (count .after ≡ 0)
+  -- M3's: no, with list 2,3
+  pub noForC : (r : ℕ) (answer count : Lent ℕ) (list : List ℕ) → EveryListExport M3Plan r answer (from five list) count
+      → (r ≡ 0) × (answer .after ≡ 0) × (list ≡ 2 ∷ 3 ∷ 9 ∷ 9 ∷ 9 ∷ []) × (count .after ≡ 2)
+  -- three bytes for four routers: number 9, and everything is left as it was
+  pub refusedEveryList : (r : ℕ) (answer count : Lent ℕ) (list : List ℕ) → EveryListExport M3Plan r answer (from (9 ∷ 9 ∷ 9 ∷ []) list) count
+      → (r ≡ 9) × (answer .after ≡ answer .before) × (list ≡ 9 ∷ 9 ∷ 9 ∷ []) × (count .after ≡ count .before)

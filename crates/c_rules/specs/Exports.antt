@@ -20,7 +20,7 @@ use Rattle.plan_rules.specs.Converted.{converted, widenRefusal, narrowRefusal}
 use Rattle.steady_rules.specs.Steady.{steadyCount}
 use Rattle.hopset_rules.specs.HopSet.{hopSet}
 use Rattle.grade_rules.specs.Grade.{grade, gradeRounds}
-use Rattle.call_rules.specs.Refusals.{egressListRefusal, compareRefusal, reliesRefusal, verdictRefusal, steadyRefusal, hopSetRefusal, gradeRefusal, runRefusal, figuresRefusal}
+use Rattle.call_rules.specs.Refusals.{egressListRefusal, compareRefusal, reliesRefusal, verdictRefusal, steadyRefusal, hopSetRefusal, gradeRefusal, runRefusal, figuresRefusal, everyListRefusal}
 use Rattle.call_compare.specs.Compare.{whichBetter, hasMargin, marginNumber}
 use Rattle.route_explain_rules.specs.declared.explanation.Values.{Values}
 use Rattle.route_explain_rules.specs.Explained.{explained}
@@ -30,6 +30,8 @@ use Rattle.call_verdict.specs.Verdict.{sizeOf, labelsAfter, ranksAfter, tableAf
 use Rattle.call_steady.specs.Steady.{numbersAfter}
 use Rattle.call_run.specs.Run.{runApplied, runRounds, runExhausted, runTable}
 use Rattle.call_convert.specs.Convert.{convertBuffer}
+use Rattle.everylist_rules.specs.EveryList.{everyList, suspectList}
+use Rattle.call_everylist.specs.EveryList.{networkOf, listAfter}
 use Rattle.call_figures.specs.Figures.{planFigures, rankCountsAfter, routerCountsAfter, hasRank, rankOf}
 
 -- a result variable of a call whose refusal is `number`: "unchanged" if refused, else the value
@@ -165,3 +167,14 @@ pub record FiguresWritten (number : ℕ) (plan : List ℕ) (r : ℕ) (ranks rout
 abbrev pub FiguresExport : (plan : List ℕ) (r : ℕ) (ranks routers : Lent (List ℕ)) (stable suspect hasHighest highest : Lent ℕ) → Type 0
 FiguresExport plan r ranks routers =
     FiguresWritten (figuresRefusal plan (ranks .before) (routers .before)) plan r ranks routers
+
+-- rrp_every_list: 1 for yes, 0 for no, 2 for undecided; every byte of the buffer for a list; how many routers the list has, 0 where there is
+-- none. `number` is the call's refusal.
+pub record EveryListWritten (number : ℕ) (plan : List ℕ) (r : ℕ) (answer : Lent ℕ) (list : Lent (List ℕ)) (count : Lent ℕ) : Type 0 where
+  pub numbered : r ≡ number
+  pub answered : VariableHolds number answer (everyList (networkOf plan))
+  pub bytes : list .after ≡ listAfter number (networkOf plan) (list .before)
+  pub counted : VariableHolds number count (length (suspectList (networkOf plan)))
+
+abbrev pub EveryListExport : (plan : List ℕ) (r : ℕ) (answer : Lent ℕ) (list : Lent (List ℕ)) (count : Lent ℕ) → Type 0
+EveryListExport plan r answer list = EveryListWritten (everyListRefusal plan (list .before)) plan r answer list

@@ -7,7 +7,7 @@ ghost use mathlib.Core.List.{List};
 ghost use Prim.Native.Nat.{ℕ, _*_, _≤_, _<_};
 ghost use Rattle.plan_read.specs.Checked.{Checked};
 ghost use Rattle.net_rules.specs.Decoded.{decoded};
-ghost use Rattle.call_rules.specs.Refusals.{buffersOk, verdictRefusal, tableChecks, figuresRefusal};
+ghost use Rattle.call_rules.specs.Refusals.{buffersOk, verdictRefusal, tableChecks, figuresRefusal, everyListRefusal};
 
 fn buffers_ok(n: usize, labels: &[u8], ranks: &[u8], table: &[u8], cycle: &[u8]) -> bool
     requires { ⌜ n < 256 ⌝ }
@@ -74,6 +74,19 @@ pub fn figures_refusal(checked: CheckedPlan, ranks: &[u8], routers: &[u8]) -> u8
         return 9;
     }
     if routers.len() < n {
+        return 9;
+    }
+    0
+}
+
+// Rows up to 9 of the call on every list, which is lent a buffer for a list.
+pub fn every_list_refusal(checked: CheckedPlan, list: &[u8]) -> u8
+    ensures { λ r. ⌜ ((plan : List ℕ) → Checked plan checked → r ≡ everyListRefusal plan (now (list .entry))) ⌝ }
+{
+    if checked.refused != 0 {
+        return checked.refused;
+    }
+    if list.len() < checked.n as usize {
         return 9;
     }
     0

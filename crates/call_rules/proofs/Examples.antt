@@ -24,14 +24,14 @@ use Rattle.steady_rules.specs.OwnRoutes.{overruled, keepsOwn}
 use Rattle.steady_rules.specs.Steady.{steadyNumbers}
 use Rattle.net_rules.specs.FromPlan.{named}
 use Rattle.net_tables.specs.TableBytes.{readRoute, tableOf}
-use Rattle.call_rules.specs.Refusals.{sequenceOk, egressListRefusal, compareRefusal, reliesRefusal, buffersOk, verdictRefusal, steadyChecks, steadyRefusal, hopSetRefusal, gradeRefusal, tableChecks, activateRefusal, runRefusal, countsOk, figuresRefusal}
+use Rattle.call_rules.specs.Refusals.{sequenceOk, egressListRefusal, compareRefusal, reliesRefusal, buffersOk, verdictRefusal, steadyChecks, steadyRefusal, hopSetRefusal, gradeRefusal, tableChecks, activateRefusal, runRefusal, countsOk, figuresRefusal, everyListRefusal}
 use Rattle.call_rules.specs.Examples.{lent, broken, short, three, two, crossed, RefusalsExamples}
 
 pub refusals-examples : RefusalsExamples
 unfolding
     threeRouters lent broken short three two crossed
     sequenceOk egressListRefusal compareRefusal reliesRefusal buffersOk verdictRefusal
-    steadyChecks steadyRefusal hopSetRefusal gradeRefusal tableChecks activateRefusal runRefusal countsOk figuresRefusal
+    steadyChecks steadyRefusal hopSetRefusal gradeRefusal tableChecks activateRefusal runRefusal countsOk figuresRefusal everyListRefusal
     readRoute tableOf entryOk tableOk pairs inSession named refuse bodyChecks planChecks
     markOk headerOk routerCountOk kindsOk placesOk sizesOk contentsOk routerOk routersOk sessionOk sessionsOk
     parentCount fewParents parentsOk count distancesOk
@@ -70,9 +70,12 @@ refusals-examples =
       countsLong = refl;
       rankCountsShort = refl;
       routerCountsShort = refl;
+      everyListLong = refl;
+      everyListShort = refl;
       tableBroken = refl;
       eightBeforeNine = refl;
       eightBeforeNineOfAVerdict = refl;
       planBeforeNine = refl;
+      planBeforeNineOfEveryList = refl;
       eightBeforeTen = refl;
     }

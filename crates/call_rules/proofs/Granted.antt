@@ -23,9 +23,9 @@ use Rattle.net_rules.specs.FromPlan.{instanceOf}
 use Rattle.net_rules.specs.Opened.{Opened}
 use Rattle.net_tables.specs.TableBytes.{TableIn}
 use Rattle.steady_rules.specs.Steady.{groupedRouters, steadyCount}
-use Rattle.call_rules.specs.Refusals.{hasList, sequenceOk, askedChecks, fewGrouped, egressListRefusal, compareRefusal, reliesRefusal, routerRefusal, sequenceRefusal, buffersOk, verdictRefusal, steadyRefusal, hopSetRefusal, gradeRefusal, tableChecks, countsOk, figuresRefusal}
+use Rattle.call_rules.specs.Refusals.{hasList, sequenceOk, askedChecks, fewGrouped, egressListRefusal, compareRefusal, reliesRefusal, routerRefusal, sequenceRefusal, buffersOk, verdictRefusal, steadyRefusal, hopSetRefusal, gradeRefusal, tableChecks, countsOk, figuresRefusal, everyListRefusal}
 use Rattle.call_rules.specs.InOrder.{InOrder}
-use Rattle.call_rules.proofs.InOrder.{asked-in-order, list-in-order, compare-in-order, relies-in-order, verdict-in-order, steady-in-order, hop-set-in-order, grade-in-order, figures-in-order}
+use Rattle.call_rules.proofs.InOrder.{asked-in-order, list-in-order, compare-in-order, relies-in-order, verdict-in-order, steady-in-order, hop-set-in-order, grade-in-order, figures-in-order, every-list-in-order}
 
 pub few-routers : (plan : List ℕ) → planRefusal plan ≡ 0 → routerCount plan ≤ 64
 few-routers plan h = passed plan h .count .most
@@ -204,6 +204,15 @@ figures-asked plan ranks routers h =
     let g = granted (figures-in-order plan ranks routers) h in
     let q : (routerCount plan ≤ length ranks) × (routerCount plan ≤ length routers) = simp facts at (g .longOk) in
     record { planOk = g .planOk; ranksLong = q .0; routersLong = q .1 }
+
+pub record EveryListAsked (plan list : List ℕ) : Type 0 where
+  pub planOk : planRefusal plan ≡ 0
+  pub long : routerCount plan ≤ length list
+
+pub every-list-asked : (plan list : List ℕ) → everyListRefusal plan list ≡ 0 → EveryListAsked plan list
+every-list-asked plan list h =
+    let g = granted (every-list-in-order plan list) h in
+    record { planOk = g .planOk; long = leb-true _ _ (g .longOk) }
 
 pub table-asked : (I : Instance) (table : List ℕ) → tableChecks I table ≡ 0 → TableIn I table
 unfolding tableChecks

@@ -8,7 +8,7 @@ use Rattle.plan_rules.proofs.Cascade.{plan-passes, plan-refused}
 use Rattle.route_rules.specs.Instance.{Instance}
 use Rattle.net_rules.specs.FromPlan.{instanceOf}
 use Rattle.net_tables.specs.TableBytes.{tableRule}
-use Rattle.call_rules.specs.Refusals.{hasList, hasRouter, sequenceOk, askedChecks, egressListRefusal, compareRefusal, reliesRefusal, buffersOk, verdictRefusal, fewGrouped, numbersLong, steadyChecks, steadyRefusal, hopSetRefusal, gradeRefusal, tableLong, tableChecks, activateRefusal, runRefusal, countsOk, figuresRefusal}
+use Rattle.call_rules.specs.Refusals.{hasList, hasRouter, sequenceOk, askedChecks, egressListRefusal, compareRefusal, reliesRefusal, buffersOk, verdictRefusal, fewGrouped, numbersLong, steadyChecks, steadyRefusal, hopSetRefusal, gradeRefusal, tableLong, tableChecks, activateRefusal, runRefusal, countsOk, figuresRefusal, listLong, everyListRefusal}
 use Rattle.call_rules.specs.InOrder.{InOrder}
 
 in-order : (plan : List ℕ) (ok few long rule : Bool)
@@ -64,6 +64,10 @@ module _ (plan : List ℕ) where
       → InOrder plan true true (countsOk (routerCount plan) ranks routers) true (figuresRefusal plan ranks routers)
   unfolding figuresRefusal refuse
   figures-in-order ranks routers = in-order plan true true _ true
+
+  pub every-list-in-order : (list : List ℕ) → InOrder plan true true (listLong plan list) true (everyListRefusal plan list)
+  unfolding everyListRefusal refuse
+  every-list-in-order list = in-order plan true true _ true
 
   -- the two calls on a table
   module _ (k : ℕ) (table : List ℕ) where

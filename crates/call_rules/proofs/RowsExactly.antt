@@ -22,10 +22,10 @@ use Rattle.net_rules.specs.FromPlan.{instanceOf}
 use Rattle.net_tables.specs.TableBytes.{readRoute, tableOf, tableRule}
 use Rattle.steady_rules.specs.Steady.{groupedRouters, steadyCount}
 use Rattle.net_tables.proofs.TableBytes.{entry-other, entry-itself, entry-none, entry-far, entry-near, table-held}
-use Rattle.call_rules.specs.Refusals.{hasList, hasRouter, sequenceOk, buffersOk, fewGrouped, numbersLong, countsOk}
+use Rattle.call_rules.specs.Refusals.{hasList, hasRouter, sequenceOk, buffersOk, fewGrouped, numbersLong, countsOk, listLong}
 use Rattle.call_rules.specs.InOrder.{InOrder}
 use Rattle.call_rules.specs.RowsExactly.{RowsExactly, BuffersLong, egressAt, senderAt, TableFacts, CallRows}
-use Rattle.call_rules.proofs.InOrder.{list-in-order, compare-in-order, relies-in-order, verdict-in-order, steady-in-order, hop-set-in-order, grade-in-order, activate-in-order, run-in-order, figures-in-order}
+use Rattle.call_rules.proofs.InOrder.{list-in-order, compare-in-order, relies-in-order, verdict-in-order, steady-in-order, hop-set-in-order, grade-in-order, activate-in-order, run-in-order, figures-in-order, every-list-in-order}
 
 -- no row of a plan's own has the number of a call's
 plan-no-call : (plan : List ℕ) → 8 ≤ planRefusal plan → (planRefusal plan ≡ 13 → ⊥) → ⊥
@@ -251,6 +251,9 @@ module _ (plan : List ℕ) where
         holds = λ h. both _ _ (le-leb n _ (h .0)) (le-leb n _ (h .1));
       }
 
+  list-long-tested : (list : List ℕ) → Tested (n ≤ length list) (listLong plan list)
+  list-long-tested list = record { shown = leb-true _ _; holds = le-leb _ _ }
+
   long-tested : (table : List ℕ) → Tested (2 * n ≤ length table) (leb (2 * n) (length table))
   long-tested table = record { shown = leb-true _ _; holds = le-leb _ _ }
 
@@ -276,4 +279,5 @@ module _ (plan : List ℕ) where
             exactly plan _ _ _ _ _ (run-in-order plan k table acts) (sequence-tested k acts) unasked (long-tested table) (rule-tested k table);
         figures = λ ranks routers.
             exactly plan _ _ _ _ _ (figures-in-order plan ranks routers) unasked unasked (counts-tested ranks routers) (λ _. unasked);
+        everyList = λ list. exactly plan _ _ _ _ _ (every-list-in-order plan list) unasked unasked (list-long-tested list) (λ _. unasked);
       }

@@ -7,7 +7,7 @@ use mathlib.Core.List.{List, [], _∷_}
 use lib.Dec.{ltb, eqb}
 use Rattle.plan_examples.specs.Plans.{threeRouters}
 use Rattle.route_rules.specs.Instance.{Instance}
-use Rattle.call_rules.specs.Refusals.{egressListRefusal, compareRefusal, reliesRefusal, verdictRefusal, fewGrouped, steadyRefusal, hopSetRefusal, gradeRefusal, activateRefusal, runRefusal, figuresRefusal}
+use Rattle.call_rules.specs.Refusals.{egressListRefusal, compareRefusal, reliesRefusal, verdictRefusal, fewGrouped, steadyRefusal, hopSetRefusal, gradeRefusal, activateRefusal, runRefusal, figuresRefusal, everyListRefusal}
 
 -- tables for list 0: one that obeys its rule, one in which 2 holds a route from 0, which is not its neighbour, and one of 5 bytes
 unfoldable pub lent : List ℕ
@@ -81,10 +81,14 @@ pub record RefusalsExamples : Type 0 where
   pub countsLong : figuresRefusal threeRouters three three ≡ 0  -- a byte more: 9
   pub rankCountsShort : figuresRefusal threeRouters two three ≡ 9  -- by the longer of the two: 0
   pub routerCountsShort : figuresRefusal threeRouters three two ≡ 9  -- by the counts by rank alone: 0
+  -- the call on every list needs n bytes for the list that it may give
+  pub everyListLong : everyListRefusal threeRouters three ≡ 0  -- a byte more: 9
+  pub everyListShort : everyListRefusal threeRouters two ≡ 9  -- no need of it: 0
   -- row 10: "a held-route table breaks its rule"
   pub tableBroken : activateRefusal threeRouters 0 0 broken ≡ 10  -- with any router as sender: 0
   -- "the first check in order that fails now decides" (document 02)
   pub eightBeforeNine : activateRefusal threeRouters 0 3 short ≡ 8  -- the last: 9
   pub eightBeforeNineOfAVerdict : verdictRefusal threeRouters 2 two three lent three ≡ 8  -- the last: 9
   pub planBeforeNine : figuresRefusal [] two two ≡ 1  -- the last: 9
+  pub planBeforeNineOfEveryList : everyListRefusal [] [] ≡ 1  -- by the length alone: 0
   pub eightBeforeTen : runRefusal threeRouters 2 (0 ∷ []) broken ≡ 8  -- the last: 10

@@ -98,3 +98,11 @@ countsOk n ranks routers = leb n (length ranks) && leb n (length routers)
 
 unfoldable pub figuresRefusal : List ℕ → List ℕ → List ℕ → ℕ
 figuresRefusal plan ranks routers = planChecks plan (refuse (countsOk (routerCount plan) ranks routers) 9 0)
+
+-- Row 9: the call that asks whether every list is stable needs n bytes for the list that it may give. It takes no list and no router
+-- either: the plan's rows and row 9 alone stand for it.
+abbrev pub listLong : List ℕ → List ℕ → Bool
+listLong plan list = leb (routerCount plan) (length list)
+
+unfoldable pub everyListRefusal : List ℕ → List ℕ → ℕ
+everyListRefusal plan list = planChecks plan (refuse (listLong plan list) 9 0)

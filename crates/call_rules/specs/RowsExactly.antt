@@ -14,7 +14,7 @@ use Rattle.route_rules.specs.Instance.{Instance}
 use Rattle.route_rules.specs.Rounds.{ActsBelow}
 use Rattle.net_rules.specs.FromPlan.{instanceOf}
 use Rattle.steady_rules.specs.Steady.{groupedRouters, steadyCount}
-use Rattle.call_rules.specs.Refusals.{egressListRefusal, compareRefusal, reliesRefusal, verdictRefusal, steadyRefusal, hopSetRefusal, gradeRefusal, activateRefusal, runRefusal, figuresRefusal}
+use Rattle.call_rules.specs.Refusals.{egressListRefusal, compareRefusal, reliesRefusal, verdictRefusal, steadyRefusal, hopSetRefusal, gradeRefusal, activateRefusal, runRefusal, figuresRefusal, everyListRefusal}
 
 -- `number` is the refusal of a call on the plan: row 8 asks that `Asked` holds, row 15 that `Few` does, row 9 that `Long` does, row 10 that
 -- `Rule` does. `Unit` is for a row that does not stand for the call: nothing fails it.
@@ -80,3 +80,5 @@ pub record CallRows (plan : List ℕ) : Type 0 where
   pub figures : (ranks routers : List ℕ)
       → RowsExactly plan Unit Unit ((routerCount plan ≤ length ranks) × (routerCount plan ≤ length routers)) Unit
       (figuresRefusal plan ranks routers)
+  -- .. and so does the call on every list, which needs n bytes for the list that it may give
+  pub everyList : (list : List ℕ) → RowsExactly plan Unit Unit (routerCount plan ≤ length list) Unit (everyListRefusal plan list)

@@ -3,6 +3,7 @@
 pub use call_compare::compare;
 pub use call_convert::convert;
 pub use call_distances::distances;
+pub use call_everylist::every_list;
 pub use call_explain::explain;
 pub use call_figures::figures;
 pub use call_grade::grade;

@@ -4,7 +4,7 @@ use mathlib.Core.Path.{_≡_, refl, _∙_, sym, ap, ap₂}
 use mathlib.Core.Bool.{Bool, true, false, cond, _&&_}
 use mathlib.Core.List.{List, _++_}
 use mathlib.Core.Logic.{inl, inr}
-use lib.Dec.{ltb}
+use lib.Dec.{leb, ltb}
 use lib.ListN.{length, take, drop}
 use lib.Seq.{take-at}
 use borrow.Author.Tests.{ltb-true}
@@ -34,7 +34,7 @@ use Rattle.net_rules.specs.FromPlan.{instanceOf}
 use Rattle.net_rules.proofs.FromConverted.{converted-instance}
 use Rattle.net_tables.specs.TableBytes.{activateBytes, runBytes}
 use Rattle.net_verdict.specs.Assessed.{found, labelsLeft, ranksLeft, tableLeft, cycleLeft}
-use Rattle.call_rules.specs.Refusals.{sequenceOk, askedChecks, egressListRefusal, compareRefusal, reliesRefusal, verdictRefusal, buffersOk, steadyChecks, steadyRefusal, fewGrouped, hopSetRefusal, gradeRefusal, tableChecks, activateRefusal, runRefusal, countsOk, figuresRefusal}
+use Rattle.call_rules.specs.Refusals.{sequenceOk, askedChecks, egressListRefusal, compareRefusal, reliesRefusal, verdictRefusal, buffersOk, steadyChecks, steadyRefusal, fewGrouped, hopSetRefusal, gradeRefusal, tableChecks, activateRefusal, runRefusal, countsOk, figuresRefusal, everyListRefusal}
 use Rattle.call_rules.proofs.Granted.{list-asked, relies-asked, verdict-asked, steady-asked, hop-set-asked, grade-asked}
 use Rattle.call_query.specs.declared.size.SizeAnswer.{SizeAnswer}
 use Rattle.call_query.specs.declared.relies.ReliesAnswer.the-variants as reliances
@@ -59,8 +59,13 @@ use Rattle.net_grade.specs.Grades.{gradeNamed}
 use Rattle.call_grade.specs.declared.grade.GradeAnswer.the-variants as gradings
 use Rattle.call_grade.specs.Grade.{gradeAnswer}
 use Rattle.call_steady.specs.Steady.{numberBytes, steadyAnswer, numbersAfter, SteadyCall}
+use Rattle.everylist_rules.specs.EveryList.{withList, everyList, suspectList}
 use Rattle.figures_rules.specs.Figures.{stableWith, groupedLists, figuresOf}
 use Rattle.figures_rules.proofs.SameLists.{figures-same, ranks-same, routers-same}
+use Rattle.call_everylist.specs.declared.every_list.EveryListAnswer.{EveryListAnswer}
+use Rattle.call_everylist.specs.declared.every_list.EveryListAnswer.the-variants as everies
+use Rattle.call_everylist.specs.EveryList as asked
+use Rattle.call_everylist.specs.EveryList.{everyListAnswer, listAfter, EveryListCall}
 use Rattle.call_figures.specs.declared.figures.FiguresAnswer.{FiguresAnswer}
 use Rattle.call_figures.specs.declared.figures.FiguresAnswer.the-variants as figures
 use Rattle.call_figures.specs.Figures.{planFigures, rankCounts, routerCounts, rankCountsLeft, routerCountsLeft, figuresAnswer, rankCountsAfter, routerCountsAfter, FiguresCall}
@@ -238,6 +243,27 @@ module _ (plan result : List ℕ) (ok : planRefusal plan ≡ 0) (ok′ : planRef
         s′ .byRouter ∙ ap₂ (λ x l. unlessRefused x routers l) same (routers-counted routers) ∙ sym (s .byRouter),
       )
 
+  -- whether every list is stable, of the same network
+  every-list-refusal : (list : List ℕ) → everyListRefusal result list ≡ everyListRefusal plan list
+  unfolding everyListRefusal
+  every-list-refusal list =
+      plan-passes result _ ok′ ∙ ap (λ n. refuse (leb n (length list)) 9 0) count ∙ sym (plan-passes plan _ ok)
+
+  same-every-list : (list : List ℕ) (r r′ : EveryListAnswer) (after after′ : List ℕ) → EveryListCall plan r (left list after)
+      → EveryListCall result r′ (left list after′) → (r′ ≡ r) × (after′ ≡ after)
+  unfolding everyListAnswer listAfter
+  same-every-list list r r′ after after′ s s′ =
+      let same = every-list-refusal list in (
+        s′ .answer
+            ∙ by-network 0 _ _ everies.Refused
+            (λ I. asked.answerOf (everyList (withList I (λ v. false))) (length (suspectList (withList I (λ v. false))))) same (λ z. some-list)
+            ∙ sym (s .answer),
+        s′ .written
+            ∙ by-network 0 _ _ (λ x. list)
+            (λ I. suspectList (withList I (λ v. false)) ++ drop (length (suspectList (withList I (λ v. false)))) list) same (λ z. some-list)
+            ∙ sym (s .written),
+      )
+
   pub same-calls : SameCalls plan result
   unfolding relied compared hopSetAnswer gradeAnswer activateTable
   same-calls =
@@ -275,6 +301,7 @@ module _ (plan result : List ℕ) (ok : planRefusal plan ≡ 0) (ok′ : planRef
             ∙ by-network k _ _ sets.Refused (λ I. sets.Named (hopSet I)) (hop-set-refusal k) (λ z. hop-set-asked plan k z .list)
             ∙ sym (s .answer);
         figures = same-figures;
+        everyList = same-every-list;
         activate =
             λ k w table r r′ after after′ s s′. (
               s′ .number ∙ activate-refusal k w table ∙ sym (s .number),

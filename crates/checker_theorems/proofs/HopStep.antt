@@ -207,7 +207,7 @@ step-breaks-cycles plan k h =
     }
 
 module _ (plan : List ℕ) (h : AllHaveStep plan) where
-  all-hop : network.EveryReflectorSteps (instanceOf plan 0)
+  pub all-hop : network.EveryReflectorSteps (instanceOf plan 0)
   all-hop w l r =
       ⊎-elim
       (λ (e : role (routersBody plan) w ≡ 2).

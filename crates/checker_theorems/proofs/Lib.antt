@@ -23,3 +23,6 @@ pub mod HopSetsExamples
 pub mod Figures
 pub mod Grades
 pub mod GradesExamples
+pub mod ListedPlans
+pub mod EveryList
+pub mod EveryListCallExamples

@@ -9,6 +9,7 @@ use Rattle.call_verdict.specs.Verdict.{verdictAnswer, labelsAfter, ranksAfter, 
 use Rattle.call_steady.specs.Steady.{steadyAnswer, numbersAfter}
 use Rattle.call_hopset.specs.HopSet.{hopSetAnswer}
 use Rattle.call_grade.specs.Grade.{gradeAnswer}
+use Rattle.call_everylist.specs.EveryList.{everyListAnswer, listAfter}
 use Rattle.call_figures.specs.Figures.{figuresAnswer, rankCountsAfter, routerCountsAfter}
 use Rattle.call_run.specs.Activate.{activateTable}
 use Rattle.call_run.specs.Run.{runApplied, runRounds, runExhausted, runTable}
@@ -20,7 +21,7 @@ pub refused-calls : RefusedCalls
 unfolding
     egressListStart egressListSize sizeRouters sizeLists verdictAnswer labelsAfter ranksAfter tableAfter cycleAfter
     steadyAnswer numbersAfter hopSetAnswer gradeAnswer activateTable runApplied runRounds runExhausted runTable convertLength convertBuffer
-    figuresAnswer rankCountsAfter routerCountsAfter
+    figuresAnswer rankCountsAfter routerCountsAfter everyListAnswer listAfter
 refused-calls =
     record {
       list = λ plan k part s ne. (
@@ -56,6 +57,12 @@ refused-calls =
         s .highest ∙ when-refused _ _ _ ne,
         s .byRank ∙ when-refused _ _ _ ne,
         s .byRouter ∙ when-refused _ _ _ ne,
+      );
+      everyList = λ plan r list s ne. (
+        s .answer ∙ when-refused _ _ _ ne,
+        s .answered ∙ when-refused _ _ _ ne,
+        s .counted ∙ when-refused _ _ _ ne,
+        s .written ∙ when-refused _ _ _ ne,
       );
       activate = λ plan k w table r after s ne. (s .number, s .bytes ∙ when-refused _ _ _ ne);
       run = λ plan k acts limit table r after s ne. (

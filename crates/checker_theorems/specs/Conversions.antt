@@ -29,6 +29,8 @@ use Rattle.call_hopset.specs.declared.hop_set.HopSetAnswer.{HopSetAnswer}
 use Rattle.call_hopset.specs.HopSet.{HopSetCall}
 use Rattle.call_grade.specs.declared.grade.GradeAnswer.{GradeAnswer}
 use Rattle.call_grade.specs.Grade.{GradeCall}
+use Rattle.call_everylist.specs.declared.every_list.EveryListAnswer.{EveryListAnswer}
+use Rattle.call_everylist.specs.EveryList.{EveryListCall}
 use Rattle.call_figures.specs.declared.figures.FiguresAnswer.{FiguresAnswer}
 use Rattle.call_figures.specs.Figures.{FiguresCall}
 use Rattle.call_run.specs.declared.run.RunAnswer.{RunAnswer}
@@ -65,6 +67,9 @@ pub record SameCalls (plan result : List ℕ) : Type 0 where
   -- .. and the figures over all lists, with the counts by rank and by router
   pub figures : (ranks routers : List ℕ) (r r′ : FiguresAnswer) (a b a′ b′ : List ℕ) → FiguresCall plan r (left ranks a) (left routers b)
       → FiguresCall result r′ (left ranks a′) (left routers b′) → (r′ ≡ r) × (a′ ≡ a) × (b′ ≡ b)
+  -- .. and whether every list is stable, with the list that is given if not
+  pub everyList : (list : List ℕ) (r r′ : EveryListAnswer) (after after′ : List ℕ) → EveryListCall plan r (left list after)
+      → EveryListCall result r′ (left list after′) → (r′ ≡ r) × (after′ ≡ after)
   -- "held routes and runs", on any table
   pub activate : (k w : ℕ) (table : List ℕ) (r r′ : ℕ) (after after′ : List ℕ) → Activates plan k w table r after
       → Activates result k w table r′ after′ → (r′ ≡ r) × (after′ ≡ after)

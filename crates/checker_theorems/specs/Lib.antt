@@ -18,3 +18,5 @@ pub mod HopSetsExamples
 pub mod Figures
 pub mod Grades
 pub mod GradesExamples
+pub mod EveryList
+pub mod EveryListCallExamples

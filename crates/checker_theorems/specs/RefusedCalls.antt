@@ -11,7 +11,7 @@ use denote.Ref.{RefT, ptr, now}
 use Rattle.base.specs.Bytes.{bytesOn}
 use Rattle.base.specs.Lent.{Lent}
 use Rattle.plan_rules.specs.Refusal.{planRefusal}
-use Rattle.call_rules.specs.Refusals.{egressListRefusal, compareRefusal, reliesRefusal, verdictRefusal, steadyRefusal, hopSetRefusal, gradeRefusal, activateRefusal, runRefusal, figuresRefusal}
+use Rattle.call_rules.specs.Refusals.{egressListRefusal, compareRefusal, reliesRefusal, verdictRefusal, steadyRefusal, hopSetRefusal, gradeRefusal, activateRefusal, runRefusal, figuresRefusal, everyListRefusal}
 use Rattle.call_compare.specs.declared.compare.CompareAnswer.{CompareAnswer}
 use Rattle.call_compare.specs.declared.compare.CompareAnswer.the-variants.{Refused}
 use Rattle.call_query.specs.declared.relies.ReliesAnswer.{ReliesAnswer}
@@ -38,6 +38,10 @@ use Rattle.route_explain_rules.specs.declared.explanation.Explanation.{Explanat
 use Rattle.route_explain_rules.specs.declared.explanation.Explanation.the-variants as explanations
 use Rattle.route_explain_rules.specs.Values.{bare, valuesOf}
 use Rattle.call_explain.specs.Explain.{Explains}
+use Rattle.call_everylist.specs.declared.every_list.EveryListAnswer.{EveryListAnswer}
+use Rattle.call_everylist.specs.declared.every_list.EveryListAnswer.the-variants as everies
+use Rattle.call_everylist.specs.EveryList as listed
+use Rattle.call_everylist.specs.EveryList.{answerNumber, EveryListCall}
 use Rattle.call_figures.specs.declared.figures.FiguresAnswer.{FiguresAnswer}
 use Rattle.call_figures.specs.declared.figures.FiguresAnswer.the-variants as reports
 use Rattle.call_figures.specs.Figures.{figuresStable, figuresSuspect, figuresHasHighest, figuresHighest, FiguresCall}
@@ -81,6 +85,11 @@ pub record RefusedCalls : Type 0 where
       → (r ≡ reports.Refused (figuresRefusal plan (ranks .before) (routers .before)))
       × (figuresStable r ≡ 0) × (figuresSuspect r ≡ 0) × (figuresHasHighest r ≡ false) × (figuresHighest r ≡ 0)
       × (ranks .after ≡ ranks .before) × (routers .after ≡ routers .before)
+  -- the lent buffer too
+  pub everyList : (plan : List ℕ) (r : EveryListAnswer) (list : Lent (List ℕ)) → EveryListCall plan r list
+      → (everyListRefusal plan (list .before) ≡ 0 → ⊥)
+      → (r ≡ everies.Refused (everyListRefusal plan (list .before))) × (answerNumber r ≡ 0) × (listed.countOf r ≡ 0)
+      × (list .after ≡ list .before)
   pub activate : (plan : List ℕ) (k w : ℕ) (table : List ℕ) (r : ℕ) (after : List ℕ) → Activates plan k w table r after
       → (activateRefusal plan k w table ≡ 0 → ⊥) → (r ≡ activateRefusal plan k w table) × (after ≡ table)
   pub run : (plan : List ℕ) (k : ℕ) (acts : List ℕ) (limit : ℕ) (table : List ℕ) (r : RunAnswer) (after : List ℕ)

@@ -7,7 +7,7 @@ ghost use Rattle.plan_rules.specs.Refusal.{planRefusal};
 ghost use Rattle.call_run.specs.Activate.{Activates};
 ghost use Rattle.links_rules.specs.Distances.{DistancesCall};
 ghost use Rattle.c_rules.specs.Exports.{SizeExport, ListExport, CompareExport, ReliesExport, ExplainExport};
-ghost use Rattle.c_rules.specs.Exports.{VerdictExport, SteadyExport, HopSetExport, GradeExport, RunExport, WidenExport, NarrowExport, FiguresExport};
+ghost use Rattle.c_rules.specs.Exports.{VerdictExport, SteadyExport, HopSetExport, GradeExport, RunExport, WidenExport, NarrowExport, FiguresExport, EveryListExport};
 
 #[no_mangle]
 pub extern "C" fn rrp_check(plan: &[u8]) -> u8
@@ -161,6 +161,18 @@ pub extern "C" fn rrp_figures(
         has_highest,
         highest,
     )
+}
+
+#[no_mangle]
+pub extern "C" fn rrp_every_list(
+    plan: &[u8],
+    answer: &mut u8,
+    list: &mut [u8],
+    count: &mut u64,
+) -> u8
+    ensures { λ r. ⌜ EveryListExport (now (plan .entry)) r (lent answer) (lent list) (lent count) ⌝ }
+{
+    c_everylist::every_list(plan, answer, list, count)
 }
 
 #[no_mangle]

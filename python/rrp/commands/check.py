@@ -5,7 +5,9 @@ from __future__ import annotations
 
 import os
 from argparse import ArgumentParser, Namespace
+from shlex import join
 
+from ..always import always_values, always_words
 from ..columns import row_lines
 from ..effects import effect_on
 from ..encoding import NARROW, WIDE, longest
@@ -13,7 +15,7 @@ from ..errors import RrpError
 from ..inputs import PLAN_HELP, add_accept, add_set, need_one_plan
 from ..output import plan_line, plan_values, rest_lines, verdict_lines
 from ..output import write_json, write_lists, write_notes
-from ..plan import Plan, Verdict
+from ..plan import NO, Plan, Verdict
 from ..rest import Rest, pass_all, promise_lines, rest_of
 
 STRICT_HELP = "end with 1 also where a list is stable but leaves a router without a route"
@@ -37,9 +39,10 @@ def arguments(parser: ArgumentParser) -> None:
         "that a list is suspect with the cycle that it had, its routes not compared. Of a suspect "
         "list it is told by its grade whether it comes to rest, and in how many tables it may, "
         "which alone is no promise that its routers get there; rrp steady PLAN LIST shows them. "
-        "Several plans have a line each, with the names of the suspect lists and of those that "
-        "leave routers without a route. In a directory and all below it, plans are the files that "
-        "rrp audit takes for plans. "
+        "Last is whether any egress list at all can make the plan suspect, which rrp always PLAN "
+        "explains. Several plans have a line each, with the names of the suspect lists and of "
+        "those that leave routers without a route. In a directory and all below it, plans are the "
+        "files that rrp audit takes for plans. "
         "Exit status: 0 all lists are stable, after the changes if any; 1 some list is suspect, "
         "with --accept one that is not known to come to rest whatever the order; or with --strict "
         "some router ends without a route; 2 error, also where one of several plans is not "
@@ -94,12 +97,12 @@ def _run_plain(options: Namespace) -> list[tuple[Verdict, Rest | None]]:
     verdicts = plan.verdicts()
     rests = {verdict.name: rest_of(plan, verdict) for verdict in verdicts}
     if options.json:
-        write_lists(plan, verdicts, rests)
+        write_lists(plan, verdicts, rests, always_values(plan.every_list()))
     else:
         write_notes(plan.notes)
         print(plan_line(plan))
         rows = [row for each in verdicts for row in _rows(each, rests[each.name])]
-        for line in [*row_lines(rows), *rest_lines(path, rests)]:
+        for line in [*row_lines(rows), *rest_lines(path, rests), *_always_lines(plan, path)]:
             print(line)
     return [(verdict, rests[verdict.name]) for verdict in verdicts]
 
@@ -115,6 +118,8 @@ def _run_changed(options: Namespace) -> list[tuple[Verdict, Rest | None]]:
         lists = [{"list": each.after.name, **each.values()} for each in effects]
         answer = {**plan_values(changed), "mark_before": plan.mark, "changes": options.set}
         answer["roles"] = [each.values() for each in roles]
+        answer["always_before"] = always_values(plan.every_list())
+        answer |= always_values(changed.every_list())
         write_json({**answer, "lists": lists, "notes": changed.notes})
     else:
         write_notes(changed.notes)
@@ -126,9 +131,25 @@ def _run_changed(options: Namespace) -> list[tuple[Verdict, Rest | None]]:
             print(line)
         for line in row_lines([row for each in effects for row in each.rows()]):
             print(line)
-        for line in promise_lines(each.rest for each in effects):
+        promises = promise_lines(each.rest for each in effects)
+        for line in [*promises, *_always_changed(plan, changed)]:
             print(line)
     return [(each.after, each.rest) for each in effects]
+
+
+def _always_lines(plan: Plan, path: str) -> list[str]:
+    """Whether any list can make the plan suspect, and how to see why."""
+    found = plan.every_list()
+    words = always_words(found)
+    explain = f"; to explain: {join(['rrp', 'always', path])}" if found.answer == NO else ""
+    return [f"{words}{explain}"]
+
+
+def _always_changed(plan: Plan, changed: Plan) -> list[str]:
+    """Whether any list can make the changed plan suspect, and what was, if that was another."""
+    before, after = plan.every_list(), changed.every_list()
+    words = always_words(after)
+    return [words if before == after else f"{words} (before: {always_words(before)})"]
 
 
 def _rows(verdict: Verdict, rest: Rest | None) -> list[tuple[str, ...]]:

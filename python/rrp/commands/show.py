@@ -69,8 +69,10 @@ def run(options: Namespace) -> int:
     rest = rest_of(plan, verdict)
     if rest is None:
         _show_stable(plan, verdict, options)
+    elif options.json:
+        _write(plan, verdict, suspect_values(plan, verdict, rest, find_repairs(plan, verdict)))
     else:
-        _show_suspect(plan, verdict, rest, find_repairs(plan, verdict), options)
+        print_suspect(plan, verdict, rest, find_repairs(plan, verdict), options.plan)
     return _status([rest], options)
 
 
@@ -131,34 +133,42 @@ def _show_stable(plan: Plan, verdict: Verdict, options: Namespace) -> None:
         print(line)
 
 
-def _show_suspect(
-    plan: Plan, verdict: Verdict, rest: Rest, repairs: Repairs, options: Namespace
-) -> None:
-    """The groups, where the list may rest, each reliance of the cycle with the smallest change that
-    ends it, and the changes that make the list stable."""
+def _reliances(plan: Plan, verdict: Verdict) -> list[tuple[Account, Remedy | None]]:
+    """Each reliance of the cycle, with the smallest change of one distance that ends it."""
     pairs = zip(verdict.cycle, [*verdict.cycle[1:], verdict.cycle[0]])
-    found = [
+    return [
         (account(plan, verdict.name, *pair), smallest_remedy(plan, verdict.name, *pair))
         for pair in pairs
     ]
-    if options.json:
-        reliances = [
-            {**one.values(), "change": None if remedy is None else remedy.values()}
-            for one, remedy in found
-        ]
-        change = repairs.single[0].changes[0].statement if repairs.single else None
-        values = {**verdict_values(verdict, rest), "reliances": reliances, "recommended": change}
-        values["repairs"] = repairs.values()
-        _write(plan, verdict, {**values, "hop_set": _hop_set_values(plan, verdict)})
-        return
+
+
+def suspect_values(
+    plan: Plan, verdict: Verdict, rest: Rest, repairs: Repairs
+) -> dict[str, object]:
+    """What `print_suspect` prints, as plain values."""
+    reliances = [
+        {**one.values(), "change": None if remedy is None else remedy.values()}
+        for one, remedy in _reliances(plan, verdict)
+    ]
+    change = repairs.single[0].changes[0].statement if repairs.single else None
+    values = {**verdict_values(verdict, rest), "reliances": reliances, "recommended": change}
+    values["repairs"] = repairs.values()
+    return {**values, "hop_set": _hop_set_values(plan, verdict)}
+
+
+def print_suspect(
+    plan: Plan, verdict: Verdict, rest: Rest, repairs: Repairs, path: str
+) -> None:
+    """The groups, where the list may rest, each reliance of the cycle with the smallest change that
+    ends it, and the changes that make the list stable."""
     for group in verdict.groups:
         print(f"routers that rely on one another: {', '.join(group)}")
-    for line in [rest.words, *rest_lines(options.plan, {verdict.name: rest}, plan.changes)]:
+    for line in [rest.words, *rest_lines(path, {verdict.name: rest}, plan.changes)]:
         print(line)
-    for number, (one, remedy) in enumerate(found, 1):
+    for number, (one, remedy) in enumerate(_reliances(plan, verdict), 1):
         _print_reliance(number, one, remedy)
-    print("\n".join(["", *repairs.lines(options.plan, plan.changes)]))
-    _print_hop_set(plan, verdict, options.plan)
+    print("\n".join(["", *repairs.lines(path, plan.changes)]))
+    _print_hop_set(plan, verdict, path)
 
 
 def _print_reliance(number: int, one: Account, remedy: Remedy | None) -> None:

@@ -7,17 +7,18 @@ from collections import Counter
 from collections.abc import Iterable, Iterator, Sequence
 from typing import NamedTuple
 
+from ..always import always_values, always_words
 from ..columns import right, row_lines, widest
 from ..errors import RrpError
 from ..failures import KINDS, LINK, ROUTER, Failure, failures_of, statements_of
 from ..inputs import add_accept, add_plan, add_set, read_plan
 from ..output import count_words, cycle_words, list_values, plan_line, plan_values, set_command
 from ..output import verdict_lines, write_json, write_notes
-from ..plan import Plan, Verdict
+from ..plan import NO, YES, EveryList, Plan, Verdict
 from ..progress import with_progress
 from ..rest import GRADES, Rest, promise_lines, rest_of
 from ..sweeping import CLASSES, CUT, KEPT, MOVED, SUSPECT, Judged, NotJudged, Outcome, Sweep
-from ..sweeping import beyond, pairs_of
+from ..sweeping import beyond, loses, pairs_of
 
 #: What words after options are more of.
 REST = "lists"
@@ -49,6 +50,27 @@ class Swept(NamedTuple):
     not_judged: list[NotJudged]
 
 
+class Losing(NamedTuple):
+    """Whether any list makes a plan suspect as it is; the failures with which one may though none
+    does as it is; such pairs of failures of which neither does so alone; and how many failures
+    there are, and with how many no list does."""
+
+    as_it_is: EveryList
+    alone: list[Judged]
+    pairs: list[Judged]
+    judged: int
+    kept: int
+
+    def values(self) -> dict[str, object]:
+        """The same as plain values."""
+        found = {"lost": self.alone, "lost_by_pairs": self.pairs}
+        return {
+            "as_it_is": always_values(self.as_it_is),
+            **{name: [_lost_values(each) for each in judged] for name, judged in found.items()},
+            "kept": self.kept,
+        }
+
+
 def arguments(parser: ArgumentParser) -> None:
     """Adds what `sweep` takes."""
     add_plan(parser)
@@ -59,6 +81,8 @@ def arguments(parser: ArgumentParser) -> None:
         parser.add_argument(f"--{kind}s", action="store_true", help=said)
     pairs = "judge each two of these failures at once too"
     parser.add_argument("--pairs", action="store_true", help=pairs)
+    always = "tell too after which failures some egress list can make the plan suspect"
+    parser.add_argument("--always", action="store_true", help=always)
     every = f"show every failure that does something, and not the worst {_MOST_ROWS}"
     parser.add_argument("--all", action="store_true", help=every)
     add_accept(parser)
@@ -74,11 +98,13 @@ def arguments(parser: ArgumentParser) -> None:
         "session. Of a plan that states distances and no links, as in bytes, links are not "
         "judged. Of a list that is suspect, before or after, no routes are compared; told is its "
         "grade, whether it comes to rest. Two failures are shown where they do more than either "
-        "alone. "
+        "alone. With --always it is told, of a plan that no egress list can make suspect, after "
+        "which failures one can, or none is found and some may exist. "
         "Exit status: 0 no failure makes a stable list suspect, be lists suspect as the plan is "
         "or not; 1 some failure does, with --accept one after which a list is not known to come "
-        "to rest whatever the order; 2 error, also where the plan without what fails is refused, "
-        "so that this failure is not judged."
+        "to rest whatever the order, and with --always some failure loses that no list can make "
+        "the plan suspect; 2 error, also where the plan without what fails is refused, so that "
+        "this failure is not judged."
     )
 
 
@@ -89,20 +115,25 @@ def run(options: Namespace) -> int:
     numbers = [plan.list_number(which) for which in dict.fromkeys(options.lists)]
     lists = sorted(set(numbers)) or range(len(plan.lists))
     failures = _failures(plan, options)
-    sweep = Sweep(plan, lists)
+    sweep = Sweep(plan, lists, options.always)
     swept = _swept(sweep, failures, options.pairs)
     verdicts = [(each, rest_of(plan, each)) for each in map(plan.verdict, lists)]
     limits = list(_limits(plan, failures, options))
+    losing = _losing(plan, swept) if options.always else None
     if options.json:
-        _write_values(plan, verdicts, failures, swept, limits)
+        _write_values(plan, verdicts, failures, swept, limits, losing)
     else:
         write_notes(plan.notes)
         for line in _lines(plan, verdicts, failures, swept, limits, options):
             print(line)
+        for line in [] if losing is None else _losing_lines(losing, options.all):
+            print(line)
     if swept.not_judged:
         return 2
     resting = bool(options.accept)
-    return 0 if all(each.passes(resting) for each in (*swept.judged, *swept.pairs)) else 1
+    lost = losing is not None and (losing.alone or losing.pairs)
+    passed = all(each.passes(resting) for each in (*swept.judged, *swept.pairs))
+    return 0 if passed and not lost else 1
 
 
 def _failures(plan: Plan, options: Namespace) -> list[Failure]:
@@ -134,6 +165,50 @@ def _swept(sweep: Sweep, failures: Sequence[Failure], pairs: bool) -> Swept:
         sorted(more, key=Judged.weight),
         [each for each in ordered if isinstance(each, NotJudged)],
     )
+
+
+def _losing(plan: Plan, swept: Swept) -> Losing:
+    """With which failures some list may make a plan suspect that none does as it is."""
+    as_it_is = plan.every_list()
+    kept = sum(not loses(each) for each in swept.judged)
+    if as_it_is.answer != YES:
+        return Losing(as_it_is, [], [], len(swept.judged), kept)
+    alone = [each for each in swept.judged if loses(each)]
+    losers = {each.failures[0] for each in alone}
+    pairs = [each for each in swept.pairs if loses(each) and not losers & set(each.failures)]
+    return Losing(as_it_is, alone, pairs, len(swept.judged), kept)
+
+
+def _losing_lines(losing: Losing, every: bool) -> Iterator[str]:
+    """The failures that lose it, with a list that then makes the plan suspect."""
+    yield ""
+    yield f"as it is, {always_words(losing.as_it_is)}"
+    failures = count_words(losing.judged, "failure")
+    if losing.as_it_is.answer != YES:
+        yield f"under {losing.kept} of {failures} no egress list can"
+        return
+    yield f"{len(losing.alone)} of {failures} {'loses' if len(losing.alone) == 1 else 'lose'} that"
+    told = [*losing.alone, *losing.pairs]
+    shown = told if every else told[:_MOST_ROWS]
+    if shown:
+        yield from row_lines([(f"  {each.words}", _lost_words(each.every_list)) for each in shown])
+    if losing.pairs:
+        yield f"of these {count_words(len(losing.pairs), 'pair')} of which neither does so alone"
+    if len(told) > len(shown):
+        yield f".. and {len(told) - len(shown)} more: --all shows them"
+
+
+def _lost_words(found: EveryList) -> str:
+    """What is known of lists with a failure after which some may make the plan suspect."""
+    if found.answer == NO:
+        return f"suspect with the list {', '.join(found.routers)}"
+    return "undecided: no list found that makes it suspect; some may exist"
+
+
+def _lost_values(judged: Judged) -> dict[str, object]:
+    """What fails, and a list that then makes the plan suspect, as plain values."""
+    failures = [each.values() for each in judged.failures]
+    return {"failures": failures, **always_values(judged.every_list)}
 
 
 def _is_worst(found: Judged | NotJudged) -> bool:
@@ -280,6 +355,7 @@ def _write_values(
     failures: Sequence[Failure],
     swept: Swept,
     limits: list[str],
+    losing: Losing | None,
 ) -> None:
     kinds = Counter(each.kind for each in failures)
     judged = {f"{kind}s": kinds[kind] for kind in KINDS}
@@ -295,6 +371,7 @@ def _write_values(
             "pair_counts": _counts(swept.pairs),
             "beyond_counts": _counts(swept.beyond),
             "beyond": [each.values() for each in swept.beyond if each.kind != KEPT],
+            **({} if losing is None else {"always": losing.values()}),
             "notes": plan.notes,
         }
     )

@@ -223,6 +223,26 @@ impl GradeFields {
     }
 }
 
+/// What the call for every list gives beside the list.
+#[derive(Clone, Copy)]
+pub struct EveryListFields {
+    /// 1 stable for every list, 0 suspect for the list written, 2 undecided.
+    pub answer: Flag,
+    /// How many routers that list has; 0 if there is none.
+    pub count: Lent<u64>,
+}
+
+impl EveryListFields {
+    pub fn new(answer: u8, count: u64) -> Self {
+        EveryListFields { answer: Flag::new(answer), count: Lent::new(count) }
+    }
+
+    pub fn put(&mut self, answer: u8, count: u64) {
+        self.answer.value = answer;
+        self.count.value = count;
+    }
+}
+
 #[derive(Clone, Copy)]
 pub struct RunFields {
     pub applied: u64,
@@ -268,6 +288,10 @@ pub trait Checker {
     /// Writes how many stable lists had each rank as their highest, and for each router in how
     /// many lists it was in a group of two or more.
     fn figures(&mut self, plan: &[u8], by_rank: &mut [u8], by_router: &mut [u8], fields: &mut FigureFields) -> u8;
+
+    /// Says whether the plan is stable for every list, whatever its own ones are; if not, writes
+    /// a list for which it is suspect.
+    fn every_list(&mut self, plan: &[u8], list: &mut [u8], fields: &mut EveryListFields) -> u8;
 
     fn activate(&mut self, plan: &[u8], list: usize, router: usize, table: &mut [u8]) -> u8;
 

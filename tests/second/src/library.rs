@@ -3,8 +3,8 @@
 
 use crate::harness::plans::small_plans::star;
 use crate::interface::{
-    Acts, Checker, CompareFields, ExplainFields, FigureFields, GradeFields, Handed, Lent, ListFields, RunFields,
-    SizeFields, VerdictBuffers, VerdictFields,
+    Acts, Checker, CompareFields, EveryListFields, ExplainFields, FigureFields, GradeFields, Handed, Lent,
+    ListFields, RunFields, SizeFields, VerdictBuffers, VerdictFields,
 };
 use crate::oracle::plan::STEPPING;
 use std::ffi::{c_char, c_int, c_void, CStr, CString};
@@ -118,6 +118,15 @@ functions! {
         highest: *mut u64,
     );
 
+    fn rrp_every_list(
+        plan: *const u8,
+        plan_len: usize,
+        answer: *mut u8,
+        list: *mut u8,
+        list_len: usize,
+        count: *mut u64,
+    );
+
     fn rrp_activate(plan: *const u8, plan_len: usize, list: usize, router: usize, table: *mut u8, table_len: usize);
 
     fn rrp_run(
@@ -190,6 +199,11 @@ impl Library {
     /// Whether the library grades lists.
     pub fn grades(&self) -> bool {
         self.rrp_grade.is_some()
+    }
+
+    /// Whether the library tells of every list.
+    pub fn tells_of_every_list(&self) -> bool {
+        self.rrp_every_list.is_some()
     }
 
     /// Whether the library gives the figures of a plan.
@@ -311,6 +325,20 @@ impl Checker for Library {
                 &mut fields.suspect.value,
                 &mut fields.has_highest.value,
                 &mut fields.highest.value,
+            )
+        }
+    }
+
+    fn every_list(&mut self, plan: &[u8], list: &mut [u8], fields: &mut EveryListFields) -> u8 {
+        // SAFETY: as above.
+        unsafe {
+            self.rrp_every_list.expect(MISSING)(
+                plan.as_ptr(),
+                plan.len(),
+                &mut fields.answer.value,
+                list.as_mut_ptr(),
+                list.len(),
+                &mut fields.count.value,
             )
         }
     }

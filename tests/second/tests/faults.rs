@@ -9,6 +9,7 @@ use second_checker::harness::faults::convert_slips::CONVERT_SLIPS;
 use second_checker::harness::faults::count_slips::{self, count_faults};
 use second_checker::harness::faults::empty_list_misreadings::{MisreadEmptyList, EMPTY_LIST_MISREADINGS};
 use second_checker::harness::faults::empty_list_slips::EMPTY_LIST_SLIPS;
+use second_checker::harness::faults::every_list_slips::{EVERY_LIST_SLIPS, STATED_EVERY_LIST_SLIPS};
 use second_checker::harness::faults::explain_misreadings::{MisreadExplanation, EXPLAIN_MISREADINGS};
 use second_checker::harness::faults::figure_slips::{FIGURE_SLIPS, STATED_FIGURE_SLIPS};
 use second_checker::harness::faults::grade_slips::{GRADE_SLIPS, STATED_GRADE_SLIPS};
@@ -25,10 +26,11 @@ use second_checker::harness::faults::steady_misreadings::STEADY_MISREADINGS;
 use second_checker::harness::faults::steady_slips::{SteadySlip, STATED_SLIPS, STEADY_SLIPS};
 use second_checker::harness::faults::width_slips::{self, width_faults};
 use second_checker::harness::faults::wrong_programs::{Program, WRONG_PROGRAMS};
-use second_checker::harness::plans::questions;
+use second_checker::harness::plans::{generate, questions};
 use second_checker::interface::Checker;
-use second_checker::oracle::rules::Rules;
-use second_checker::oracle::{margin_line, Oracle};
+use second_checker::oracle::every_list::{every_list, EveryList};
+use second_checker::oracle::rules::{Right, Rules};
+use second_checker::oracle::{margin_line, plan, Oracle};
 use std::fmt::Debug;
 
 /// A fault must be found within so many plans.
@@ -225,6 +227,35 @@ fn what_is_stated_of_grades_tells_slips_in_them_beside_themselves() {
     none_missed(STATED_GRADE_SLIPS, |&slip| {
         let [mut one, mut other] = [0, 1].map(|_| Careless::new(Slip::Grade(slip)));
         differ(&mut one, &mut other, SEED, plans_with_groups())
+    });
+}
+
+/// Plans for which the call for every list is undecided, which are few, and some others.
+fn plans_for_every_list() -> Vec<u64> {
+    let is_undecided = |number: &u64| {
+        let plan = plan::read(&generate::numbered(SEED, *number).0);
+        plan.is_ok_and(|plan| every_list(&Right, &plan) == EveryList::Undecided)
+    };
+    let undecided: Vec<u64> = (FIRST_DRAWN..PLANS).filter(is_undecided).collect();
+    assert!(!undecided.is_empty());
+    undecided.into_iter().chain(FIRST_DRAWN..PLANS / 4).collect()
+}
+
+#[test]
+fn each_slip_in_the_call_for_every_list_is_found() {
+    let plans = plans_for_every_list();
+    none_missed(EVERY_LIST_SLIPS, |&slip| {
+        let mut careless = Careless::new(Slip::EveryList(slip));
+        differ(&mut Oracle::right(), &mut careless, SEED, plans.iter().copied())
+    });
+}
+
+#[test]
+fn what_is_stated_of_every_list_tells_slips_in_it_beside_themselves() {
+    let plans = plans_for_every_list();
+    none_missed(STATED_EVERY_LIST_SLIPS, |&slip| {
+        let [mut one, mut other] = [0, 1].map(|_| Careless::new(Slip::EveryList(slip)));
+        differ(&mut one, &mut other, SEED, plans.iter().copied())
     });
 }
 

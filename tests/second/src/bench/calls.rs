@@ -4,8 +4,8 @@ use crate::harness::comparison::arguments;
 use crate::harness::plans::draft::Draft;
 use crate::harness::random::Random;
 use crate::interface::{
-    Acts, Checker, CompareFields, ExplainFields, FigureFields, Flag, GradeFields, Handed, Lent, ListFields,
-    RunFields, SizeFields, VerdictBuffers, VerdictFields,
+    Acts, Checker, CompareFields, EveryListFields, ExplainFields, FigureFields, Flag, GradeFields, Handed, Lent,
+    ListFields, RunFields, SizeFields, VerdictBuffers, VerdictFields,
 };
 use crate::oracle::mark::Mark;
 use crate::oracle::plan;
@@ -80,6 +80,12 @@ pub fn grade(checker: &mut dyn Checker, plan: &[u8]) {
     let mut fields = GradeFields::new(0, 0);
     assert_eq!(checker.grade(black_box(plan), 0, &mut fields), 0);
     black_box((fields.grade.value, fields.rounds.value));
+}
+
+pub fn every_list(checker: &mut dyn Checker, plan: &[u8]) {
+    let (mut list, mut fields) = ([0; 64], EveryListFields::new(0, 0));
+    assert_eq!(checker.every_list(black_box(plan), black_box(&mut list), &mut fields), 0);
+    black_box((fields.answer.value, fields.count.value));
 }
 
 pub fn figures(checker: &mut dyn Checker, plan: &[u8]) {

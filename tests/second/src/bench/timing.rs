@@ -4,8 +4,8 @@
 //! while slows both sides.
 
 use super::calls::{
-    activate, check, compare, convert, distances, explain, figures, grade, hop_set, list, relies, size, steady,
-    verdict, verdict_of, Run,
+    activate, check, compare, convert, distances, every_list, explain, figures, grade, hop_set, list, relies, size,
+    steady, verdict, verdict_of, Run,
 };
 use super::shapes::{full_sheet, one_group, ring_and_chords, threes_and_others, two_parts, Shape, SIZES};
 use super::tight::Tight;
@@ -248,6 +248,18 @@ fn time_grades(bench: &Bench, random: &mut Random) {
     }
 }
 
+/// Whether plans are stable for every list: plans of a usual shape, a long path of reflectors, and
+/// one group.
+fn time_every_list(bench: &Bench, random: &mut Random) {
+    let bench = Bench { other: bench.other.filter(Library::tells_of_every_list), ..*bench };
+    let meshes = SIZES.map(|n| (Shape::mesh(n).draft(random, false), format!("mesh, n = {n}")));
+    let others = [(generate::deepest(), "deepest plan".to_string()), (one_group(), "one group, n = 64".to_string())];
+    for (draft, name) in meshes.into_iter().chain(others) {
+        let plan = draft.bytes();
+        bench.line(&format!("every list, {name}"), 1, |checker| every_list(checker, &plan));
+    }
+}
+
 /// The figures of a plan of 64 lists, every fifth client in each from another one on, and so many
 /// verdicts beside them.
 fn time_figures(bench: &Bench, random: &mut Random) {
@@ -316,4 +328,5 @@ pub fn bench(word: &str, other: Option<Library>) {
     time_conversions(&bench, &mut random);
     time_steady(&bench, &mut random);
     time_grades(&bench, &mut random);
+    time_every_list(&bench, &mut random);
 }

@@ -6,7 +6,7 @@ use second_checker::harness::comparison::compare;
 use second_checker::harness::plans::draft::Draft;
 use second_checker::harness::plans::{generate, questions};
 use second_checker::harness::random::Random;
-use second_checker::harness::surveys::grades;
+use second_checker::harness::surveys::{every_lists, grades};
 use second_checker::interface::Checker;
 use second_checker::oracle::mark::Mark;
 use second_checker::oracle::{margin_line, verdict_lines};
@@ -27,6 +27,8 @@ second margin                                print the line the margin program i
 second write FOLDER [--seed S] [--plans N]   write plans and the lines the verdict program is due to print
 second ask FOLDER [--seed S] [--plans N]     write inputs and the lines the margin program is due to print
 second grades [--against C] [--seed S] [--lists N]   print a table of the grades of N random suspect lists a kind
+second every-list [--against C] [--seed S] [--plans N]
+                                             print whether N random plans a kind are stable for every list
 second plan largest|largest-rrp2|deepest|deepest-rrp2
                                              write the plan with the most bytes or the highest rank, of a mark";
 
@@ -95,6 +97,13 @@ fn survey_grades(options: &Options) -> Result<bool, Box<dyn Error>> {
     print_tables(tables, |table| table.mismatches)
 }
 
+fn survey_every_list(options: &Options) -> Result<bool, Box<dyn Error>> {
+    let mut subject = subject(&options.against)?;
+    println!("seed {} beside {}", options.seed, options.against);
+    let tables = every_lists::every_lists(Some(subject.as_mut()), options.seed, options.plans);
+    print_tables(tables, |table| table.mismatches)
+}
+
 fn fixed_plan(name: &str, seed: u64) -> Result<Draft, Box<dyn Error>> {
     let random = &mut Random::new(seed);
     match name {
@@ -153,6 +162,7 @@ fn program() -> Result<bool, Box<dyn Error>> {
         ["write", folder] => write_inputs(folder, &options, "plan", plan_numbered, verdict_lines),
         ["ask", folder] => write_inputs(folder, &options, "input", questions::numbered, margin_line),
         ["grades"] => survey_grades(&options),
+        ["every-list"] => survey_every_list(&options),
         ["plan", name] => write(&fixed_plan(name, options.seed)?.bytes()),
         _ => Err("unknown words".into()),
     }

@@ -5,6 +5,7 @@
 
 mod convert;
 pub mod delayed;
+pub mod every_list;
 pub mod figures;
 pub mod grade;
 pub mod hop_set;
@@ -18,9 +19,10 @@ pub mod tables;
 pub mod verdict;
 
 use crate::interface::{
-    store, Acts, Checker, CompareFields, Compared, ExplainFields, Explained, FigureFields, Flag, GradeFields, Handed,
-    Lent, ListFields, RunFields, SizeFields, VerdictBuffers, VerdictFields,
+    store, Acts, Checker, CompareFields, Compared, EveryListFields, ExplainFields, Explained, FigureFields, Flag,
+    GradeFields, Handed, Lent, ListFields, RunFields, SizeFields, VerdictBuffers, VerdictFields,
 };
+use every_list::EveryList;
 use figures::Figures;
 use grade::Graded;
 pub use lines::{margin_line, verdict_lines};
@@ -197,6 +199,22 @@ impl<R: Rules> Oracle<R> {
         grade::grade(&self.rules, case_of(plan_of(&reading)?, list, &[])?)
     }
 
+    /// Writes the list of a no.
+    fn try_every_list(&mut self, plan: &[u8], out: &mut [u8]) -> Result<(u8, u64), u8> {
+        let reading = self.reading(plan);
+        let plan = plan_of(&reading)?;
+        long_enough(out, plan.n)?;
+        Ok(match every_list::every_list(&self.rules, plan) {
+            EveryList::No(list) => {
+                let count = list.len() as u64;
+                fill(out, list);
+                (0, count)
+            }
+            EveryList::Yes => (1, 0),
+            EveryList::Undecided => (2, 0),
+        })
+    }
+
     fn try_figures(
         &mut self,
         plan: &[u8],
@@ -301,6 +319,10 @@ impl<R: Rules> Checker for Oracle<R> {
 
     fn figures(&mut self, plan: &[u8], by_rank: &mut [u8], by_router: &mut [u8], fields: &mut FigureFields) -> u8 {
         store(self.try_figures(plan, by_rank, by_router, fields), &mut ())
+    }
+
+    fn every_list(&mut self, plan: &[u8], list: &mut [u8], fields: &mut EveryListFields) -> u8 {
+        store(self.try_every_list(plan, list).map(|(answer, count)| fields.put(answer, count)), &mut ())
     }
 
     fn activate(&mut self, plan: &[u8], list: usize, router: usize, table: &mut [u8]) -> u8 {

@@ -3,6 +3,7 @@
 mod conversions;
 mod delayed_reading;
 mod empty_lists;
+mod every_lists;
 mod explained_pairs;
 mod grades;
 mod hop_sets;

@@ -3,6 +3,7 @@
 mod small_conversions;
 mod small_delays;
 mod small_empty_lists;
+mod small_every_lists;
 mod small_explanations;
 mod small_figures;
 mod small_grades;

@@ -4,6 +4,7 @@
 
 mod convert;
 mod distance;
+mod every_list;
 mod figures;
 mod grade;
 mod hop_set;
@@ -14,11 +15,12 @@ mod steady;
 mod verdict;
 
 use crate::interface::{
-    store, Acts, Checker, CompareFields, Compared, ExplainFields, Explained, FigureFields, Flag, GradeFields, Handed,
-    Lent, ListFields, RunFields, SizeFields, VerdictBuffers, VerdictFields,
+    store, Acts, Checker, CompareFields, Compared, EveryListFields, ExplainFields, Explained, FigureFields, Flag,
+    GradeFields, Handed, Lent, ListFields, RunFields, SizeFields, VerdictBuffers, VerdictFields,
 };
 use convert::{narrow, widen};
 use distance::Distance;
+use every_list::every_list as every_list_of;
 use figures::{count, Counted};
 use grade::grade as grade_of;
 use hop_set::hop_set as hop_set_of;
@@ -133,6 +135,10 @@ fn grade<D: Distance>(plan: &[u8], list: usize) -> Result<(u8, u64), u8> {
     grade_of(&network::<D>(plan, list)?)
 }
 
+fn every_list<D: Distance>(plan: &[u8], list: &mut [u8]) -> Result<(u8, u64), u8> {
+    every_list_of(network::<D>(plan, 0)?, list)
+}
+
 fn figures<D: Distance>(plan: &[u8], by_rank: &mut [u8], by_router: &mut [u8]) -> Result<Counted, u8> {
     let network = network::<D>(plan, 0)?;
     count(network, by_rank, by_router)
@@ -216,6 +222,10 @@ impl Checker for Tight {
     fn figures(&mut self, plan: &[u8], by_rank: &mut [u8], by_router: &mut [u8], fields: &mut FigureFields) -> u8 {
         let counted = by_mark!(figures(plan, by_rank, by_router));
         store(counted.map(|counted| fields.put(counted.lists, counted.highest)), &mut ())
+    }
+
+    fn every_list(&mut self, plan: &[u8], list: &mut [u8], fields: &mut EveryListFields) -> u8 {
+        store(by_mark!(every_list(plan, list)).map(|(answer, count)| fields.put(answer, count)), &mut ())
     }
 
     fn activate(&mut self, plan: &[u8], list: usize, router: usize, table: &mut [u8]) -> u8 {

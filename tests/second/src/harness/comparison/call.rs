@@ -2,8 +2,8 @@
 //! leaves: results, buffers, and the bytes around them.
 
 use crate::interface::{
-    Acts, Checker, CompareFields, Compared, ExplainFields, FigureFields, Flag, GradeFields, Handed, Lent, ListFields,
-    RunFields, SizeFields, VerdictBuffers, VerdictFields,
+    Acts, Checker, CompareFields, Compared, EveryListFields, ExplainFields, FigureFields, Flag, GradeFields, Handed,
+    Lent, ListFields, RunFields, SizeFields, VerdictBuffers, VerdictFields,
 };
 
 /// One call, with the content of its buffers before it.
@@ -48,6 +48,10 @@ pub enum Call {
     Figures {
         buffers: [Vec<u8>; 2],
     },
+    /// The buffer is for the list of a no.
+    EveryList {
+        out: Vec<u8>,
+    },
     Activate {
         list: usize,
         router: usize,
@@ -87,8 +91,8 @@ pub struct Answer {
     /// Every byte of every lent buffer after the call.
     pub buffers: Vec<Vec<u8>>,
     /// The bytes before and after each buffer, each result variable of one byte and those of
-    /// a comparison, an explanation, a count of steady tables, a set, a grade, figures and
-    /// a conversion, the plan, the sequence and the links are as they were.
+    /// a comparison, an explanation, a count of steady tables, a set, a grade, figures, an answer
+    /// for every list and a conversion, the plan, the sequence and the links are as they were.
     pub surroundings_kept: bool,
 }
 
@@ -121,6 +125,11 @@ impl Answer {
     /// The grade and the rounds of a call for them that is not refused.
     pub fn graded(&self) -> (u8, u64) {
         (self.fields[0] as u8, self.fields[1] as u64)
+    }
+
+    /// The list that a call for every list which is not refused gave.
+    pub fn suspect_list(&self) -> &[u8] {
+        &self.buffers[0][..self.fields[1] as usize]
     }
 
     fn beside<T>(mut self, result: Lent<T>) -> Self {
@@ -203,6 +212,7 @@ pub fn perform(checker: &mut dyn Checker, plan: &[u8], call: &Call, prior: u64) 
             Answer::new(refusal, [grade.value.into(), rounds.value.into()]).beside(grade).beside(rounds)
         }
         Call::Figures { buffers } => perform_figures(checker, &lent_plan, buffers, prior),
+        Call::EveryList { out } => perform_every_list(checker, &lent_plan, out, prior),
         Call::Activate { list, router, table } => perform_activate(checker, &lent_plan, *list, *router, table),
         Call::Run { list, sequence, limit, table } => {
             let acts = Acts { sequence, limit: *limit };
@@ -258,6 +268,14 @@ fn perform_figures(checker: &mut dyn Checker, plan: &[u8], buffers: &[Vec<u8>; 2
     let FigureFields { stable, suspect, has_highest, highest } = fields;
     let results = [stable.value.into(), suspect.value.into(), has_highest.value.into(), highest.value.into()];
     Answer::new(refusal, results).with(&lent).beside(stable).beside(suspect).beside(has_highest).beside(highest)
+}
+
+fn perform_every_list(checker: &mut dyn Checker, plan: &[u8], out: &[u8], prior: u64) -> Answer {
+    let mut fields = EveryListFields::new(prior as u8, !prior);
+    let mut lent = [Guarded::new(out)];
+    let refusal = checker.every_list(plan, lent[0].lent(), &mut fields);
+    let EveryListFields { answer, count } = fields;
+    Answer::new(refusal, [answer.value.into(), count.value.into()]).with(&lent).beside(answer).beside(count)
 }
 
 fn perform_activate(checker: &mut dyn Checker, plan: &[u8], list: usize, router: usize, table: &[u8]) -> Answer {

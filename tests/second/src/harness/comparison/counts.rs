@@ -54,6 +54,7 @@ pub struct Counts {
     pub hop_sets: HopSetCounts,
     pub grades: GradeCounts,
     pub figures: FigureCounts,
+    pub every_list: EveryListCounts,
     /// Calls made on the checker alone, to hold one against another.
     pub calls_alone: u64,
     pub series: u64,
@@ -266,6 +267,31 @@ impl fmt::Display for FigureCounts {
     }
 }
 
+/// What was asked and given of every list.
+#[derive(Default)]
+pub struct EveryListCounts {
+    pub calls: u64,
+    /// Plans by answer: no, yes, undecided.
+    pub plans: [u64; 3],
+    /// .. of those in which no client has two parents.
+    pub single: [u64; 3],
+    /// The most routers of a list that was given.
+    pub longest: usize,
+    /// Plans with few clients, all lists of which were judged, and undecided ones of these that no
+    /// list makes suspect.
+    pub tried: u64,
+    pub undecided_though_stable: u64,
+}
+
+impl fmt::Display for EveryListCounts {
+    fn fmt(&self, out: &mut fmt::Formatter) -> fmt::Result {
+        write!(out, "calls for every list {}, plans by answer no, yes, undecided {:?}, ", self.calls, self.plans)?;
+        writeln!(out, "with single parents {:?}, lists given up to {}", self.single, self.longest)?;
+        write!(out, "plans with all lists of clients judged {}, ", self.tried)?;
+        write!(out, "undecided ones of these that are stable for all {}", self.undecided_though_stable)
+    }
+}
+
 impl Counts {
     pub fn count(&mut self, call: &Call, answer: &Answer) {
         self.calls += 1;
@@ -277,6 +303,7 @@ impl Counts {
             (Call::HopSet { .. }, _) => self.hop_sets.calls += 1,
             (Call::Grade { .. }, _) => self.grades.calls += 1,
             (Call::Figures { .. }, _) => self.figures.calls += 1,
+            (Call::EveryList { .. }, _) => self.every_list.calls += 1,
             _ => (),
         }
     }
@@ -322,6 +349,7 @@ impl fmt::Display for Counts {
         writeln!(out, "{}", self.hop_sets)?;
         writeln!(out, "{}", self.grades)?;
         writeln!(out, "{}", self.figures)?;
+        writeln!(out, "{}", self.every_list)?;
         writeln!(
             out,
             "pairs relied on and explained {}, calls on the checker alone {}",

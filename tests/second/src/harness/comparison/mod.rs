@@ -8,6 +8,7 @@ mod convert_calls;
 pub mod counts;
 pub mod delays;
 pub mod empty_lists;
+mod every_list_calls;
 mod figure_calls;
 mod grade_calls;
 mod hop_set_calls;

@@ -6,6 +6,7 @@ use super::compare::{Comparison, Mismatch, Outcome};
 use super::convert_calls;
 use super::delays;
 use super::empty_lists;
+use super::every_list_calls;
 use super::figure_calls;
 use super::grade_calls;
 use super::hop_set_calls;
@@ -50,7 +51,7 @@ fn refused(comparison: &mut Comparison, random: &mut Random, bytes: &[u8]) -> Ou
 }
 
 /// One call of each kind with arguments that need fit nothing.
-fn loose_calls(random: &mut Random) -> [Call; 11] {
+fn loose_calls(random: &mut Random) -> [Call; 12] {
     let mut number = |bound: usize| arguments::mostly_below(random, bound);
     let list = number(2);
     let (router, first, second) = (number(4), number(4), number(4));
@@ -60,7 +61,7 @@ fn loose_calls(random: &mut Random) -> [Call; 11] {
         random.bytes(length)
     };
     let buffers = [buffer(), buffer(), buffer(), buffer()];
-    let (table, sequence, out) = (buffer(), buffer(), buffer());
+    let (table, sequence, out, for_list) = (buffer(), buffer(), buffer(), buffer());
     let figures = [table.clone(), out.clone()];
     let limit = random.word();
     [
@@ -73,6 +74,7 @@ fn loose_calls(random: &mut Random) -> [Call; 11] {
         Call::HopSet { list },
         Call::Grade { list },
         Call::Figures { buffers: figures },
+        Call::EveryList { out: for_list },
         Call::Activate { list, router, table: table.clone() },
         Call::Run { list, sequence, limit, table },
     ]
@@ -92,6 +94,7 @@ fn sound(comparison: &mut Comparison, random: &mut Random, bytes: &[u8], plan: &
     hop_set_calls::compare(comparison, bytes, plan, &verdicts)?;
     grade_calls::compare(comparison, random, bytes, plan, &verdicts, &steady)?;
     figure_calls::compare(comparison, random, bytes, plan, &verdicts)?;
+    every_list_calls::compare(comparison, random, bytes, plan, &verdicts)?;
     let list = random.below(plan.lists.len());
     hop_step::compare_with_all(comparison, random, bytes, list)?;
     for _ in 0..3 {

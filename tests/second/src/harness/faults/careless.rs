@@ -3,6 +3,7 @@
 use super::compare_slips;
 use super::convert_slips::{self, Asked};
 use super::empty_list_slips::{self, EmptyListSlip};
+use super::every_list_slips;
 use super::explain_slips;
 use super::figure_slips;
 use super::grade_slips;
@@ -13,8 +14,8 @@ use super::slips::Slip;
 use super::steady_slips;
 use crate::harness::plans::draft::Bodies;
 use crate::interface::{
-    Acts, Checker, CompareFields, ExplainFields, FigureFields, GradeFields, Handed, Lent, ListFields, RunFields,
-    SizeFields, VerdictBuffers, VerdictFields,
+    Acts, Checker, CompareFields, EveryListFields, ExplainFields, FigureFields, GradeFields, Handed, Lent,
+    ListFields, RunFields, SizeFields, VerdictBuffers, VerdictFields,
 };
 use crate::oracle::mark::Mark;
 use crate::oracle::plan;
@@ -166,6 +167,13 @@ impl Checker for Careless {
         match self.slip {
             Slip::Figures(slip) => figure_slips::figures(slip, &mut self.inner, plan, [by_rank, by_router], fields),
             _ => self.inner.figures(plan, by_rank, by_router, fields),
+        }
+    }
+
+    fn every_list(&mut self, plan: &[u8], list: &mut [u8], fields: &mut EveryListFields) -> u8 {
+        match self.slip {
+            Slip::EveryList(slip) => every_list_slips::every_list(slip, &mut self.inner, plan, list, fields),
+            _ => self.inner.every_list(plan, list, fields),
         }
     }
 

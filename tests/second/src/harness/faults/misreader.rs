@@ -1,8 +1,8 @@
 //! Checkers that, in one call, take a plan for another, as a slip has it.
 
 use crate::interface::{
-    Acts, Checker, CompareFields, ExplainFields, FigureFields, GradeFields, Handed, Lent, ListFields, RunFields,
-    SizeFields, VerdictBuffers, VerdictFields,
+    Acts, Checker, CompareFields, EveryListFields, ExplainFields, FigureFields, GradeFields, Handed, Lent,
+    ListFields, RunFields, SizeFields, VerdictBuffers, VerdictFields,
 };
 use crate::oracle::rules::Right;
 use crate::oracle::Oracle;
@@ -21,6 +21,7 @@ pub enum PlanCall {
     HopSet,
     Grade,
     Figures,
+    EveryList,
     Activate,
     Run,
     Widen,
@@ -29,7 +30,7 @@ pub enum PlanCall {
 
 pub const WITHOUT_DISTANCES: [PlanCall; 3] = [PlanCall::Check, PlanCall::Size, PlanCall::List];
 
-pub const BY_DISTANCES: [PlanCall; 10] = [
+pub const BY_DISTANCES: [PlanCall; 11] = [
     PlanCall::Compare,
     PlanCall::Relies,
     PlanCall::Explain,
@@ -38,6 +39,7 @@ pub const BY_DISTANCES: [PlanCall; 10] = [
     PlanCall::HopSet,
     PlanCall::Grade,
     PlanCall::Figures,
+    PlanCall::EveryList,
     PlanCall::Activate,
     PlanCall::Run,
 ];
@@ -123,6 +125,11 @@ impl<F: Fn(&[u8]) -> Option<Vec<u8>>> Checker for Misreader<F> {
     fn figures(&mut self, plan: &[u8], by_rank: &mut [u8], by_router: &mut [u8], fields: &mut FigureFields) -> u8 {
         let (inner, plan) = self.read(PlanCall::Figures, plan);
         inner.figures(plan, by_rank, by_router, fields)
+    }
+
+    fn every_list(&mut self, plan: &[u8], list: &mut [u8], fields: &mut EveryListFields) -> u8 {
+        let (inner, plan) = self.read(PlanCall::EveryList, plan);
+        inner.every_list(plan, list, fields)
     }
 
     fn activate(&mut self, plan: &[u8], list: usize, router: usize, table: &mut [u8]) -> u8 {

@@ -7,6 +7,7 @@ pub mod convert_slips;
 pub mod count_slips;
 pub mod empty_list_misreadings;
 pub mod empty_list_slips;
+pub mod every_list_slips;
 pub mod explain_misreadings;
 mod explain_slips;
 pub mod figure_slips;

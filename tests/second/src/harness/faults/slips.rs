@@ -3,6 +3,7 @@
 
 use super::convert_slips::ConvertSlip;
 use super::empty_list_slips::EmptyListSlip;
+use super::every_list_slips::EveryListSlip;
 use super::figure_slips::FigureSlip;
 use super::grade_slips::GradeSlip;
 use super::hop_set_slips::HopSetSlip;
@@ -87,6 +88,7 @@ pub enum Slip {
     HopSet(HopSetSlip),
     Grade(GradeSlip),
     Figures(FigureSlip),
+    EveryList(EveryListSlip),
     EightBeforeThirteen,
     EntryWithoutAWayRefused,
     TransposedDistances,
@@ -120,7 +122,7 @@ pub enum Slip {
 }
 
 /// All but those in the check of a client's parents, in the converter, for an empty list, with
-/// the hop step, and in the calls for steady tables, hop sets, grades and figures.
+/// the hop step, and in the calls for steady tables, hop sets, grades, figures and every list.
 pub const SLIPS: [Slip; 96] = [
     Slip::FirstActOnly,
     Slip::ActLeavesTable,

@@ -1,0 +1,3 @@
+// Whether a plan is stable for every egress list: a public call.
+
+pub mod every_list;

@@ -1,0 +1,9 @@
+pub mod Conditions
+pub mod Examples
+pub mod Listless
+pub mod Meaning
+pub mod Pairs
+pub mod Reaching
+pub mod Suspects
+pub mod Sustained
+pub mod Walks
