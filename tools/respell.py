@@ -53,8 +53,8 @@ def word(text):
 
 
 def words(text):
-    """A text of antt or of a clause in today's spelling."""
-    return WORD.sub(lambda m: word(m[0]), text)
+    """A text of antt or of a clause in today's spelling; a byte of code, as b'R', stays."""
+    return WORD.sub(lambda m: m[0] if re.fullmatch("b'.'", m[0]) else word(m[0]), text)
 
 
 def bare_lemmas(text):

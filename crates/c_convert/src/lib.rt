@@ -1,6 +1,8 @@
 // The answers of the converter, put into the variable that a C caller lends. Each function returns the call's refusal number, and if that
 // is not 0 it has written nothing.
 
+#![tactic(auto)]
+
 ghost use Rattle.std.specs.Prelude.{◌≡◌};
 ghost use Rattle.base.specs.Lent.{lent};
 ghost use Rattle.plan_rules.specs.Refused.{unless_refused};

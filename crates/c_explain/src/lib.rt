@@ -1,5 +1,7 @@
 // The answer to why one router relies on another put into the variables that a C caller lends.
 
+#![tactic(auto)]
+
 ghost use Rattle.std.specs.Prelude.{◌≡◌};
 ghost use Rattle.base.specs.Lent.{lent};
 ghost use Rattle.route_explain_rules.specs.Reasons.{place};

@@ -1,6 +1,8 @@
 // The answer of the call for the figures, put into the variables that a C caller lends. It returns the call's refusal number, and if that is
 // not 0 it has written nothing.
 
+#![tactic(auto)]
+
 ghost use Rattle.std.specs.Prelude.{◌≡◌};
 ghost use Rattle.base.specs.Lent.{lent};
 ghost use Rattle.base.specs.Seek.{flag};

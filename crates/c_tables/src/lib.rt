@@ -1,6 +1,8 @@
 // The answers of the verdict, of the list of steady tables and of a run, put into the variables that a C caller lends. Each function returns the call's refusal number,
 // and if that is not 0 it has written nothing.
 
+#![tactic(auto)]
+
 ghost use Rattle.base.specs.Lent.{lent};
 ghost use Rattle.c_rules.specs.Exports.{VerdictExport, SteadyExport, RunExport};
 

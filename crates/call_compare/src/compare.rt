@@ -15,7 +15,7 @@ use plan_read::parts::part;
 use plan_read::refusal::CheckedPlan;
 
 // Which of two routes is better. Neither is of a router and itself, nor of two that there is no way to.
-#[derive(Drop)]
+#[derive(Clone, Copy)]
 pub enum Preferred {
     First,
     Second,
@@ -23,14 +23,14 @@ pub enum Preferred {
 }
 
 // By how much: the first distance minus the second. Absent unless there is a way to both.
-#[derive(Drop)]
+#[derive(Clone, Copy)]
 pub enum Margin {
     Absent,
     Of(i64),
 }
 
 // What a comparison says: its refusal number, or which of the two is better and the margin.
-#[derive(Drop)]
+#[derive(Clone, Copy)]
 pub enum CompareAnswer {
     Refused(u8),
     Compared(Preferred, Margin),

@@ -12,7 +12,7 @@ use plan_read::refusal;
 use plan_read::refusal::CheckedPlan;
 
 // Its refusal number, 0 for none, and the length of the result.
-#[derive(Drop)]
+#[derive(Clone, Copy)]
 pub struct ConvertAnswer {
     pub refused: u8,
     pub length: usize,

@@ -1,5 +1,7 @@
 // Distances from a sheet of weighted links: the body of kind 3 for a plan.
 
+#![tactic(auto)]
+
 mod body;
 
 ghost use Rattle.std.specs.Prelude.{◌≡◌, true, ◌≤◌};

@@ -8,7 +8,7 @@ use net_everylist::EveryList;
 use plan_contents::entries::DISTANCES;
 
 // Its refusal number; or yes; or no, with how many routers the list has that is given; or undecided.
-#[derive(Drop)]
+#[derive(Clone, Copy)]
 pub enum EveryListAnswer {
     Refused(u8),
     Yes,

@@ -12,7 +12,7 @@ use plan_contents::entries::DISTANCES;
 use plan_read::refusal::CheckedPlan;
 
 // Its refusal number; or what was counted.
-#[derive(Drop)]
+#[derive(Clone, Copy)]
 pub enum FiguresAnswer {
     Refused(u8),
     Counted(Figures),

@@ -10,7 +10,7 @@ use net_rules::Network;
 use plan_contents::entries::DISTANCES;
 
 // Its refusal number; or the grade, and for the first grade a number of rounds within which the routers come to rest, else 0.
-#[derive(Drop)]
+#[derive(Clone, Copy)]
 pub enum GradeAnswer {
     Refused(u8),
     Graded(Grade, usize),

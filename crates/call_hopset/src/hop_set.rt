@@ -9,7 +9,7 @@ use net_rules::Network;
 use plan_contents::entries::DISTANCES;
 
 // Its refusal number; or the number of the set.
-#[derive(Drop)]
+#[derive(Clone, Copy)]
 pub enum HopSetAnswer {
     Refused(u8),
     Named(u64),

@@ -1,6 +1,8 @@
 // The calls that answer a question on a plan and write nothing. None has a `requires`: any bytes and numbers get a result or a
 // refusal number.
 
+#![tactic(auto)]
+
 pub mod lists;
 pub mod relies;
 pub mod size;

@@ -5,7 +5,7 @@ ghost use Rattle.call_query.specs.Relies.{Relied};
 use plan_contents::entries::DISTANCES;
 
 // Its refusal number, or yes or no.
-#[derive(Drop)]
+#[derive(Clone, Copy)]
 pub enum ReliesAnswer {
     Refused(u8),
     Yes,

@@ -3,7 +3,7 @@
 ghost use Rattle.call_query.specs.Size.{Sizes};
 
 // Its refusal number, 0 for none; the number of routers, and the number of lists.
-#[derive(Drop)]
+#[derive(Clone, Copy)]
 pub struct SizeAnswer {
     pub refused: u8,
     pub routers: usize,

@@ -6,7 +6,7 @@ ghost use Rattle.call_run.specs.Run.{Runs};
 use plan_contents::entries::DISTANCES;
 
 // Its refusal number, 0 for none; the acts applied, the whole rounds in them, and whether the sequence is longer than the limit.
-#[derive(Drop)]
+#[derive(Clone, Copy)]
 pub struct RunAnswer {
     pub refused: u8,
     pub applied: usize,

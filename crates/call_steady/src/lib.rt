@@ -1,4 +1,6 @@
 // The tables that no act changes, of a plan with one of its lists: a public call.
 
+#![tactic(auto)]
+
 pub mod numbers;
 pub mod steady;

@@ -12,7 +12,7 @@ use net_steady::SteadySet;
 use plan_contents::entries::DISTANCES;
 
 // Its refusal number; or how many tables are listed.
-#[derive(Drop)]
+#[derive(Clone, Copy)]
 pub enum SteadyAnswer {
     Refused(u8),
     Listed(usize),

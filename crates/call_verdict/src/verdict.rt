@@ -8,7 +8,7 @@ use net_verdict::Assessment;
 use plan_contents::entries::DISTANCES;
 
 // Its refusal number; or stable, with the highest rank; or suspect, with the cycle's length.
-#[derive(Drop)]
+#[derive(Clone, Copy)]
 pub enum VerdictAnswer {
     Refused(u8),
     Stable(usize),

@@ -9,7 +9,7 @@ use crate::{build, calls, plans, script, text};
 const TABLE_ROOM: usize = 16;
 
 // The length of the plan, and that of the table.
-#[derive(Drop)]
+#[derive(Clone, Copy)]
 struct Lengths {
     plan: usize,
     table: usize,

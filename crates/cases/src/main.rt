@@ -2,6 +2,8 @@
 // gave. The cases are the text on standard input (the file `stdin`), which says what each is about; the second checker of
 // tests/second gives the same lines.
 
+#![tactic(auto)]
+
 mod build;
 mod calls;
 mod cases;

@@ -73,7 +73,7 @@ fn is_number(text: &[u8], at: usize) -> bool
 }
 
 // How many numbers were read, and the place after the last.
-#[derive(Drop)]
+#[derive(Clone, Copy)]
 pub struct Numbers {
     pub count: usize,
     pub stop: usize,

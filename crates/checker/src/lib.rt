@@ -1,5 +1,7 @@
 // Every public call. None has a `requires`: any bytes and numbers get a result or a refusal number.
 
+#![tactic(auto)]
+
 pub use call_compare::compare;
 pub use call_convert::convert;
 pub use call_distances::distances;

@@ -1,5 +1,7 @@
 // The cycle of a relation that is not stable, given as rows of bits.
 
+#![tactic(auto)]
+
 ghost use Rattle.std.specs.Prelude.{◌≡◌, ◌++◌, ◌+◌, ◌≤◌, ◌<◌, eqb, length, get_or, drop};
 ghost use Rattle.base.specs.Tab.{tab};
 ghost use Rattle.base.specs.Seek.{flag, seek};
@@ -59,7 +61,7 @@ fn place(path: &[u8; 64], k: usize, w: usize) -> usize
 }
 
 // A part of a path: from a place up to before another.
-#[derive(Drop)]
+#[derive(Clone, Copy)]
 struct Repeated {
     from: usize,
     upto: usize,

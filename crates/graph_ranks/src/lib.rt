@@ -1,5 +1,7 @@
 // Ranks of a relation in which no router reaches itself, given as rows of bits.
 
+#![tactic(auto)]
+
 ghost use Rattle.std.specs.Prelude.{◌≡◌, ◌++◌, ◌≤◌, max, length, drop};
 ghost use Rattle.base.specs.Tab.{tab};
 ghost use Rattle.base.specs.Bits.{bits};

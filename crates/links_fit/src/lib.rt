@@ -1,5 +1,7 @@
 // Refusal 12: whether some pair has a walk and a least sum above 65,534, which its word does not tell from no walk.
 
+#![tactic(auto)]
+
 ghost use Rattle.std.specs.Prelude.{◌≡◌, true, ◌++◌, ℕ, ◌*◌, ◌≤◌, ◌<◌, length, drop};
 ghost use Rattle.base.specs.Tab.{tab};
 ghost use Rattle.links_rules.specs.Sheet.{link_count, link_from, link_to, sheet_ok};

@@ -1,12 +1,14 @@
 // The reader of a sheet of links, four bytes a link: refusal 11.
 
+#![tactic(auto)]
+
 ghost use Rattle.std.specs.Prelude.{◌≡◌, ◌+◌, ◌*◌, ◌≤◌, length};
 ghost use Rattle.plan_rules.specs.Rising.{rises_at};
 ghost use Rattle.links_rules.specs.Sheet.{link_before, link_ok, sheet_ok};
 ghost use Rattle.links_read.specs.Link.{LinkIs};
 
 // A link: where it leads from and to, and its weight.
-#[derive(Drop)]
+#[derive(Clone, Copy)]
 pub struct Link {
     pub from: usize,
     pub to: usize,

@@ -1,5 +1,7 @@
 // The least sums of a sheet, in a table of 64 words a router. A sum above 65,534 is held as 65,535, and so is no walk.
 
+#![tactic(auto)]
+
 ghost use Rattle.std.specs.Prelude.{◌≡◌, true, ◌≤◌};
 ghost use Rattle.links_rules.specs.Sheet.{link_count, sheet_ok};
 ghost use Rattle.links_rules.specs.Sums.{nowhere, staying, direct, least_sums};

@@ -1,5 +1,7 @@
 // A table of 64 words a router, and how its words are lowered to what goes through a router. 65,535 stands for that and for all above.
 
+#![tactic(auto)]
+
 ghost use Rattle.std.specs.Prelude.{◌≡◌, ◌++◌, ◌+◌, ◌*◌, ◌≤◌, ◌<◌, min, length, set, drop};
 ghost use Rattle.base.specs.Tab.{tab};
 ghost use Rattle.links_words.specs.Lowered.{capped, word_at, RowLowered, RowsLowered};

@@ -1,5 +1,7 @@
 // Prints the line of the three bytes and the plan on standard input, which crate `text_margin` lays out.
 
+#![tactic(auto)]
+
 use libc::{STDIN_FILENO, STDOUT_FILENO};
 use plan_contents::header::LARGEST_PLAN;
 use text_lines::LINE_ROOM;

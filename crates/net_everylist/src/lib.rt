@@ -1,6 +1,8 @@
 // Whether a network is stable for every list, over a network read from a plan: pairs of a reflector and a client are taken away until each
 // left leads to one left, and from these a list is found and judged.
 
+#![tactic(auto)]
+
 pub mod peeling;
 pub mod walking;
 
@@ -18,7 +20,7 @@ ghost use Rattle.net_everylist.specs.EveryList.{Answered};
 use net_rules::Network;
 
 // Stable for every list; or not, with how many routers the list has for which it is suspect; or undecided.
-#[derive(Drop)]
+#[derive(Clone, Copy)]
 pub enum EveryList {
     Yes,
     No(usize),

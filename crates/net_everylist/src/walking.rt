@@ -15,7 +15,7 @@ use base::bits::{lowest_bit, without_lowest};
 use net_rules::Network;
 
 // Where the walk goes on: along the nearest foreign client, to the lowest neighbouring reflector that is left with it.
-#[derive(Drop)]
+#[derive(Clone, Copy)]
 struct Step {
     client: u8,
     next: u8,

@@ -1,5 +1,7 @@
 // The rule by which one router relies on another, or the first reason why it does not, over a network read from a plan.
 
+#![tactic(auto)]
+
 ghost use Rattle.std.specs.Prelude.{◌≡◌, ◌<◌};
 ghost use Rattle.net_rules.specs.Decoded.{instance};
 ghost use Rattle.net_rules.specs.WellFormed.{WellFormed};

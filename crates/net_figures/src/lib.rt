@@ -1,5 +1,7 @@
 // The figures over all lists of a plan: one list more, over a network read from the plan.
 
+#![tactic(auto)]
+
 ghost use Rattle.std.specs.Prelude.{◌≡◌, ℕ, ◌<◌, length, get_or};
 ghost use Rattle.base.specs.Bits.{bit_n};
 ghost use Rattle.base.specs.Lent.{lent};

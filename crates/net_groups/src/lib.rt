@@ -1,5 +1,7 @@
 // The groups of a network read from a plan.
 
+#![tactic(auto)]
+
 ghost use Rattle.std.specs.Prelude.{◌≡◌, ◌≤◌, eqb, length};
 ghost use Rattle.base.specs.Bits.{bit_n, bits, marked};
 ghost use Rattle.base.specs.Seek.{count};

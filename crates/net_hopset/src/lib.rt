@@ -1,6 +1,8 @@
 // A smallest set of reflectors that makes a list stable once they have the hop step, worked out from the groups of a network. At most 12
 // routers are in groups of two or more here. The i-th of them, lowest first, has place i; a set is a number with a bit for each place.
 
+#![tactic(auto)]
+
 ghost use Rattle.std.specs.Prelude.{◌≡◌, cond, List, ℕ, suc, ◌<◌, ◌≤◌, ◌^◌, leb, length, get_or};
 ghost use Rattle.std.specs.Int.Count.{ones};
 ghost use Rattle.base.specs.Bits.{bit_n};

@@ -1,5 +1,7 @@
 // Best clients, what routers offer and rule 3 on an offer, over a network read from a plan. A router is a byte here, NO_ROUTER for none.
 
+#![tactic(auto)]
+
 ghost use Rattle.std.specs.Prelude.{◌≡◌, true, not, ◌&&◌, List, ℕ, ◌≤◌, ◌<◌};
 ghost use Rattle.base.specs.Best.{keep_best};
 ghost use Rattle.plan_rules.specs.Distances.{DistanceTable};

@@ -1,5 +1,7 @@
 // The comparison of two routes by their distances and numbers, and with who tells them; the difference of the distances.
 
+#![tactic(auto)]
+
 ghost use Rattle.std.specs.Prelude.{◌≡◌, not, ◌&&◌, ℕ, ◌≤◌, ◌<◌, pos, ◌-ℤ◌};
 ghost use Rattle.std.specs.Bool.{beq};
 ghost use Rattle.plan_rules.specs.Distances.{DistanceTable};
@@ -8,7 +10,7 @@ ghost use Rattle.route_rules.specs.Preference.{nearer, has_step, prefers, better
 ghost use Rattle.net_prefer.specs.Measured.{Measured, ReadAs, Ordered};
 
 // A route as a router is told it: whether its own egress router tells it, or another passes it on.
-#[derive(Drop)]
+#[derive(Clone, Copy)]
 pub struct Told {
     pub egress: usize,
     pub direct: bool,

@@ -1,5 +1,7 @@
 // From the bytes of a plan that is not refused to its network with one of its lists, read once.
 
+#![tactic(auto)]
+
 ghost use Rattle.std.specs.Prelude.{◌≡◌, cond, not, ◌||◌, List, ℕ, ◌*◌, ◌^◌, ◌≤◌, ◌<◌, eqb, length, get_or, replicate};
 ghost use Rattle.std.specs.Int.Bits.{bit_or};
 ghost use Rattle.base.specs.Bits.{bit_n, bits};
@@ -19,7 +21,7 @@ use plan_read::refusal::CheckedPlan;
 use plan_routers::CLIENT;
 
 // The routers by what their role says of them: bit v of a word stands for router v.
-#[derive(Drop)]
+#[derive(Clone, Copy)]
 struct RoleWords {
     reflectors: u64,
     skips: u64,

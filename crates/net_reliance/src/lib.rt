@@ -1,5 +1,7 @@
 // Who relies on whom, over a network read from a plan. A router is a byte here, NO_ROUTER for none.
 
+#![tactic(auto)]
+
 ghost use Rattle.std.specs.Prelude.{◌≡◌, ◌≤◌, ◌<◌, length, get_or};
 ghost use Rattle.route_rules.specs.Reliance.{relies};
 ghost use Rattle.net_offers.specs.OwnClient.{OwnClient, OwnClients};

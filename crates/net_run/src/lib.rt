@@ -1,5 +1,7 @@
 // A sequence of activations on the caller's table, at most a given limit of them.
 
+#![tactic(auto)]
+
 pub mod tally;
 
 ghost use Rattle.std.specs.Prelude.{◌≡◌, ◌<◌, min};
@@ -14,7 +16,7 @@ use net_activate::activations::{activate, activate_in_one_pass, takes_step};
 use net_rules::Network;
 
 // The acts applied, the whole rounds in them, and whether acts were left when the limit was reached.
-#[derive(Drop)]
+#[derive(Clone, Copy)]
 pub struct Applied {
     pub acts: usize,
     pub rounds: usize,

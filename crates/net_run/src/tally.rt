@@ -4,7 +4,7 @@ ghost use Rattle.std.specs.Prelude.{◌≡◌, ◌+◌, ◌≤◌, ◌<◌, ◌^
 ghost use Rattle.net_run.specs.Tallied.{tallied};
 ghost use Rattle.route_rules.specs.Rounds.{fresh_tally, tally_act};
 
-#[derive(Drop)]
+#[derive(Clone, Copy)]
 pub struct RoundTally {
     // bit v is set if router v has acted since the round before ended
     pub seen: u64,

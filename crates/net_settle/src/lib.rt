@@ -1,5 +1,7 @@
 // The settled table: a router of rank 0 has its entry from the start, and every other is activated once, in the order of its rank.
 
+#![tactic(auto)]
+
 ghost use Rattle.std.specs.Prelude.{◌≡◌, List, ◌++◌, ℕ, ◌+◌, ◌*◌, ◌≤◌, ◌<◌, length, drop};
 ghost use Rattle.route_theorems.specs.Settled.{settled_table};
 ghost use Rattle.net_tables.specs.TableBytes.{route_of, table_bytes};

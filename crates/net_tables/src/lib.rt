@@ -1,5 +1,7 @@
 // A routing table in the caller's bytes: an entry read, an entry written, and the table's rule.
 
+#![tactic(auto)]
+
 ghost use Rattle.std.specs.Prelude.{◌≡◌, List, ℕ, ◌+◌, ◌*◌, ◌≤◌, ◌<◌, eqb, length};
 ghost use Rattle.base.specs.Bits.{bit_n};
 ghost use Rattle.route_rules.specs.Activation.{entry_ok};
@@ -9,7 +11,7 @@ ghost use Rattle.net_tables.specs.TableBytes.{route_at, put_route, route_of, tab
 use net_rules::{NO_ROUTER, Network};
 
 // An entry's two bytes.
-#[derive(Drop)]
+#[derive(Clone, Copy)]
 pub struct RouteBytes {
     pub egress: u8,
     pub sender: u8,

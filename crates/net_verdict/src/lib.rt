@@ -1,5 +1,7 @@
 // The verdict over a network read from a plan: groups, and ranks with the settled table or a cycle.
 
+#![tactic(auto)]
+
 ghost use Rattle.std.specs.Prelude.{◌*◌, ◌≤◌, length};
 ghost use Rattle.base.specs.Lent.{lent};
 ghost use Rattle.net_rules.specs.Decoded.{instance};
@@ -9,7 +11,7 @@ ghost use Rattle.net_verdict.specs.Assessed.{Assessed};
 use net_rules::Network;
 
 // Stable, with the highest rank; or suspect, with the cycle's length.
-#[derive(Drop)]
+#[derive(Clone, Copy)]
 pub enum Assessment {
     Stable(usize),
     Suspect(usize),

@@ -14,7 +14,7 @@ pub const DISTANCES: usize = 2;
 pub const LISTS: usize = 3;
 
 // "kind (1 byte), offset (2), length (2)"; the length is called size.
-#[derive(Drop)]
+#[derive(Clone, Copy)]
 pub struct Entry {
     pub kind: u8,
     pub offset: u16,

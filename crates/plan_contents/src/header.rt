@@ -39,13 +39,13 @@ pub fn header_ok(plan: &[u8]) -> bool
     if plan.len() < 26 {
         return false;
     }
-    if plan[0] != b'_r' {
+    if plan[0] != b'R' {
         return false;
     }
-    if plan[1] != b'_r' {
+    if plan[1] != b'R' {
         return false;
     }
-    if plan[2] != b'_p' {
+    if plan[2] != b'P' {
         return false;
     }
     if !mark_ok(plan[MARK], plan.len()) {

@@ -78,9 +78,9 @@ pub fn write_front(out: &mut [u8], to: usize, n: u8, table: [Entry; 4])
     ensures { out.new ≡ written out.old 0 ((82 ∷ 82 ∷ 80 ∷ mark_of to ∷ n ∷ 4 ∷ [])
         ++ joined (λ k. entry_bytes (get_or table k no_entry)) 4) }
 {
-    out[0] = b'_r';
-    out[1] = b'_r';
-    out[2] = b'_p';
+    out[0] = b'R';
+    out[1] = b'R';
+    out[2] = b'P';
     out[3] = mark_of(to);
     out[4] = n;
     out[5] = 4;

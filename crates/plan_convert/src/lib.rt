@@ -1,5 +1,7 @@
 // A plan that is not refused, with distances of another width: an RRP2 plan of an RRP1 plan, and back.
 
+#![tactic(auto)]
+
 mod contents;
 mod distances;
 

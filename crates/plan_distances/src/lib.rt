@@ -1,5 +1,7 @@
 // Kind 3, distances: refusal 6.
 
+#![tactic(auto)]
+
 ghost use Rattle.std.specs.Prelude.{◌≡◌, ◌+◌, ◌*◌, ◌≤◌, ◌<◌, length};
 ghost use Rattle.plan_rules.specs.Distances.{highest, as_distance, number_at, placed, distance_in, is_way, way_in, diagonal_ok, distances_ok, TwoOrFour, DistanceTable, Bounded};
 

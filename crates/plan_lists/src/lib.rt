@@ -1,5 +1,7 @@
 // Kind 4, the egress lists: refusal 7.
 
+#![tactic(auto)]
+
 ghost use Rattle.std.specs.Prelude.{◌≡◌, ◌+◌, ◌≤◌, ◌<◌, length};
 ghost use Rattle.plan_rules.specs.Lists.{member_ok, list_at_ok, each_list_ok, lists_ok};
 ghost use Rattle.base.specs.Below.{all_below};

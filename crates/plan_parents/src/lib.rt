@@ -1,5 +1,7 @@
 // The parents of clients, counted session by session: refusal 13. A byte of `counts` is a router's.
 
+#![tactic(auto)]
+
 ghost use Rattle.std.specs.Prelude.{◌≡◌, not, List, ℕ, ◌+◌, ◌*◌, ◌≤◌, ◌<◌, max, eqb, length, get_or};
 ghost use Rattle.base.specs.Below.{all_below};
 ghost use Rattle.base.specs.Seek.{highest};

@@ -24,7 +24,7 @@ fn list_place(s: &[u8], list: usize) -> usize
 }
 
 // Where the numbers of a list stand in the plan, and how many they are.
-#[derive(Drop)]
+#[derive(Clone, Copy)]
 pub struct Span {
     pub start: usize,
     pub count: usize,

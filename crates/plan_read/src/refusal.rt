@@ -56,7 +56,7 @@ pub fn refusal(plan: &[u8]) -> u8
 }
 
 // What a check of a plan hands on: the plan's refusal number; beside 0, n, m, the bytes of a distance and the table of contents.
-#[derive(Drop)]
+#[derive(Clone, Copy)]
 pub struct CheckedPlan {
     pub refused: u8,
     pub n: u8,

@@ -1,5 +1,7 @@
 // Kind 1, routers: refusal 4.
 
+#![tactic(auto)]
+
 ghost use Rattle.std.specs.Prelude.{◌≡◌, not, ◌||◌, ◌+◌, ◌*◌, ◌≤◌, ◌<◌, eqb, length};
 ghost use Rattle.plan_rules.specs.Routers.{role, router_ok, routers_ok};
 

@@ -1,6 +1,8 @@
 // Kind 2, sessions: refusals 5 and 13, in one pass. Sessions rise, so those with one first router stand together, and its role is asked
 // once for all of them.
 
+#![tactic(auto)]
+
 ghost use Rattle.std.specs.Prelude.{◌≡◌, ◌+◌, ◌*◌, ◌≤◌, ◌<◌, length, replicate};
 ghost use Rattle.plan_parents.specs.Counts.{Counted};
 ghost use Rattle.plan_sessions.specs.Walk.{Reached, Walked, Answers, goes_on};
@@ -51,7 +53,7 @@ fn sessions_of(
 }
 
 // Whether all sessions are in order, and a router that is past the first one of each, if they are.
-#[derive(Drop)]
+#[derive(Clone, Copy)]
 struct Walk {
     ordered: bool,
     past: usize,
@@ -82,7 +84,7 @@ fn walk_all(routers: &[u8], s: &[u8], n: usize, counts: &mut [u8; 64]) -> Walk
 }
 
 // The answers to rows 5 and 13.
-#[derive(Drop)]
+#[derive(Clone, Copy)]
 pub struct SessionAnswers {
     pub ordered: bool,
     pub few: bool,

@@ -2,7 +2,7 @@
 
 // The rule of a reliance. A better offer is `AnyOffer` where there is no own best client; else it carries the offer, the own best client
 // and the margin, offer minus own.
-#[derive(Drop)]
+#[derive(Clone, Copy)]
 pub enum Rule {
     Parent,
     PeerClient,
@@ -12,7 +12,7 @@ pub enum Rule {
 }
 
 // The first reason that applies.
-#[derive(Drop)]
+#[derive(Clone, Copy)]
 pub enum Reason {
     SameRouter,
     NotNeighbours,
@@ -25,7 +25,7 @@ pub enum Reason {
 }
 
 // Yes by a rule or no for a reason, or the refusal number of the call.
-#[derive(Drop)]
+#[derive(Clone, Copy)]
 pub enum Explanation {
     Refused(u8),
     Yes(Rule),
@@ -34,7 +34,7 @@ pub enum Explanation {
 
 // The values of an explanation: yes or no; the number of the rule or of the reason; and of a better offer its route, whether it was
 // compared with an own best client, that one's route and the margin. What an explanation does not have is zero or no.
-#[derive(Drop)]
+#[derive(Clone, Copy)]
 pub struct Values {
     pub relies: bool,
     pub code: u8,

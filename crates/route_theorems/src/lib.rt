@@ -1,1 +1,3 @@
 // The theory of settling: claims in specs/, their proofs in proofs/.
+
+#![tactic(auto)]

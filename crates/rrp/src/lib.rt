@@ -1,6 +1,8 @@
 // The public calls for C and for other languages that call C: `include/rrp.h` says what each does. A slice is passed as a pointer and
 // a length, a result variable as a pointer. Each returns the call's refusal number, and if that is not 0 it has written nothing.
 
+#![tactic(auto)]
+
 ghost use Rattle.std.specs.Prelude.{◌≡◌};
 ghost use Rattle.base.specs.Lent.{lent};
 ghost use Rattle.plan_rules.specs.Refusal.{plan_refusal};

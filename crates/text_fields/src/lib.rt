@@ -1,5 +1,7 @@
 // The parts of a line: each is written from a place on, and the place after it is returned.
 
+#![tactic(auto)]
+
 ghost use Rattle.std.specs.Prelude.{◌≡◌, [], ◌∷◌, ◌++◌, ◌+◌, ◌*◌, ◌≤◌, ◌<◌, length, nat_abs};
 ghost use Rattle.text_fields.specs.Buffer.{Put};
 ghost use Rattle.text_fields.specs.Fields.{digit, digits, decimal, signed_decimal, number_fields};

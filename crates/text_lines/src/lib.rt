@@ -1,5 +1,7 @@
 // The lines that the programs print: each is written into a caller's buffer from a place on, and the place after it is returned.
 
+#![tactic(auto)]
+
 ghost use Rattle.std.specs.Prelude.{◌∷◌, ◌++◌, ◌+◌, ◌≤◌, ◌<◌, length};
 ghost use Rattle.text_fields.specs.Buffer.{Put};
 ghost use Rattle.text_fields.specs.Fields.{decimal};

@@ -1,5 +1,7 @@
 // The line that the margin program prints of its input.
 
+#![tactic(auto)]
+
 ghost use Rattle.std.specs.Prelude.{◌≤◌, length};
 ghost use Rattle.text_fields.specs.Buffer.{Put, AtFront};
 ghost use Rattle.text_lines.specs.Text.{line_room};

@@ -1,1 +1,3 @@
 // No code: what the margin program prints of its input is specs/Margin, with literal texts in specs/Examples.
+
+#![tactic(auto)]

@@ -1,5 +1,7 @@
 // The text that the verdict program prints of a plan.
 
+#![tactic(auto)]
+
 ghost use Rattle.std.specs.Prelude.{◌+◌, ◌*◌, ◌≤◌, ◌<◌, length};
 ghost use Rattle.plan_rules.specs.EgressLists.{list_count};
 ghost use Rattle.plan_read.specs.Checked.{Accepted};

@@ -1,1 +1,3 @@
 // No code: what the verdict program prints of a plan is specs/Listing, with literal texts in specs/Examples.
+
+#![tactic(auto)]

@@ -1,5 +1,7 @@
 // Prints the text of the plan on standard input, which crate `text_verdict` lays out.
 
+#![tactic(auto)]
+
 use libc::{STDIN_FILENO, STDOUT_FILENO};
 use plan_contents::header::LARGEST_PLAN;
 use text_verdict::TEXT_ROOM;

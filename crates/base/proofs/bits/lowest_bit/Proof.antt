@@ -4,7 +4,7 @@ use Rattle.base.proofs.BitWalk.{lowest-is}
 use Rattle.base.proofs.bits.lowest_bit.Statement.{statement}
 use Rattle.base.proofs.bits.lowest_bit.Tie as tie
 
-cast-result : tie.Need-overflow-cast-result
+cast-result : tie.Need-overflow_cast-result
 cast-result c = record { fits = omega (arith, trailing_le 64 c.args.x) }
 
 returns : tie.Need-returns

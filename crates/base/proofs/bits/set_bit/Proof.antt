@@ -5,7 +5,7 @@ use Rattle.base.proofs.bits.set_bit.Statement.{statement}
 use Rattle.base.proofs.bits.set_bit.Tie as tie
 
 returns : tie.Need-returns
-returns c = let a = c.before.before.args in ap (set a.rows.now a.i) c.with-bit.ensures
+returns c = let a = c.before.before.args in ap (set a.rows.now a.i) c.with_bit.ensures
 
 pub set-bit-spec : {M : Type 1} → statement M
 set-bit-spec =
