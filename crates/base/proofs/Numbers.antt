@@ -11,8 +11,8 @@ use lib.Dec.{leb, ltb, eqb}
 
 -- a decision as a sum, with what refutes it
 decided : {P Q : Type 0} → ((P → ⊥) → Q) → Dec P → P ⊎ Q
-decided f (yes p) = inl p
-decided f (no n) = inr (f n)
+decided f (Prim.yes p) = inl p
+decided f (Prim.no n) = inr (f n)
 
 pub lt-or-le : (i n : ℕ) → (i < n) ⊎ (n ≤ i)
 lt-or-le i n = decided (λ h. omega arith) (dec_lt i n)

@@ -10,5 +10,5 @@ cast-result c = record { fits = omega (arith, trailing_le 64 c.args.x) }
 returns : tie.Need-returns
 returns c = lowest-is 64 c.args.x c.requires (omega arith)
 
-pub lowest-bit-spec : {M : Type 1} → statement M
-lowest-bit-spec = tie.close (tie.spec cast-result returns)
+pub lowest_bit_spec : {M : Type 1} → statement M
+lowest_bit_spec = tie.close (tie.spec cast-result returns)

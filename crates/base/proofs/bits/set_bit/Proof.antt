@@ -7,8 +7,8 @@ use Rattle.base.proofs.bits.set_bit.Tie as tie
 returns : tie.Need-returns
 returns c = let a = c.before.before.args in ap (set a.rows.now a.i) c.with_bit.ensures
 
-pub set-bit-spec : {M : Type 1} → statement M
-set-bit-spec =
+pub set_bit_spec : {M : Type 1} → statement M
+set_bit_spec =
     tie.close
     (tie.spec
     (λ c. search rules)

@@ -12,5 +12,5 @@ use Rattle.base.proofs.bits.with_bit.Tie as tie
 returns : tie.Need-returns
 returns c = let j = c.args.j in ap (bit_or c.args.x) (shl_exact 1 j 64 (lit< tt) (omega arith) ∙ one-mul _)
 
-pub with-bit-spec : {M : Type 1} → statement M
-with-bit-spec = tie.close (tie.spec (λ c. search rules) returns)
+pub with_bit_spec : {M : Type 1} → statement M
+with_bit_spec = tie.close (tie.spec (λ c. search rules) returns)

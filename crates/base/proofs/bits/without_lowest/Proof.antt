@@ -9,5 +9,5 @@ use Rattle.base.proofs.bits.without_lowest.Tie as tie
 returns : tie.Need-returns
 returns c = let x = c.args.x in (omega (arith, and_le_r x (x - 1)), without_is x)
 
-pub without-lowest-spec : {M : Type 1} → statement M
-without-lowest-spec = tie.close (tie.spec (λ c. search rules) returns)
+pub without_lowest_spec : {M : Type 1} → statement M
+without_lowest_spec = tie.close (tie.spec (λ c. search rules) returns)
