@@ -82,10 +82,10 @@ module _ (p : ℕ → Bool) (n : ℕ) where
   pub held_start : HeldSoFar p n 0
   held_start = record { upto = omega arith; held = all_none p }
 
-  pub held-fail : (i : ℕ) → i < n → (r : Bool) → r ≡ p i → not r ≡ true → false ≡ all_below p n
+  pub held-fail : (i : ℕ) → i < n → (r : Bool) → r ≡ p i → r ≡ false → false ≡ all_below p n
   held-fail i l r e h = sym (all-fail p n i l (no r e h))
 
-  pub held_more : (i : ℕ) → HeldSoFar p n i → i < n → (r : Bool) → r ≡ p i → not r ≡ false → HeldSoFar p n (i + 1)
+  pub held_more : (i : ℕ) → HeldSoFar p n i → i < n → (r : Bool) → r ≡ p i → r ≡ true → HeldSoFar p n (i + 1)
   held_more i w l r e h = record { upto = omega arith; held = all_more p i w.held (yes r e h) }
 
   pub held-done : (i : ℕ) → HeldSoFar p n i → n ≤ i → true ≡ all_below p n

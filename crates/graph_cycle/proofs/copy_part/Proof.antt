@@ -7,33 +7,33 @@ use Rattle.base.proofs.Tab.{Written, write-start, write-length, write-room, writ
 use Rattle.graph_cycle.proofs.copy_part.Statement.{statement}
 use Rattle.graph_cycle.proofs.copy_part.Tie as tie
 
-abbrev invariant-loop : tie.invariant-loop
-invariant-loop path from count out₀ d₀ out d = Written (λ u. get_or path (from + u) 0) count out₀ out d
+abbrev invariant-loop-d : tie.invariant-loop-d
+invariant-loop-d path from count out₀ d₀ out d = Written (λ u. get_or path (from + u) 0) count out₀ out d
 
-abbrev decreases-loop : tie.decreases-loop
-decreases-loop path from count out₀ d₀ out d = count - d
+abbrev decreases-loop-d : tie.decreases-loop-d
+decreases-loop-d path from count out₀ d₀ out d = count - d
 
-loop-holds : tie.Need-loop-init invariant-loop decreases-loop
+loop-holds : tie.Need-loop-d-init invariant-loop-d decreases-loop-d
 loop-holds c = write-start _ _ _ c.requires.1
 
-slice-write-out : tie.Need-slice-write-out invariant-loop decreases-loop
-slice-write-out c = write-room _ _ _ _ _ c.before.before.loop.invariant c.before.loop-test.true
+slice-write-out : tie.Need-bounds-out-d invariant-loop-d decreases-loop-d
+slice-write-out c = write-room _ _ _ _ _ c.before.before.loop-d.invariant c.before.loop-d-test.true
 
-loop-again : tie.Need-loop-preserved invariant-loop decreases-loop
-loop-again c = write-more _ _ _ 0 _ _ _ c.before.before.loop.invariant c.before.loop-test.true refl
+loop-again : tie.Need-loop-d-preserved invariant-loop-d decreases-loop-d
+loop-again c = write-more _ _ _ 0 _ _ _ c.before.before.loop-d.invariant c.before.loop-d-test.true refl
 
-same_length : tie.Need-same-length invariant-loop decreases-loop
-same_length c = write-length _ _ _ _ _ c.before.loop.invariant
+same_length : tie.Need-shape_of-out invariant-loop-d decreases-loop-d
+same_length c = write-length _ _ _ _ _ c.before.loop-d.invariant
 
-returns : tie.Need-returns invariant-loop decreases-loop
-returns c = write_done _ _ _ _ _ c.before.loop.invariant c.loop-test.false
+returns : tie.Need-returns invariant-loop-d decreases-loop-d
+returns c = write_done _ _ _ _ _ c.before.loop-d.invariant c.loop-d-test.false
 
-pub copy-part-spec : {M : Type 1} → statement M
-copy-part-spec =
+pub copy_part_spec : {M : Type 1} → statement M
+copy_part_spec =
     tie.close
     (tie.spec
-    invariant-loop
-    decreases-loop
+    invariant-loop-d
+    decreases-loop-d
     loop-holds
     (λ c. search rules)
     (λ c. search rules)

@@ -6,24 +6,24 @@ use Rattle.graph_cycle.proofs.Following.{follow-asked, followed-part, followed-w
 use Rattle.graph_cycle.proofs.cycle.Statement.{statement}
 use Rattle.graph_cycle.proofs.cycle.Tie as tie
 
-follow-requires : tie.Need-follow-requires
+follow-requires : tie.Need-follow-found-requires
 follow-requires c κs = follow-asked _ _ _ _ c.before.before.requires _ refl
 
-sub-count : tie.Need-overflow-sub-count
+sub-count : tie.Need-overflow_sub-count
 sub-count c =
     let f = c.before in
-    omega (arith, followed-part _ _ _ _ f.before.before.before.requires _ _ _ f.follow.ensures)
+    omega (arith, followed-part _ _ _ _ f.before.before.before.requires _ _ _ f.follow-found.ensures)
 
-copy-part-requires : tie.Need-copy-part-requires
+copy-part-requires : tie.Need-copy_part-requires
 copy-part-requires c κs =
     let f = c.before.before.before in
     let a = f.before.before.before.requires in
-    omega (arith, followed-part _ _ _ _ a _ _ _ f.follow.ensures, a.small, a.long)
+    omega (arith, followed-part _ _ _ _ a _ _ _ f.follow-found.ensures, a.small, a.long)
 
 returns : tie.Need-returns
 returns c =
     let f = c.before.before.before.before.before.before in
-    followed-written _ _ _ _ f.before.before.before.requires _ _ _ _ f.follow.ensures c.before.before.copy-part.ensures
+    followed-written _ _ _ _ f.before.before.before.requires _ _ _ _ f.follow-found.ensures c.before.before.copy_part.ensures
 
-pub cycle-spec : {M : Type 1} → statement M
-cycle-spec = tie.close (tie.spec follow-requires sub-count copy-part-requires (λ c. search rules) returns)
+pub cycle_spec : {M : Type 1} → statement M
+cycle_spec = tie.close (tie.spec follow-requires sub-count copy-part-requires (λ c. search rules) returns)

@@ -10,37 +10,37 @@ use Rattle.graph_cycle.proofs.InGroup.{loop-grouped, no-loop-alone}
 use Rattle.graph_cycle.proofs.first_grouped.Statement.{statement}
 use Rattle.graph_cycle.proofs.first_grouped.Tie as tie
 
-abbrev invariant-loop : tie.invariant-loop
-invariant-loop closed n i₀ i = Scanned (grouped (bits closed) n) n i
+abbrev invariant-loop-i : tie.invariant-loop-i
+invariant-loop-i closed n i₀ i = Scanned (grouped (bits closed) n) n i
 
-abbrev decreases-loop : tie.decreases-loop
-decreases-loop closed n i₀ i = n - i
+abbrev decreases-loop-i : tie.decreases-loop-i
+decreases-loop-i closed n i₀ i = n - i
 
-returns : tie.Need-returns invariant-loop decreases-loop
+returns : tie.Need-returns-then-bit-eq1 invariant-loop-i decreases-loop-i
 unfolding start
 returns c =
     let u = c.before.before.before in
     let d = u.before.before in
-    scan-hit _ _ _ u.before.loop.invariant u.loop-test.true
-    (loop-grouped d.args.closed.now _ d.requires.1 _ u.loop-test.true (sym c.before.bit.ensures ∙ c.if1.true))
+    scan-hit _ _ _ u.before.loop-i.invariant u.loop-i-test.true
+    (loop-grouped d.args.closed.now _ d.requires.1 _ u.loop-i-test.true (sym c.before.bit.ensures ∙ c.if-bit-eq1.true))
 
-loop-again : tie.Need-loop-preserved invariant-loop decreases-loop
+loop-again : tie.Need-loop-i-preserved invariant-loop-i decreases-loop-i
 loop-again c =
     let u = c.before.before.before in
     let d = u.before.before in
-    scan-more _ _ _ u.before.loop.invariant u.loop-test.true
-    (no-loop-alone d.args.closed.now _ d.requires.1 _ u.loop-test.true (λ e. c.if1.false (c.before.bit.ensures ∙ e)))
+    scan-more _ _ _ u.before.loop-i.invariant u.loop-i-test.true
+    (no-loop-alone d.args.closed.now _ d.requires.1 _ u.loop-i-test.true (λ e. c.if-bit-eq1.false (c.before.bit.ensures ∙ e)))
 
-returns-2 : tie.Need-returns-2 invariant-loop decreases-loop
+returns-2 : tie.Need-returns invariant-loop-i decreases-loop-i
 unfolding start
-returns-2 c = scan-miss _ _ _ c.before.loop.invariant c.loop-test.false
+returns-2 c = scan-miss _ _ _ c.before.loop-i.invariant c.loop-i-test.false
 
-pub first-grouped-spec : {M : Type 1} → statement M
-first-grouped-spec =
+pub first_grouped_spec : {M : Type 1} → statement M
+first_grouped_spec =
     tie.close
     (tie.spec
-    invariant-loop
-    decreases-loop
+    invariant-loop-i
+    decreases-loop-i
     (λ c. scan-start _ _)
     (λ c. search rules)
     (λ c. search rules)

@@ -8,57 +8,57 @@ use Rattle.graph_cycle.proofs.Following.{trail-next, Follows, follows-start, fol
 use Rattle.graph_cycle.proofs.follow.Statement.{statement}
 use Rattle.graph_cycle.proofs.follow.Tie as tie
 
-abbrev invariant-loop : tie.invariant-loop
-invariant-loop rows closed n path₀ w₀ k₀ met₀ path w k met = Follows (trail (bits rows) (bits closed) n) n path w k met
+abbrev invariant-loop-met : tie.invariant-loop-met
+invariant-loop-met rows closed n path₀ w₀ k₀ met₀ path w k met = Follows (trail (bits rows) (bits closed) n) n path w k met
 
-abbrev decreases-loop : tie.decreases-loop
-decreases-loop rows closed n path₀ w₀ k₀ met₀ path w k met = n - k
+abbrev decreases-loop-met : tie.decreases-loop-met
+decreases-loop-met rows closed n path₀ w₀ k₀ met₀ path w k met = n - k
 
-first-grouped-requires : tie.Need-first-grouped-requires invariant-loop decreases-loop
+first-grouped-requires : tie.Need-first_grouped-w-requires invariant-loop-met decreases-loop-met
 first-grouped-requires c κs = (c.requires.small, c.requires.loops)
 
-loop-holds : tie.Need-loop-init invariant-loop decreases-loop
+loop-holds : tie.Need-loop-met-init invariant-loop-met decreases-loop-met
 unfolding walk
 loop-holds c =
     let a = c.before.requires in
-    follows-start _ _ _ _ a.small a.stays a.long c.first-grouped.ensures
+    follows-start _ _ _ _ a.small a.stays a.long c.first_grouped-w.ensures
 
-cast-path : tie.Need-overflow-cast-path invariant-loop decreases-loop
-cast-path c = omega (arith, follows-below _ _ _ _ _ _ c.before.loop.invariant, c.before.loop.invariant.small)
+cast-path : tie.Need-overflow_cast-path invariant-loop-met decreases-loop-met
+cast-path c = omega (arith, follows-below _ _ _ _ _ _ c.before.loop-met.invariant, c.before.loop-met.invariant.small)
 
-element-write-path : tie.Need-element-write-path invariant-loop decreases-loop
-element-write-path c = omega (arith, follows-room _ _ _ _ _ _ c.before.loop.invariant c.loop-test.true, c.before.loop.invariant.small)
+element-write-path : tie.Need-bounds-path-k invariant-loop-met decreases-loop-met
+element-write-path c = omega (arith, follows-room _ _ _ _ _ _ c.before.loop-met.invariant c.loop-met-test.true, c.before.loop-met.invariant.small)
 
-next-router-requires : tie.Need-next-router-requires invariant-loop decreases-loop
+next-router-requires : tie.Need-next_router-w-requires invariant-loop-met decreases-loop-met
 next-router-requires c κs =
     let u = c.before in
-    (u.loop.invariant.small, follows-below _ _ _ _ _ _ u.loop.invariant, u.before.before.requires.within)
+    (u.loop-met.invariant.small, follows-below _ _ _ _ _ _ u.loop-met.invariant, u.before.before.requires.within)
 
-add-k : tie.Need-overflow-add-k invariant-loop decreases-loop
-add-k c = omega (arith, follows-room _ _ _ _ _ _ c.before.before.loop.invariant c.before.loop-test.true, c.before.before.loop.invariant.small)
+add-k : tie.Need-overflow_add-k invariant-loop-met decreases-loop-met
+add-k c = omega (arith, follows-room _ _ _ _ _ _ c.before.before.loop-met.invariant c.before.loop-met-test.true, c.before.before.loop-met.invariant.small)
 
-place-requires : tie.Need-place-requires invariant-loop decreases-loop
-place-requires c κs = omega (arith, follows-room _ _ _ _ _ _ c.before.before.before.loop.invariant c.before.before.loop-test.true, c.before.before.before.loop.invariant.small)
+place-requires : tie.Need-place-met-requires invariant-loop-met decreases-loop-met
+place-requires c κs = omega (arith, follows-room _ _ _ _ _ _ c.before.before.before.loop-met.invariant c.before.before.loop-met-test.true, c.before.before.before.loop-met.invariant.small)
 
-loop-less : tie.Need-loop-smaller invariant-loop decreases-loop
-loop-less c = omega (arith, follows-room _ _ _ _ _ _ c.before.before.before.before.loop.invariant c.before.before.before.loop-test.true)
+loop-less : tie.Need-loop-met-smaller invariant-loop-met decreases-loop-met
+loop-less c = omega (arith, follows-room _ _ _ _ _ _ c.before.before.before.before.loop-met.invariant c.before.before.before.loop-met-test.true)
 
-loop-again : tie.Need-loop-preserved invariant-loop decreases-loop
+loop-again : tie.Need-loop-met-preserved invariant-loop-met decreases-loop-met
 loop-again c =
     let u = c.before.before.before in
-    follows-more _ _ _ _ _ _ _ _ u.before.loop.invariant u.loop-test.true
-    (c.before.before.next-router.ensures ∙ ap (next _ _ _) u.before.loop.invariant.here ∙ sym (trail-next _ _ _ _))
-    c.place.ensures
+    follows-more _ _ _ _ _ _ _ _ u.before.loop-met.invariant u.loop-met-test.true
+    (c.before.before.next_router-w.ensures ∙ ap (next _ _ _) u.before.loop-met.invariant.here ∙ sym (trail-next _ _ _ _))
+    c.place-met.ensures
 
-returns : tie.Need-returns invariant-loop decreases-loop
-returns c = follows-done _ _ _ _ _ _ c.before.loop.invariant c.loop-test.false
+returns : tie.Need-returns invariant-loop-met decreases-loop-met
+returns c = follows-done _ _ _ _ _ _ c.before.loop-met.invariant c.loop-met-test.false
 
-pub follow-spec : {M : Type 1} → statement M
-follow-spec =
+pub follow_spec : {M : Type 1} → statement M
+follow_spec =
     tie.close
     (tie.spec
-    invariant-loop
-    decreases-loop
+    invariant-loop-met
+    decreases-loop-met
     first-grouped-requires
     loop-holds
     cast-path

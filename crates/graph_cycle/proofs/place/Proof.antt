@@ -9,34 +9,34 @@ use Rattle.base.specs.Seek.{flag}
 use Rattle.graph_cycle.proofs.place.Statement.{statement}
 use Rattle.graph_cycle.proofs.place.Tie as tie
 
-abbrev invariant-loop : tie.invariant-loop
-invariant-loop path k w i₀ i = Scanned (λ d. flag (eqb (get_or path d 0) w)) k i
+abbrev invariant-loop-i : tie.invariant-loop-i
+invariant-loop-i path k w i₀ i = Scanned (λ d. flag (eqb (get_or path d 0) w)) k i
 
-abbrev decreases-loop : tie.decreases-loop
-decreases-loop path k w i₀ i = k - i
+abbrev decreases-loop-i : tie.decreases-loop-i
+decreases-loop-i path k w i₀ i = k - i
 
-loop-holds : tie.Need-loop-init invariant-loop decreases-loop
+loop-holds : tie.Need-loop-i-init invariant-loop-i decreases-loop-i
 loop-holds c = scan-start _ _
 
-returns : tie.Need-returns invariant-loop decreases-loop
+returns : tie.Need-returns-then-wide-w invariant-loop-i decreases-loop-i
 returns c =
     let u = c.before.before.before in
-    scan-hit _ _ _ u.before.loop.invariant u.loop-test.true (flag_one _ _ (sym c.before.wide.ensures.0 ∙ c.if1.true))
+    scan-hit _ _ _ u.before.loop-i.invariant u.loop-i-test.true (flag_one _ _ (sym c.before.wide.ensures.0 ∙ c.if-wide-w.true))
 
-loop-again : tie.Need-loop-preserved invariant-loop decreases-loop
+loop-again : tie.Need-loop-i-preserved invariant-loop-i decreases-loop-i
 loop-again c =
     let u = c.before.before.before in
-    scan-more _ _ _ u.before.loop.invariant u.loop-test.true (flag-none _ _ (λ e. c.if1.false (c.before.wide.ensures.0 ∙ e)))
+    scan-more _ _ _ u.before.loop-i.invariant u.loop-i-test.true (flag-none _ _ (λ e. c.if-wide-w.false (c.before.wide.ensures.0 ∙ e)))
 
-returns-2 : tie.Need-returns-2 invariant-loop decreases-loop
-returns-2 c = scan-miss _ _ _ c.before.loop.invariant c.loop-test.false
+returns-2 : tie.Need-returns invariant-loop-i decreases-loop-i
+returns-2 c = scan-miss _ _ _ c.before.loop-i.invariant c.loop-i-test.false
 
-pub place-spec : {M : Type 1} → statement M
-place-spec =
+pub place_spec : {M : Type 1} → statement M
+place_spec =
     tie.close
     (tie.spec
-    invariant-loop
-    decreases-loop
+    invariant-loop-i
+    decreases-loop-i
     loop-holds
     (λ c. search rules)
     (λ c κs. search rules)

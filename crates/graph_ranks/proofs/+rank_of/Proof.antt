@@ -74,7 +74,7 @@ loop-again t c =
     h.higher.ensures
     (c.without-lowest.ensures.1 _ low)
 
-cast-known : (t : ℕ) → rank-of-lts.Need-overflow-cast-known (claims t) (rank-of-at t) rank-of.Post invariant-loop decreases-loop
+cast-known : (t : ℕ) → rank-of-lts.Need-overflow_cast-known (claims t) (rank-of-at t) rank-of.Post invariant-loop decreases-loop
 cast-known t c = omega (arith, gathered-low _ _ _ _ _ _ _ _ c.before.loop.invariant c.loop-test.false)
 
 slice-write-known : (t : ℕ) → rank-of-lts.Need-slice-write-known (claims t) (rank-of-at t) rank-of.Post invariant-loop decreases-loop

@@ -7,41 +7,41 @@ use Rattle.graph_ranks.proofs.RankBuffer.{Ranks, ranks-start, ranks-asks, ranks-
 use Rattle.graph_ranks.proofs.ranks.Statement.{statement}
 use Rattle.graph_ranks.proofs.ranks.Tie as tie
 
-abbrev invariant-loop : tie.invariant-loop
-invariant-loop rows n out₀ high₀ w₀ out high w = Ranks (bits rows) n out₀ out high w
+abbrev invariant-loop-w : tie.invariant-loop-w
+invariant-loop-w rows n out₀ high₀ w₀ out high w = Ranks (bits rows) n out₀ out high w
 
-abbrev decreases-loop : tie.decreases-loop
-decreases-loop rows n out₀ high₀ w₀ out high w = n - w
+abbrev decreases-loop-w : tie.decreases-loop-w
+decreases-loop-w rows n out₀ high₀ w₀ out high w = n - w
 
-loop-holds : tie.Need-loop-init invariant-loop decreases-loop
+loop-holds : tie.Need-loop-w-init invariant-loop-w decreases-loop-w
 loop-holds c =
     let f = c.before.before in
     let e = f.before.before.before in
-    ranks-start _ _ e.args.out.now _ e.requires f.forget.auto.0 f.forget.ensures
+    ranks-start _ _ e.args.out-1.now _ e.requires f.forget.auto.0 f.forget.ensures
 
-rank-of-requires : tie.Need-rank-of-requires invariant-loop decreases-loop
-rank-of-requires c κs = ranks-asks _ _ _ _ _ _ c.before.before.loop.invariant c.before.loop-test.true
+rank-of-requires : tie.Need-rank_of-r-requires invariant-loop-w decreases-loop-w
+rank-of-requires c κs = ranks-asks _ _ _ _ _ _ c.before.before.loop-w.invariant c.before.loop-w-test.true
 
-loop-again : tie.Need-loop-preserved invariant-loop decreases-loop
+loop-again : tie.Need-loop-w-preserved invariant-loop-w decreases-loop-w
 loop-again c =
     let r = c.before.before.before in
-    ranks-more _ _ _ _ _ _ _ _ _ r.before.before.before.loop.invariant r.before.before.loop-test.true
-    r.rank-of.auto.1.1.1.1.0
-    r.rank-of.ensures
-    c.higher.ensures
+    ranks-more _ _ _ _ _ _ _ _ _ r.before.before.before.loop-w.invariant r.before.before.loop-w-test.true
+    r.rank_of-r.auto.1.1.1.1.0
+    r.rank_of-r.ensures
+    c.higher-high.ensures
 
-same_length : tie.Need-same-length invariant-loop decreases-loop
-same_length c = c.before.loop.invariant.len ∙ c.before.before.before.before.forget.auto.0
+same_length : tie.Need-shape_of-out invariant-loop-w decreases-loop-w
+same_length c = c.before.loop-w.invariant.len ∙ c.before.before.before.before.forget.auto.out
 
-returns : tie.Need-returns invariant-loop decreases-loop
-returns c = ranks-done _ _ _ _ _ _ _ c.before.before.before.before.forget.ensures c.before.loop.invariant c.loop-test.false
+returns : tie.Need-returns invariant-loop-w decreases-loop-w
+returns c = ranks-done _ _ _ _ _ _ _ c.before.before.before.before.forget.ensures c.before.loop-w.invariant c.loop-w-test.false
 
-pub ranks-spec : {M : Type 1} → statement M
-ranks-spec =
+pub ranks_spec : {M : Type 1} → statement M
+ranks_spec =
     tie.close
     (tie.spec
-    invariant-loop
-    decreases-loop
+    invariant-loop-w
+    decreases-loop-w
     (λ c κs. search rules)
     loop-holds
     rank-of-requires

@@ -7,18 +7,18 @@ use Rattle.links_words.specs.Lowered.{word_at}
 use Rattle.links_words.proofs.copy_row.Statement.{statement}
 use Rattle.links_words.proofs.copy_row.Tie as tie
 
-abbrev invariant-loop : tie.invariant-loop
-invariant-loop words n k row₀ j₀ row j = Written (word_at words k) n row₀ row j
+abbrev invariant-loop-j : tie.invariant-loop-j
+invariant-loop-j words n k row₀ j₀ row j = Written (word_at words k) n row₀ row j
 
-abbrev decreases-loop : tie.decreases-loop
-decreases-loop words n k row₀ j₀ row j = n - j
+abbrev decreases-loop-j : tie.decreases-loop-j
+decreases-loop-j words n k row₀ j₀ row j = n - j
 
-pub copy-row-spec : {M : Type 1} → statement M
-copy-row-spec =
+pub copy_row_spec : {M : Type 1} → statement M
+copy_row_spec =
     tie.close
     (tie.spec
-    invariant-loop
-    decreases-loop
+    invariant-loop-j
+    decreases-loop-j
     (λ c. write-start _ _ _ (search rules))
     (λ c. search rules)
     (λ c. search rules)
@@ -28,5 +28,5 @@ copy-row-spec =
     (λ c. search rules)
     (λ c. search rules)
     (λ c. search rules)
-    (λ c. write-more _ _ _ 0 _ _ _ c.before.before.loop.invariant c.before.loop-test.true refl)
-    (λ c. write_done _ _ _ _ _ c.before.loop.invariant c.loop-test.false))
+    (λ c. write-more _ _ _ 0 _ _ _ c.loop-j.invariant c.loop-j-test.true refl)
+    (λ c. write_done _ _ _ _ _ c.loop-j.invariant c.loop-j-test.false))

@@ -17,4 +17,4 @@ lower_spec =
     (λ c. search rules)
     (λ c. search rules)
     (λ c. search rules)
-    (λ c. let a = c.before.before.before.args in ap (set a.words.now (64 * a.i + a.j)) c.lesser.ensures))
+    (λ c. let a = c.args in ap (set a.words.now (64 * a.i + a.j)) c.lesser.ensures))

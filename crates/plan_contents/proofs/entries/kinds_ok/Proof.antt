@@ -5,9 +5,9 @@ use Rattle.plan_contents.specs.Contents.{kinds_ok}
 use Rattle.plan_contents.proofs.entries.kinds_ok.Statement.{statement}
 use Rattle.plan_contents.proofs.entries.kinds_ok.Tie as tie
 
-pub kinds-ok-spec : {M : Type 1} → statement M
+pub kinds_ok_spec : {M : Type 1} → statement M
 unfolding kinds_ok
-kinds-ok-spec =
+kinds_ok_spec =
     tie.close
     (tie.spec
     (λ c. search rules)

@@ -5,51 +5,51 @@ use Rattle.plan_contents.specs.Contents.{places_ok}
 use Rattle.plan_contents.proofs.entries.places_ok.Statement.{statement}
 use Rattle.plan_contents.proofs.entries.places_ok.Tie as tie
 
-returns : tie.Need-returns
+returns : tie.Need-returns-then-routers-ne26
 unfolding places_ok
-returns c = rw (ne_eqb _ _ c.if1.true)
+returns c = rw (ne_eqb _ _ c.if-routers-ne26.true)
 
-returns-2 : tie.Need-returns-2
+returns-2 : tie.Need-returns-then-not-follows
 unfolding places_ok
-returns-2 c = rw (eq-eqb _ _ c.before.before.before.if1.false, no _ c.before.follows.ensures c.if2.true)
+returns-2 c = rw (eq-eqb _ _ c.if-routers-ne26.false, no _ c.follows.ensures c.if-not-follows.true)
 
-returns-3 : tie.Need-returns-3
+returns-3 : tie.Need-returns-then-not-follows-2
 unfolding places_ok
 returns-3 c =
-    let second = c.before.before.before in
+    let second = c in
     rw (
-      eq-eqb _ _ second.before.before.before.if1.false,
-      yes _ second.before.follows.ensures second.if2.false,
-      no _ c.before.follows2.ensures c.if3.true,
+      eq-eqb _ _ second.if-routers-ne26.false,
+      yes _ second.follows.ensures second.if-not-follows.false,
+      no _ c.follows-2.ensures c.if-not-follows-2.true,
     )
 
-returns-4 : tie.Need-returns-4
+returns-4 : tie.Need-returns-then-not-follows-3
 unfolding places_ok
 returns-4 c =
-    let third = c.before.before.before in
-    let second = third.before.before.before in
+    let third = c in
+    let second = third in
     rw (
-      eq-eqb _ _ second.before.before.before.if1.false,
-      yes _ second.before.follows.ensures second.if2.false,
-      yes _ third.before.follows2.ensures third.if3.false,
-      no _ c.before.follows3.ensures c.if4.true,
+      eq-eqb _ _ second.if-routers-ne26.false,
+      yes _ second.follows.ensures second.if-not-follows.false,
+      yes _ third.follows-2.ensures third.if-not-follows-2.false,
+      no _ c.follows-3.ensures c.if-not-follows-3.true,
     )
 
-returns-5 : tie.Need-returns-5
+returns-5 : tie.Need-returns
 unfolding places_ok
 returns-5 c =
-    let last = c.before.before in
-    let third = last.before.before.before in
-    let second = third.before.before.before in
+    let last = c in
+    let third = last in
+    let second = third in
     rw (
-      eq-eqb _ _ second.before.before.before.if1.false,
-      yes _ second.before.follows.ensures second.if2.false,
-      yes _ third.before.follows2.ensures third.if3.false,
-      yes _ last.before.follows3.ensures last.if4.false,
+      eq-eqb _ _ second.if-routers-ne26.false,
+      yes _ second.follows.ensures second.if-not-follows.false,
+      yes _ third.follows-2.ensures third.if-not-follows-2.false,
+      yes _ last.follows-3.ensures last.if-not-follows-3.false,
     )
 
-pub places-ok-spec : {M : Type 1} → statement M
-places-ok-spec =
+pub places_ok_spec : {M : Type 1} → statement M
+places_ok_spec =
     tie.close
     (tie.spec
     (λ c. search rules)

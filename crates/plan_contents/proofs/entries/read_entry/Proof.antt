@@ -5,8 +5,8 @@ use Rattle.plan_contents.proofs.entries.read_entry.Tie as tie
 returns : tie.Need-returns
 returns c = cc
 
-pub read-entry-spec : {M : Type 1} → statement M
-read-entry-spec =
+pub read_entry_spec : {M : Type 1} → statement M
+read_entry_spec =
     tie.close
     (tie.spec
     (λ c. search rules)

@@ -7,9 +7,9 @@ use Rattle.plan_contents.specs.Contents.{sizes_ok}
 use Rattle.plan_contents.proofs.entries.sizes_ok.Statement.{statement}
 use Rattle.plan_contents.proofs.entries.sizes_ok.Tie as tie
 
-pub sizes-ok-spec : {M : Type 1} → statement M
+pub sizes_ok_spec : {M : Type 1} → statement M
 unfolding sizes_ok
-sizes-ok-spec =
+sizes_ok_spec =
     tie.close
     (tie.spec
     (λ c. search rules)
@@ -20,8 +20,8 @@ sizes-ok-spec =
     (λ c. search tests)
     (λ c. search rules)
     (λ c. search rules)
-    (λ c. let p = c.before.before.before.before.before.before.before.before.requires in omega (arith, square_le _ 64 p.1))
+    (λ c. let p = c.requires in omega (arith, square_le _ 64 p.1))
     (λ c.
-    let p = c.before.before.before.before.before.before.before.before.requires in
+    let p = c.requires in
     omega (arith, mul-le-mul p.0 (square_le _ 64 p.1)))
     (λ c. search tests))

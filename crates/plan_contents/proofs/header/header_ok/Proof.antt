@@ -5,9 +5,9 @@ use Rattle.plan_contents.specs.Header.{header_ok}
 use Rattle.plan_contents.proofs.header.header_ok.Statement.{statement}
 use Rattle.plan_contents.proofs.header.header_ok.Tie as tie
 
-pub header-ok-spec : {M : Type 1} → statement M
+pub header_ok_spec : {M : Type 1} → statement M
 unfolding header_ok
-header-ok-spec =
+header_ok_spec =
     tie.close
     (tie.spec
     (λ c. search tests)
@@ -19,6 +19,6 @@ header-ok-spec =
     (λ c. search tests)
     (λ c. search rules)
     (λ c κs. search rules)
-    (λ c. rw (no _ c.before.mark-ok.ensures c.if5.true) (search tests))
+    (λ c. rw (no _ c.mark_ok.ensures c.if-not-mark_ok.true) (search tests))
     (λ c. search rules)
-    (λ c. rw (yes _ c.before.before.mark-ok.ensures c.before.if5.false) (search tests)))
+    (λ c. rw (yes _ c.mark_ok.ensures c.if-not-mark_ok.false) (search tests)))

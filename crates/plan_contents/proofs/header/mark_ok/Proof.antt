@@ -6,6 +6,6 @@ use Rattle.plan_contents.specs.Header.{mark_ok}
 use Rattle.plan_contents.proofs.header.mark_ok.Statement.{statement}
 use Rattle.plan_contents.proofs.header.mark_ok.Tie as tie
 
-pub mark-ok-spec : {M : Type 1} → statement M
+pub mark_ok_spec : {M : Type 1} → statement M
 unfolding mark_ok
-mark-ok-spec = tie.close (tie.spec (λ c. rw c.if1.true (sym (or-false _))) (λ c. rw (ne_eqb _ 49 c.before.if1.false, eq-eqb _ 50 c.if2.true)) (λ c. rw (ne_eqb _ 49 c.before.if1.false, ne_eqb _ 50 c.if2.false)))
+mark_ok_spec = tie.close (tie.spec (λ c. rw c.if-mark-eq-NARROW.true (sym (or-false _))) (λ c. rw (ne_eqb _ 49 c.if-mark-eq-NARROW.false, eq-eqb _ 50 c.if-mark-eq-WIDE.true)) (λ c. rw (ne_eqb _ 49 c.if-mark-eq-NARROW.false, ne_eqb _ 50 c.if-mark-eq-WIDE.false)))
