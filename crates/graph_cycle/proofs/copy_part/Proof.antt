@@ -17,16 +17,16 @@ loop-holds : tie.Need-loop-d-init invariant-loop-d decreases-loop-d
 loop-holds c = write-start _ _ _ c.requires.1
 
 slice-write-out : tie.Need-bounds-out-d invariant-loop-d decreases-loop-d
-slice-write-out c = write-room _ _ _ _ _ c.before.before.loop-d.invariant c.before.loop-d-test.true
+slice-write-out c = write-room _ _ _ _ _ c.loop-d.invariant c.loop-d-test.true
 
 loop-again : tie.Need-loop-d-preserved invariant-loop-d decreases-loop-d
-loop-again c = write-more _ _ _ 0 _ _ _ c.before.before.loop-d.invariant c.before.loop-d-test.true refl
+loop-again c = write-more _ _ _ 0 _ _ _ c.loop-d.invariant c.loop-d-test.true refl
 
 same_length : tie.Need-shape_of-out invariant-loop-d decreases-loop-d
-same_length c = write-length _ _ _ _ _ c.before.loop-d.invariant
+same_length c = write-length _ _ _ _ _ c.loop-d.invariant
 
 returns : tie.Need-returns invariant-loop-d decreases-loop-d
-returns c = write_done _ _ _ _ _ c.before.loop-d.invariant c.loop-d-test.false
+returns c = write_done _ _ _ _ _ c.loop-d.invariant c.loop-d-test.false
 
 pub copy_part_spec : {M : Type 1} → statement M
 copy_part_spec =

@@ -7,23 +7,23 @@ use Rattle.graph_cycle.proofs.cycle.Statement.{statement}
 use Rattle.graph_cycle.proofs.cycle.Tie as tie
 
 follow-requires : tie.Need-follow-found-requires
-follow-requires c κs = follow-asked _ _ _ _ c.before.before.requires _ refl
+follow-requires c κs = follow-asked _ _ _ _ c.requires _ refl
 
 sub-count : tie.Need-overflow_sub-count
 sub-count c =
-    let f = c.before in
-    omega (arith, followed-part _ _ _ _ f.before.before.before.requires _ _ _ f.follow-found.ensures)
+    let f = c in
+    omega (arith, followed-part _ _ _ _ f.requires _ _ _ f.follow-found.ensures)
 
 copy-part-requires : tie.Need-copy_part-requires
 copy-part-requires c κs =
-    let f = c.before.before.before in
-    let a = f.before.before.before.requires in
+    let f = c in
+    let a = f.requires in
     omega (arith, followed-part _ _ _ _ a _ _ _ f.follow-found.ensures, a.small, a.long)
 
 returns : tie.Need-returns
 returns c =
-    let f = c.before.before.before.before.before.before in
-    followed-written _ _ _ _ f.before.before.before.requires _ _ _ _ f.follow-found.ensures c.before.before.copy_part.ensures
+    let f = c in
+    followed-written _ _ _ _ f.requires _ _ _ _ f.follow-found.ensures c.copy_part.ensures
 
 pub cycle_spec : {M : Type 1} → statement M
 cycle_spec = tie.close (tie.spec follow-requires sub-count copy-part-requires (λ c. search rules) returns)

@@ -19,21 +19,21 @@ decreases-loop-i closed n i₀ i = n - i
 returns : tie.Need-returns-then-bit-eq1 invariant-loop-i decreases-loop-i
 unfolding start
 returns c =
-    let u = c.before.before.before in
-    let d = u.before.before in
-    scan-hit _ _ _ u.before.loop-i.invariant u.loop-i-test.true
-    (loop-grouped d.args.closed.now _ d.requires.1 _ u.loop-i-test.true (sym c.before.bit.ensures ∙ c.if-bit-eq1.true))
+    let u = c in
+    let d = u in
+    scan-hit _ _ _ u.loop-i.invariant u.loop-i-test.true
+    (loop-grouped d.args.closed.now _ d.requires.1 _ u.loop-i-test.true (sym c.bit.ensures ∙ c.if-bit-eq1.true))
 
 loop-again : tie.Need-loop-i-preserved invariant-loop-i decreases-loop-i
 loop-again c =
-    let u = c.before.before.before in
-    let d = u.before.before in
-    scan-more _ _ _ u.before.loop-i.invariant u.loop-i-test.true
-    (no-loop-alone d.args.closed.now _ d.requires.1 _ u.loop-i-test.true (λ e. c.if-bit-eq1.false (c.before.bit.ensures ∙ e)))
+    let u = c in
+    let d = u in
+    scan-more _ _ _ u.loop-i.invariant u.loop-i-test.true
+    (no-loop-alone d.args.closed.now _ d.requires.1 _ u.loop-i-test.true (λ e. c.if-bit-eq1.false (c.bit.ensures ∙ e)))
 
 returns-2 : tie.Need-returns invariant-loop-i decreases-loop-i
 unfolding start
-returns-2 c = scan-miss _ _ _ c.before.loop-i.invariant c.loop-i-test.false
+returns-2 c = scan-miss _ _ _ c.loop-i.invariant c.loop-i-test.false
 
 pub first_grouped_spec : {M : Type 1} → statement M
 first_grouped_spec =

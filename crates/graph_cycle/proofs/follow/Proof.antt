@@ -20,38 +20,38 @@ first-grouped-requires c κs = (c.requires.small, c.requires.loops)
 loop-holds : tie.Need-loop-met-init invariant-loop-met decreases-loop-met
 unfolding walk
 loop-holds c =
-    let a = c.before.requires in
+    let a = c.requires in
     follows-start _ _ _ _ a.small a.stays a.long c.first_grouped-w.ensures
 
 cast-path : tie.Need-overflow_cast-path invariant-loop-met decreases-loop-met
-cast-path c = omega (arith, follows-below _ _ _ _ _ _ c.before.loop-met.invariant, c.before.loop-met.invariant.small)
+cast-path c = omega (arith, follows-below _ _ _ _ _ _ c.loop-met.invariant, c.loop-met.invariant.small)
 
 element-write-path : tie.Need-bounds-path-k invariant-loop-met decreases-loop-met
-element-write-path c = omega (arith, follows-room _ _ _ _ _ _ c.before.loop-met.invariant c.loop-met-test.true, c.before.loop-met.invariant.small)
+element-write-path c = omega (arith, follows-room _ _ _ _ _ _ c.loop-met.invariant c.loop-met-test.true, c.loop-met.invariant.small)
 
 next-router-requires : tie.Need-next_router-w-requires invariant-loop-met decreases-loop-met
 next-router-requires c κs =
-    let u = c.before in
-    (u.loop-met.invariant.small, follows-below _ _ _ _ _ _ u.loop-met.invariant, u.before.before.requires.within)
+    let u = c in
+    (u.loop-met.invariant.small, follows-below _ _ _ _ _ _ u.loop-met.invariant, u.requires.within)
 
 add-k : tie.Need-overflow_add-k invariant-loop-met decreases-loop-met
-add-k c = omega (arith, follows-room _ _ _ _ _ _ c.before.before.loop-met.invariant c.before.loop-met-test.true, c.before.before.loop-met.invariant.small)
+add-k c = omega (arith, follows-room _ _ _ _ _ _ c.loop-met.invariant c.loop-met-test.true, c.loop-met.invariant.small)
 
 place-requires : tie.Need-place-met-requires invariant-loop-met decreases-loop-met
-place-requires c κs = omega (arith, follows-room _ _ _ _ _ _ c.before.before.before.loop-met.invariant c.before.before.loop-met-test.true, c.before.before.before.loop-met.invariant.small)
+place-requires c κs = omega (arith, follows-room _ _ _ _ _ _ c.loop-met.invariant c.loop-met-test.true, c.loop-met.invariant.small)
 
 loop-less : tie.Need-loop-met-smaller invariant-loop-met decreases-loop-met
-loop-less c = omega (arith, follows-room _ _ _ _ _ _ c.before.before.before.before.loop-met.invariant c.before.before.before.loop-met-test.true)
+loop-less c = omega (arith, follows-room _ _ _ _ _ _ c.loop-met.invariant c.loop-met-test.true)
 
 loop-again : tie.Need-loop-met-preserved invariant-loop-met decreases-loop-met
 loop-again c =
-    let u = c.before.before.before in
-    follows-more _ _ _ _ _ _ _ _ u.before.loop-met.invariant u.loop-met-test.true
-    (c.before.before.next_router-w.ensures ∙ ap (next _ _ _) u.before.loop-met.invariant.here ∙ sym (trail-next _ _ _ _))
+    let u = c in
+    follows-more _ _ _ _ _ _ _ _ u.loop-met.invariant u.loop-met-test.true
+    (c.next_router-w.ensures ∙ ap (next _ _ _) u.loop-met.invariant.here ∙ sym (trail-next _ _ _ _))
     c.place-met.ensures
 
 returns : tie.Need-returns invariant-loop-met decreases-loop-met
-returns c = follows-done _ _ _ _ _ _ c.before.loop-met.invariant c.loop-met-test.false
+returns c = follows-done _ _ _ _ _ _ c.loop-met.invariant c.loop-met-test.false
 
 pub follow_spec : {M : Type 1} → statement M
 follow_spec =

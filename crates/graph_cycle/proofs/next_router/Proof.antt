@@ -34,28 +34,28 @@ abbrev Visit : Type 0
 Visit = tie.After-lowest_bit-v invariant-loop-left decreases-loop-left
 
 abbrev start : Visit → Start
-start c = c.before.before.before.before
+start c = c.before.before.before.before.before
 
 share-requires : tie.Need-share-requires invariant-loop-left decreases-loop-left
 share-requires c κs =
     let d = start c in
-    omega (arith, seeking-below (test d) _ _ (off d) _ c.before.before.loop-left.invariant (within d) _ c.lowest_bit-v.ensures.0, d.pre.0, d.pre.1)
+    omega (arith, seeking-below (test d) _ _ (off d) _ c.loop-left.invariant (within d) _ c.lowest_bit-v.ensures.0, d.requires.0, d.requires.1)
 
 -- what is asked of it is the test
-asked : (c : tie.After-share invariant-loop-left decreases-loop-left) → c.share.result ≡ test (start c.before) c.before.lowest_bit-v.result
+asked : (c : tie.After-share invariant-loop-left decreases-loop-left) → c.share.result ≡ test (start c.before) c.lowest_bit-v.result
 asked c =
     let v = c.before in
     let d = start v in
     c.share.ensures
     ∙ next-on d.args.rows.now d.args.closed.now d.args.w _
-    (seeking-set (test d) _ _ (off d) _ v.before.before.loop-left.invariant (within d) _ v.lowest_bit-v.ensures.0)
+    (seeking-set (test d) _ _ (off d) _ v.loop-left.invariant (within d) _ v.lowest_bit-v.ensures.0)
 
 returns : tie.Need-returns-then-share-gt0 invariant-loop-left decreases-loop-left
 unfolding next
 returns c =
     let v = c.before.before in
     let d = start v in
-    seeking-hit (test d) _ _ (off d) _ v.before.before.loop-left.invariant (within d) _ v.lowest_bit-v.ensures.0 (omega (arith, asked c.before))
+    seeking-hit (test d) _ _ (off d) _ v.loop-left.invariant (within d) _ v.lowest_bit-v.ensures.0 (omega (arith, asked c.before))
 
 loop-again : tie.Need-loop-left-preserved invariant-loop-left decreases-loop-left
 loop-again c =
@@ -63,11 +63,11 @@ loop-again c =
     let v = s.before in
     let d = start v in
     let low = v.lowest_bit-v.ensures.0 in
-    seeking-more (test d) _ _ (off d) _ v.before.before.loop-left.invariant (within d) _ low _ (c.without_lowest-left.ensures.1 _ low) (omega (arith, asked s))
+    seeking-more (test d) _ _ (off d) _ v.loop-left.invariant (within d) _ low _ (c.without_lowest-left.ensures.1 _ low) (omega (arith, asked s))
 
 returns-2 : tie.Need-returns invariant-loop-left decreases-loop-left
 unfolding next
-returns-2 c = let d = c.before.before.before in seeking-miss (test d) _ _ (off d) _ c.before.loop-left.invariant c.loop-left-test.false
+returns-2 c = let d = c.before.before.before in seeking-miss (test d.before) _ _ (off d.before) _ c.loop-left.invariant c.loop-left-test.false
 
 pub next_router_spec : {M : Type 1} → statement M
 next_router_spec =

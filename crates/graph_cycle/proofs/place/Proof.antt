@@ -20,16 +20,16 @@ loop-holds c = scan-start _ _
 
 returns : tie.Need-returns-then-wide-w invariant-loop-i decreases-loop-i
 returns c =
-    let u = c.before.before.before in
-    scan-hit _ _ _ u.before.loop-i.invariant u.loop-i-test.true (flag_one _ _ (sym c.before.wide.ensures.0 ∙ c.if-wide-w.true))
+    let u = c in
+    scan-hit _ _ _ u.loop-i.invariant u.loop-i-test.true (flag_one _ _ (sym c.wide.ensures.0 ∙ c.if-wide-w.true))
 
 loop-again : tie.Need-loop-i-preserved invariant-loop-i decreases-loop-i
 loop-again c =
-    let u = c.before.before.before in
-    scan-more _ _ _ u.before.loop-i.invariant u.loop-i-test.true (flag-none _ _ (λ e. c.if-wide-w.false (c.before.wide.ensures.0 ∙ e)))
+    let u = c in
+    scan-more _ _ _ u.loop-i.invariant u.loop-i-test.true (flag-none _ _ (λ e. c.if-wide-w.false (c.wide.ensures.0 ∙ e)))
 
 returns-2 : tie.Need-returns invariant-loop-i decreases-loop-i
-returns-2 c = scan-miss _ _ _ c.before.loop-i.invariant c.loop-i-test.false
+returns-2 c = scan-miss _ _ _ c.loop-i.invariant c.loop-i-test.false
 
 pub place_spec : {M : Type 1} → statement M
 place_spec =

@@ -40,73 +40,73 @@ claims t = (
   without-lowest-reads.Learnt,
 )
 
-abbrev invariant-loop : rank-of-lts.invariant-loop
-invariant-loop rows n w left known₀ found high₀ ahead₀ known high ahead = Gathered rows n w left known₀ known high ahead
+abbrev invariant-loop-ahead : rank-of-lts.invariant-loop-ahead
+invariant-loop-ahead rows n w left known₀ found high₀ ahead₀ known high ahead = Gathered rows n w left known₀ known high ahead
 
-abbrev decreases-loop : rank-of-lts.decreases-loop
-decreases-loop rows n w left known₀ found high₀ ahead₀ known high ahead = ahead
+abbrev decreases-loop-ahead : rank-of-lts.decreases-loop-ahead
+decreases-loop-ahead rows n w left known₀ found high₀ ahead₀ known high ahead = ahead
 
-returns : (t : ℕ) → rank-of-lts.Need-returns (claims t) (rank-of-at t) rank-of.Post invariant-loop decreases-loop
-returns t c = hit _ _ _ _ _ _ c.before.before.before.before.requires.1 c.before.if1.true c.wide.ensures.0
+returns : (t : ℕ) → rank-of-lts.Need-returns-then-found (claims t) (rank-of-at t) rank-of.Post invariant-loop-ahead decreases-loop-ahead
+returns t c = hit _ _ _ _ _ _ c.requires.1 c.if-found.true c.wide.ensures.0
 
-rank-of-requires : (t : ℕ) → rank-of-lts.Need-rank-of-requires (claims t) (rank-of-at t) rank-of.Post invariant-loop decreases-loop
+rank-of-requires : (t : ℕ) → rank-of-lts.Need-rank_of-r-requires (claims t) (rank-of-at t) rank-of.Post invariant-loop-ahead decreases-loop-ahead
 rank-of-requires t c κs =
-    let v = c.before in
-    let u = v.before.before in (
-      omega (arith, u.loop.invariant.asked.few, u.before.before.before.before.before.requires.0),
-      gathered-asks _ _ _ _ _ _ _ _ u.loop.invariant _ v.lowest-bit.ensures.0,
+    let v = c in
+    let u = v in (
+      omega (arith, u.loop-ahead.invariant.asked.few, u.requires.0),
+      gathered-asks _ _ _ _ _ _ _ _ u.loop-ahead.invariant _ v.lowest_bit-v.ensures.0,
     )
 
-add-higher : (t : ℕ) → rank-of-lts.Need-overflow-add-higher (claims t) (rank-of-at t) rank-of.Post invariant-loop decreases-loop
+add-higher : (t : ℕ) → rank-of-lts.Need-overflow_add-r (claims t) (rank-of-at t) rank-of.Post invariant-loop-ahead decreases-loop-ahead
 add-higher t c =
-    let r = c.before.before in
-    omega (arith, r.rank-of.ensures.low, r.before.before.before.before.loop.invariant.asked.small)
+    let r = c in
+    omega (arith, r.rank_of-r.ensures.low, r.loop-ahead.invariant.asked.small)
 
-loop-again : (t : ℕ) → rank-of-lts.Need-loop-preserved (claims t) (rank-of-at t) rank-of.Post invariant-loop decreases-loop
+loop-again : (t : ℕ) → rank-of-lts.Need-loop-ahead-preserved (claims t) (rank-of-at t) rank-of.Post invariant-loop-ahead decreases-loop-ahead
 loop-again t c =
-    let h = c.before in
-    let r = h.before.before.before in
-    let v = r.before.before in
-    let low = v.lowest-bit.ensures.0 in
-    gathered-more _ _ _ _ _ _ _ _ v.before.before.loop.invariant _ low _ _ _ _
-    r.rank-of.auto.1.1.1.1.0
-    r.rank-of.ensures
-    h.higher.ensures
-    (c.without-lowest.ensures.1 _ low)
+    let h = c in
+    let r = h in
+    let v = r in
+    let low = v.lowest_bit-v.ensures.0 in
+    gathered-more _ _ _ _ _ _ _ _ v.loop-ahead.invariant _ low _ _ _ _
+    r.rank_of-r.auto.known
+    r.rank_of-r.ensures
+    h.higher-high.ensures
+    (c.without_lowest-ahead.ensures.1 _ low)
 
-cast-known : (t : ℕ) → rank-of-lts.Need-overflow_cast-known (claims t) (rank-of-at t) rank-of.Post invariant-loop decreases-loop
-cast-known t c = omega (arith, gathered-low _ _ _ _ _ _ _ _ c.before.loop.invariant c.loop-test.false)
+cast-known : (t : ℕ) → rank-of-lts.Need-overflow_cast-known (claims t) (rank-of-at t) rank-of.Post invariant-loop-ahead decreases-loop-ahead
+cast-known t c = omega (arith, gathered-low _ _ _ _ _ _ _ _ c.loop-ahead.invariant c.loop-ahead-test.false)
 
-slice-write-known : (t : ℕ) → rank-of-lts.Need-slice-write-known (claims t) (rank-of-at t) rank-of.Post invariant-loop decreases-loop
+slice-write-known : (t : ℕ) → rank-of-lts.Need-bounds-known-w-2 (claims t) (rank-of-at t) rank-of.Post invariant-loop-ahead decreases-loop-ahead
 slice-write-known t c =
-    let g = c.before.loop.invariant in
+    let g = c.loop-ahead.invariant in
     omega (arith, g.len, g.asked.long, g.asked.below)
 
-same_length : (t : ℕ) → rank-of-lts.Need-same-length (claims t) (rank-of-at t) rank-of.Post invariant-loop decreases-loop
-same_length t c = simp length-set c.before.loop.invariant.len
+same_length : (t : ℕ) → rank-of-lts.Need-shape_of-known (claims t) (rank-of-at t) rank-of.Post invariant-loop-ahead decreases-loop-ahead
+same_length t c = simp length-set c.loop-ahead.invariant.len
 
-returns-2 : (t : ℕ) → rank-of-lts.Need-returns-2 (claims t) (rank-of-at t) rank-of.Post invariant-loop decreases-loop
-returns-2 t c = gathered-found _ _ _ _ _ _ _ _ c.before.loop.invariant c.loop-test.false _ refl
+returns-2 : (t : ℕ) → rank-of-lts.Need-returns (claims t) (rank-of-at t) rank-of.Post invariant-loop-ahead decreases-loop-ahead
+returns-2 t c = gathered-found _ _ _ _ _ _ _ _ c.loop-ahead.invariant c.loop-ahead-test.false _ refl
 
-pub +rank-of-spec : {M : Type 1} → statement M
-+rank-of-spec = close μ-rank-of λ t. rank-of-lts.spec (claims t)
+pub +rank_of_spec : {M : Type 1} → statement M
++rank_of_spec = close μ-rank-of λ t. rank-of-lts.spec (claims t)
     (rank-of-at t)
     rank-of.Post
-    invariant-loop
-    decreases-loop
+    invariant-loop-ahead
+    decreases-loop-ahead
     (λ c. search rules)
     (λ c κs. search rules)
     (returns t)
     (λ c. search rules)
     (λ c. search rules)
-    (λ c. gathered-start _ _ _ _ _ c.before.before.before.before.requires.1)
+    (λ c. gathered-start _ _ _ _ _ c.requires.1)
     (λ c κs. search rules)
     (λ c. search rules)
     (rank-of-requires t)
     (add-higher t)
     (λ c κs. search rules)
     (λ c κs. search rules)
-    (λ c. c.without-lowest.ensures.0)
+    (λ c. c.without_lowest-ahead.ensures.0)
     (loop-again t)
     (cast-known t)
     (slice-write-known t)

@@ -16,16 +16,16 @@ loop-holds : tie.Need-loop-v-init invariant-loop-v decreases-loop-v
 loop-holds c = write-start _ _ _ c.requires
 
 slice-write-out : tie.Need-bounds-out-v invariant-loop-v decreases-loop-v
-slice-write-out c = write-room _ _ _ _ _ c.before.loop-v.invariant c.loop-v-test.true
+slice-write-out c = write-room _ _ _ _ _ c.loop-v.invariant c.loop-v-test.true
 
 loop-again : tie.Need-loop-v-preserved invariant-loop-v decreases-loop-v
-loop-again c = write-more _ _ _ 0 _ _ _ c.before.loop-v.invariant c.loop-v-test.true refl
+loop-again c = write-more _ _ _ 0 _ _ _ c.loop-v.invariant c.loop-v-test.true refl
 
 same_length : tie.Need-shape_of-out invariant-loop-v decreases-loop-v
-same_length c = write-length _ _ _ _ _ c.before.loop-v.invariant
+same_length c = write-length _ _ _ _ _ c.loop-v.invariant
 
 returns : tie.Need-returns invariant-loop-v decreases-loop-v
-returns c = write_done _ _ _ _ _ c.before.loop-v.invariant c.loop-v-test.false
+returns c = write_done _ _ _ _ _ c.loop-v.invariant c.loop-v-test.false
 
 pub forget_spec : {M : Type 1} → statement M
 forget_spec =

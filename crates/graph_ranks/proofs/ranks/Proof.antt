@@ -15,26 +15,26 @@ decreases-loop-w rows n out₀ high₀ w₀ out high w = n - w
 
 loop-holds : tie.Need-loop-w-init invariant-loop-w decreases-loop-w
 loop-holds c =
-    let f = c.before.before in
-    let e = f.before.before.before in
-    ranks-start _ _ e.args.out-1.now _ e.requires f.forget.auto.0 f.forget.ensures
+    let f = c in
+    let e = f in
+    ranks-start _ _ e.args.out.now _ e.requires f.forget.auto.out f.forget.ensures
 
 rank-of-requires : tie.Need-rank_of-r-requires invariant-loop-w decreases-loop-w
-rank-of-requires c κs = ranks-asks _ _ _ _ _ _ c.before.before.loop-w.invariant c.before.loop-w-test.true
+rank-of-requires c κs = ranks-asks _ _ _ _ _ _ c.loop-w.invariant c.loop-w-test.true
 
 loop-again : tie.Need-loop-w-preserved invariant-loop-w decreases-loop-w
 loop-again c =
-    let r = c.before.before.before in
-    ranks-more _ _ _ _ _ _ _ _ _ r.before.before.before.loop-w.invariant r.before.before.loop-w-test.true
-    r.rank_of-r.auto.1.1.1.1.0
+    let r = c in
+    ranks-more _ _ _ _ _ _ _ _ _ r.loop-w.invariant r.loop-w-test.true
+    r.rank_of-r.auto.known
     r.rank_of-r.ensures
     c.higher-high.ensures
 
 same_length : tie.Need-shape_of-out invariant-loop-w decreases-loop-w
-same_length c = c.before.loop-w.invariant.len ∙ c.before.before.before.before.forget.auto.out
+same_length c = c.loop-w.invariant.len ∙ c.forget.auto.out
 
 returns : tie.Need-returns invariant-loop-w decreases-loop-w
-returns c = ranks-done _ _ _ _ _ _ _ c.before.before.before.before.forget.ensures c.before.loop-w.invariant c.loop-w-test.false
+returns c = ranks-done _ _ _ _ _ _ _ c.forget.ensures c.loop-w.invariant c.loop-w-test.false
 
 pub ranks_spec : {M : Type 1} → statement M
 ranks_spec =

@@ -33,7 +33,7 @@ pass_through_spec =
     (λ c.
     let b = c in
     let u = b.before.before in
-    let words : (p : ℕ) → get_or u.loop-i.words-1 p 0 < 65536 = λ p. omega (arith, b.slice_known-in-loop-i-1.given p) in
+    let words : (p : ℕ) → get_or u.loop-i.words p 0 < 65536 = λ p. omega (arith, b.slice_known-in-loop-i-1.given p) in
     (rows-skip _ _ _ _ u.loop-i.i words (search rules) u.loop-i.invariant.0 c.if-first.true, search rules))
     (λ c κs.
     let u = c.before.before.before.before.before in

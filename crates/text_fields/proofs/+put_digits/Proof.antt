@@ -33,15 +33,15 @@ returns t c = rw c.if1.true (put-none (search rules))
 
 returns-2 : (t : ℕ) → put-digits-lts.Need-returns-2 (claims t) (put-digits-at t) put-digits.Post
 returns-2 t c =
-    let test = c in
-    put_as c.put-digit.ensures (sym (digits-one _ _ test.if1.false test.if2.true)) (omega arith)
+    let test = c.before.before.before.before in
+    put_as c.before.before.put-digit.ensures (sym (digits-one _ _ test.before.if1.false test.if2.true)) (omega arith)
 
 returns-3 : (t : ℕ) → put-digits-lts.Need-returns-3 (claims t) (put-digits-at t) put-digits.Post
 returns-3 t c =
-    let first = c in
-    let test = first in
-    put_as (put_then first.put-digits.ensures c.put-digit2.ensures)
-    (sym (digits_last _ _ test.if1.false test.if2.false))
+    let first = c.before.before.before.before.before.before in
+    let test = first.before.before in
+    put_as (put_then first.put-digits.ensures c.before.before.put-digit2.ensures)
+    (sym (digits_last _ _ test.before.if1.false test.if2.false))
     (omega arith)
 
 pub +put-digits-spec : {M : Type 1} → statement M
