@@ -7,7 +7,7 @@ use mathlib.Core.Path.{◌≡◌, refl, ◌∙◌, sym, ap, ap₂}
 use mathlib.Core.Bool.{Bool, true, false, not, ◌&&◌, ◌||◌, and-true, and_assoc, or-true}
 use mathlib.Core.Logic.{⊎_elim}
 use Rattle.base.specs.Below.{all_below, any_below}
-use Rattle.base.proofs.Numbers.{both, both_left, both_right, eq-or-ne, not-both, yes, no}
+use Rattle.base.proofs.Numbers.{both, both_left, both_right, eq-or-ne, not-both, granted, denied}
 
 pub all_none : (p : ℕ → Bool) → all_below p 0 ≡ true
 unfolding all_below
@@ -83,10 +83,10 @@ module _ (p : ℕ → Bool) (n : ℕ) where
   held_start = record { upto = omega arith; held = all_none p }
 
   pub held-fail : (i : ℕ) → i < n → (r : Bool) → r ≡ p i → r ≡ false → false ≡ all_below p n
-  held-fail i l r e h = sym (all-fail p n i l (no r e h))
+  held-fail i l r e h = sym (all-fail p n i l (denied r e h))
 
   pub held_more : (i : ℕ) → HeldSoFar p n i → i < n → (r : Bool) → r ≡ p i → r ≡ true → HeldSoFar p n (i + 1)
-  held_more i w l r e h = record { upto = omega arith; held = all_more p i w.held (yes r e h) }
+  held_more i w l r e h = record { upto = omega arith; held = all_more p i w.held (granted r e h) }
 
   pub held-done : (i : ℕ) → HeldSoFar p n i → n ≤ i → true ≡ all_below p n
   held-done i w l = sym (all_done p n i w.upto l w.held)

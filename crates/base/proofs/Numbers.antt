@@ -48,12 +48,21 @@ true-or-false false = inr refl
 pub not-both : {A : Type 0} (b : Bool) → b ≡ true → b ≡ false → A
 not-both b p q = let z : ◌≡◌ {A = ℕ} 0 1 = cc in absurd (omega arith)
 
--- what a guard on the negated answer of a callee tells: `if !ok { .. }`
-pub no : (r : Bool) {v : Bool} → r ≡ v → r ≡ false → v ≡ false
-no r e h = sym e ∙ h
+-- what a guard on the answer of a callee tells: `if !ok { .. }`
+pub denied : (r : Bool) {v : Bool} → r ≡ v → r ≡ false → v ≡ false
+denied r e h = sym e ∙ h
 
-pub yes : (r : Bool) {v : Bool} → r ≡ v → r ≡ true → v ≡ true
-yes r e h = sym e ∙ h
+pub granted : (r : Bool) {v : Bool} → r ≡ v → r ≡ true → v ≡ true
+granted r e h = sym e ∙ h
+
+-- .. and where the test stands negated
+pub no : (r : Bool) {v : Bool} → r ≡ v → not r ≡ true → v ≡ false
+no true e h = sym e ∙ sym h
+no false e h = sym e
+
+pub yes : (r : Bool) {v : Bool} → r ≡ v → not r ≡ false → v ≡ true
+yes true e h = sym e
+yes false e h = sym e ∙ sym h
 
 -- a test's value from the fact behind it: what `search tests` closes at a return after guards
 pub ruleset tests = (lt-ltb, le-ltb, le-leb, lt-leb, eq-eqb, ne_eqb)

@@ -21,14 +21,18 @@ Within none t = ⊥
 Within (some d) t = d ≤ t
 
 within_more : (x : Option ℕ) (t u : ℕ) → t ≤ u → Within x t → Within x u
+within_more none t u l h = elim h [ ]
 within_more (some d) t u l h = omega arith
 
 lesser-left : (x y : Option ℕ) (t : ℕ) → Within x t → Within (lesser x y) t
+lesser-left none y t h = elim h [ ]
 lesser-left (some a) none t h = h
 lesser-left (some a) (some b) t h = omega arith
 
 lesser-right : (x y : Option ℕ) (t : ℕ) → Within y t → Within (lesser x y) t
+lesser-right none none t h = elim h [ ]
 lesser-right none (some b) t h = h
+lesser-right (some a) none t h = elim h [ ]
 lesser-right (some a) (some b) t h = omega arith
 
 lesser-cases : (x y : Option ℕ) (t : ℕ) → Within (lesser x y) t → Within x t ⊎ Within y t
@@ -37,9 +41,13 @@ lesser-cases (some a) none t h = inl h
 lesser-cases (some a) (some b) t h = ⊎_elim (λ (l : t < a). inr (omega arith)) inl (lt-or-le t a)
 
 plus-within : (x y : Option ℕ) (a b : ℕ) → Within x a → Within y b → Within (plus x y) (a + b)
+plus-within none y a b g h = elim g [ ]
+plus-within (some c) none a b g h = elim h [ ]
 plus-within (some c) (some d) a b g h = omega arith
 
 plus-parts : (x y : Option ℕ) (t : ℕ) → Within (plus x y) t → Parts Within x y t
+plus-parts none y t h = elim h [ ]
+plus-parts (some a) none t h = elim h [ ]
 plus-parts (some a) (some b) t h = record { first = a; second = b; left = omega arith; right = omega arith; both = h }
 
 within : Measure least_of Within

@@ -3,7 +3,7 @@ use native.Mathlib.Omega.{arith}
 use mathlib.Core.Path.{◌≡◌}
 use mathlib.Core.Bool.{true, false}
 use borrow.Author.Rules.{rules}
-use Rattle.base.proofs.Numbers.{tests, yes, no}
+use Rattle.base.proofs.Numbers.{tests, granted, denied}
 use Rattle.plan_contents.specs.Header.{router_count_ok}
 use Rattle.links_rules.specs.Sheet.{sheet_ok}
 use Rattle.links_sums.proofs.Words.{no-walks}
@@ -28,7 +28,7 @@ unfolding router_count_ok
 count-passes c = search tests
 
 sheet-passes : (c : tie.Else3) → let a = (start c.before.before).args in sheet_ok a.links.now a.n ≡ true
-sheet-passes c = yes _ c.before.sheet-ok.ensures c.if3.false
+sheet-passes c = granted _ c.before.sheet-ok.ensures c.if3.false
 
 pub distances-spec : {M : Type 1} → statement M
 distances-spec =
@@ -38,7 +38,7 @@ distances-spec =
     (λ c. count-refused _ _ _ (many c))
     (λ c. search rules)
     (λ c κs. search rules)
-    (λ c. sheet-refused _ _ _ (count-passes c.before.before) (no _ c.before.sheet-ok.ensures c.if3.true))
+    (λ c. sheet-refused _ _ _ (count-passes c.before.before) (denied _ c.before.sheet-ok.ensures c.if3.true))
     (λ c. search rules)
     (λ c κs.
     let h = c.before.before.before in

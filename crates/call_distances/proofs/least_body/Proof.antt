@@ -5,7 +5,7 @@ use mathlib.Core.Path.{◌≡◌}
 use mathlib.Core.Bool.{true}
 use borrow.Author.Rules.{rules}
 use borrow.Author.Tests.{le-leb, lt-leb}
-use Rattle.base.proofs.Numbers.{yes, no, square_le}
+use Rattle.base.proofs.Numbers.{granted, denied, square_le}
 use Rattle.links_rules.specs.Sums.{least_sums}
 use Rattle.links_rules.specs.Distances.{sums_ok}
 use Rattle.call_distances.proofs.Written.{words-body}
@@ -25,7 +25,7 @@ square c = square_le (start c.before).args.n 64 (start c.before).requires.0
 -- where the sums fit
 sums-pass : (c : tie.Else1) →
     let a = (start c.before).args in sums_ok (least_sums a.links.now a.n) a.n ≡ true
-sums-pass c = yes _ c.before.sums-fit.ensures c.if1.false
+sums-pass c = granted _ c.before.sums-fit.ensures c.if1.false
 
 pub least-body-spec : {M : Type 1} → statement M
 least-body-spec =
@@ -34,7 +34,7 @@ least-body-spec =
     (λ c κs. search rules)
     (λ c κs. search rules)
     (λ c. search rules)
-    (λ c. let b = c.before in let p = (start b).requires in sums-refused _ _ _ p.1 p.2 (no _ b.sums-fit.ensures c.if1.true))
+    (λ c. let b = c.before in let p = (start b).requires in sums-refused _ _ _ p.1 p.2 (denied _ b.sums-fit.ensures c.if1.true))
     (λ c. record { fits = omega (arith, square c) })
     (λ c. record { fits = omega (arith, square c) })
     (λ c. search rules)

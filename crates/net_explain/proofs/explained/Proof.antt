@@ -4,7 +4,7 @@ use mathlib.Core.Bool.{true, false}
 use borrow.Author.Rules.{rules}
 use borrow.Author.Tests.{eq-eqb, ne_eqb}
 use lib.Dec.{eqb}
-use Rattle.base.proofs.Numbers.{yes, no}
+use Rattle.base.proofs.Numbers.{granted, denied}
 use Rattle.route_rules.specs.Instance.{Instance}
 use Rattle.net_rules.specs.Decoded.{decoded}
 use Rattle.net_explain.proofs.Cases.{explained-same, explained-stranger, explained-listed, explained-reflector, explained-client}
@@ -33,11 +33,11 @@ returns-2 : tie.Need-returns-2
 returns-2 c =
     let t = c.before in
     let e = other t in
-    sym (explained-stranger (I (start e)) _ _ (apart e) (no _ t.before.has-bit.ensures c.if2.true))
+    sym (explained-stranger (I (start e)) _ _ (apart e) (denied _ t.before.has-bit.ensures c.if2.true))
 
 -- .. they are neighbours
 near : (c : tie.Else2) → let d = start (other c.before) in (I d).neighbour d.args.w d.args.v ≡ true
-near c = yes _ c.before.before.has-bit.ensures c.if2.false
+near c = granted _ c.before.before.has-bit.ensures c.if2.false
 
 returns-3 : tie.Need-returns-3
 returns-3 c =

@@ -5,7 +5,7 @@ use mathlib.Core.Bool.{true}
 use borrow.Author.Rules.{rules}
 use borrow.Author.Tests.{eq-eqb, ne_eqb}
 use lib.Dec.{eqb}
-use Rattle.base.proofs.Numbers.{yes, no}
+use Rattle.base.proofs.Numbers.{granted, denied}
 use Rattle.route_rules.specs.Instance.{Instance, is_router}
 use Rattle.route_rules.specs.Reliance.{best_client}
 use Rattle.net_rules.proofs.RouterBytes.{router-is}
@@ -18,7 +18,7 @@ abbrev I : tie.Start → Instance
 I c = decoded c.args.net c.args.rows.now c.args.distances.now
 
 returns : tie.Need-returns
-returns c = sym (on-client-unlisted (I c.before.before.before) _ _ (no _ c.before.has-bit.ensures c.if1.true))
+returns c = sym (on-client-unlisted (I c.before.before.before) _ _ (denied _ c.before.has-bit.ensures c.if1.true))
 
 -- where v is listed
 module _ (c : tie.Else1) where
@@ -26,12 +26,12 @@ module _ (c : tie.Else1) where
   start = c.before.before.before
 
   listed : (I start).listed start.args.v ≡ true
-  listed = yes _ c.before.has-bit.ensures c.if1.false
+  listed = granted _ c.before.has-bit.ensures c.if1.false
 
 returns-2 : tie.Need-returns-2
 returns-2 c =
     let e = c.before.before in
-    sym (on-client-peer (I (start e)) _ _ (listed e) (no _ c.before.has-bit2.ensures c.if2.true))
+    sym (on-client-peer (I (start e)) _ _ (listed e) (denied _ c.before.has-bit2.ensures c.if2.true))
 
 -- .. and w is a reflector
 module _ (c : tie.After-wide) where
@@ -39,7 +39,7 @@ module _ (c : tie.After-wide) where
   before = c.before.before.before.before
 
   reflector : (I (start before)).reflector (start before).args.w ≡ true
-  reflector = yes _ c.before.before.before.has-bit2.ensures c.before.before.if2.false
+  reflector = granted _ c.before.before.before.has-bit2.ensures c.before.before.if2.false
 
   own : is_router (start before).args.v (best_client (I (start before)) (start before).args.w) ≡ eqb c.wide.result (start before).args.v
   own =

@@ -1,7 +1,7 @@
 -- Each way out is a case of the definition.
 use mathlib.Core.Path.{◌≡◌, ◌∙◌, sym, ap₂}
 use borrow.Author.Rules.{rules}
-use Rattle.base.proofs.Numbers.{yes, no}
+use Rattle.base.proofs.Numbers.{granted, denied}
 use Rattle.route_rules.specs.Instance.{Instance}
 use Rattle.route_rules.specs.Reliance.{offer}
 use Rattle.net_rules.specs.RouterBytes.{as_router}
@@ -17,7 +17,7 @@ abbrev I : tie.Start → Instance
 I c = decoded c.args.net c.args.rows.now c.args.distances.now
 
 returns : tie.Need-returns
-returns c = sym (on-reflector-parent (I c.before.before.before) _ _ (no _ c.before.has-bit.ensures c.if1.true))
+returns c = sym (on-reflector-parent (I c.before.before.before) _ _ (denied _ c.before.has-bit.ensures c.if1.true))
 
 module _ (c : tie.After-offered) where
   abbrev left : tie.Else1
@@ -49,7 +49,7 @@ returns-2 c =
     let own = d.before.before.best-client.ensures in
     c.by-offer.ensures a.rows.now (rw own (own-way-to J _))
     ∙ ap₂ (by_offer J a.w (J.listed a.v)) (offer-is d) own
-    ∙ sym (on-reflector-offer J _ _ (yes _ (left d).before.has-bit.ensures (left d).if1.false))
+    ∙ sym (on-reflector-offer J _ _ (granted _ (left d).before.has-bit.ensures (left d).if1.false))
 
 pub on-reflector-spec : {M : Type 1} → statement M
 on-reflector-spec =

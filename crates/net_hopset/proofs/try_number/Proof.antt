@@ -1,5 +1,5 @@
 use borrow.Author.Rules.{rules}
-use Rattle.base.proofs.Numbers.{no, yes}
+use Rattle.base.proofs.Numbers.{denied, granted}
 use Rattle.net_hopset.proofs.Serving.{number_small}
 use Rattle.net_hopset.proofs.Searching.{tried-no, tried-yes, best-no, best-yes}
 use Rattle.net_hopset.proofs.try_number.Statement.{statement}
@@ -9,7 +9,7 @@ returns : tie.Need-returns
 returns c = (
   c.before.before.before.requires.3,
   λ I p t b.
-      let e = no _ (c.before.serves.ensures I p t) c.if1.true in
+      let e = denied _ (c.before.serves.ensures I p t) c.if1.true in
       (tried-no I _ _ _ t e, best-no I _ _ _ b e),
 )
 
@@ -25,7 +25,7 @@ returns-2 c =
     let marked = c.before.mark.ensures in (
       marked.1,
       λ I p t b.
-          let e = yes _ (d.serves.ensures I p t) c.before.before.before.if1.false in
+          let e = granted _ (d.serves.ensures I p t) c.before.before.before.if1.false in
           rw c.smaller.ensures (tried-yes I _ _ _ _ marked.0 t e, best-yes I _ p.counted _ _ q.1 b e),
     )
 

@@ -9,7 +9,7 @@ use lib.IntN.{pos, ◌-ℤ◌}
 use borrow.Author.Rules.{rules}
 use mir.Syntax.{w64}
 use mir.ValLaws.{to_z-of_z}
-use Rattle.base.proofs.Numbers.{yes, no}
+use Rattle.base.proofs.Numbers.{granted, denied}
 use Rattle.route_rules.specs.Instance.{Instance}
 use Rattle.route_rules.specs.Preference.{prefers}
 use Rattle.net_rules.specs.Decoded.{decoded}
@@ -92,7 +92,7 @@ module _ (c : tie.After-preferred) (rows : List ℕ) where
   other h = sym (ap (against_own I begun.args.w told begun.args.offer) (client found) ∙ against-other I _ told _ _ h)
 
 returns-2 : tie.Need-returns-2
-returns-2 c rows there own = let e = c.before in other e rows (no _ (preferred-is e rows) c.if2.true)
+returns-2 c rows there own = let e = c.before in other e rows (denied _ (preferred-is e rows) c.if2.true)
 
 returns-3 : tie.Need-returns-3
 returns-3 c rows there own =
@@ -106,7 +106,7 @@ returns-3 c rows there own =
     ∙ sym (ap₂ (λ x y. pos x -ℤ pos y) (to-offer e rows there) (to-client e rows client-way))
     ∙ sym (margin-held J _ _ _ there client-way))
     ∙ sym (ap (against_own J a.w (told e rows) a.offer) (client f)
-    ∙ against-preferred J _ (told e rows) _ _ (yes _ (preferred-is e rows) c.before.if2.false))
+    ∙ against-preferred J _ (told e rows) _ _ (granted _ (preferred-is e rows) c.before.if2.false))
 
 pub against-own-spec : {M : Type 1} → statement M
 against-own-spec =

@@ -3,7 +3,7 @@ use native.Mathlib.Omega.{arith}
 use mathlib.Core.Path.{◌≡◌, ◌∙◌, sym, ap, ap₂}
 use borrow.Author.Rules.{rules}
 use lib.Dec.{eqb}
-use Rattle.base.proofs.Numbers.{yes, no}
+use Rattle.base.proofs.Numbers.{granted, denied}
 use Rattle.route_rules.specs.Instance.{Instance, is_router}
 use Rattle.net_rules.specs.Decoded.{decoded}
 use Rattle.route_rules.specs.Reliance.{offer, better_offer}
@@ -24,7 +24,7 @@ returns c =
     let d = e.before.before.before in
     let a = d.args in
     ap (λ x. eqb x a.v) c.wide.ensures.0
-    ∙ sym (relies-own (instance d) _ _ d.requires.3.unlisted d.requires.3.reflector (no _ e.before.has-bit.ensures e.if1.true)
+    ∙ sym (relies-own (instance d) _ _ d.requires.3.unlisted d.requires.3.reflector (denied _ e.before.has-bit.ensures e.if1.true)
     ∙ ap (is_router a.v) (sym d.requires.3.client)
     ∙ router-is _ _ (omega arith))
 
@@ -32,7 +32,7 @@ returns-2 : tie.Need-returns-2
 returns-2 c =
     let e = c.before.before.before in
     let d = e.before.before.before in
-    sym (offer-stranger (instance d) _ _ d.requires.3.unlisted d.requires.3.reflector (yes _ e.before.has-bit.ensures e.if1.false) (no _ c.before.has-bit2.ensures c.if2.true))
+    sym (offer-stranger (instance d) _ _ d.requires.3.unlisted d.requires.3.reflector (granted _ e.before.has-bit.ensures e.if1.false) (denied _ c.before.has-bit2.ensures c.if2.true))
 
 -- v's offer, from its best client
 offer-is : (c : tie.After-offered)
@@ -40,7 +40,7 @@ offer-is : (c : tie.After-offered)
 offer-is c =
     let e = c.before.before.before.before in
     let d = e.before.before.before in
-    c.offered.ensures d.args.rows.now d.args.distances.now (d.requires.4 (yes _ e.before.has-bit.ensures e.if1.false))
+    c.offered.ensures d.args.rows.now d.args.distances.now (d.requires.4 (granted _ e.before.has-bit.ensures e.if1.false))
 
 by-offer-requires : tie.Need-by-offer-requires
 by-offer-requires c κs =
@@ -64,7 +64,7 @@ returns-3 c =
     ∙ ap is_yes (said.by-offer.ensures d.args.rows.now (rw d.requires.3.client (own-way-to (instance d) _)))
     ∙ by-offer-says (instance d) _ _ _ _
     ∙ ap₂ (better_offer (instance d) d.args.w ((instance d).listed d.args.v)) (offer-is said.before) d.requires.3.client
-    ∙ sym (offer-neighbour (instance d) _ _ d.requires.3.unlisted d.requires.3.reflector (yes _ e.before.has-bit.ensures e.if1.false) (yes _ g.before.has-bit2.ensures g.if2.false))
+    ∙ sym (offer-neighbour (instance d) _ _ d.requires.3.unlisted d.requires.3.reflector (granted _ e.before.has-bit.ensures e.if1.false) (granted _ g.before.has-bit2.ensures g.if2.false))
 
 pub reflector-relies-spec : {M : Type 1} → statement M
 reflector-relies-spec =

@@ -2,7 +2,7 @@
 use mathlib.Core.Path.{◌≡◌, ◌∙◌, sym}
 use mathlib.Core.Bool.{false}
 use borrow.Author.Rules.{rules}
-use Rattle.base.proofs.Numbers.{yes, no}
+use Rattle.base.proofs.Numbers.{granted, denied}
 use Rattle.route_rules.specs.Instance.{Instance}
 use Rattle.net_rules.specs.Decoded.{decoded}
 use Rattle.route_rules.proofs.Reliance.{relies-listed, client-on-stranger, client-on-reflector, client-on-client}
@@ -38,20 +38,20 @@ module _ (c : tie.Else2) where
 returns-3 : tie.Need-returns-3
 returns-3 c =
     let e = c.before.before.before in
-    sym (client-on-stranger (I (start e)) _ _ (unlisted e) (client e) (no _ c.before.has-bit3.ensures c.if3.true))
+    sym (client-on-stranger (I (start e)) _ _ (unlisted e) (client e) (denied _ c.before.has-bit3.ensures c.if3.true))
 
 returns-4 : tie.Need-returns-4
 returns-4 c =
     let g = c.before.before in
     let e = g.before.before.before in
-    sym (client-on-reflector (I (start e)) _ _ (unlisted e) (client e) (yes _ g.before.has-bit3.ensures g.if3.false) (sym c.before.has-bit4.ensures ∙ c.if4.true))
+    sym (client-on-reflector (I (start e)) _ _ (unlisted e) (client e) (granted _ g.before.has-bit3.ensures g.if3.false) (sym c.before.has-bit4.ensures ∙ c.if4.true))
 
 returns-5 : tie.Need-returns-5
 returns-5 c =
     let g = c.before.before.before in
     let e = g.before.before.before in
     c.has-bit5.ensures
-    ∙ sym (client-on-client (I (start e)) _ _ (unlisted e) (client e) (yes _ g.before.has-bit3.ensures g.if3.false) (sym c.before.before.has-bit4.ensures ∙ c.before.if4.false))
+    ∙ sym (client-on-client (I (start e)) _ _ (unlisted e) (client e) (granted _ g.before.has-bit3.ensures g.if3.false) (sym c.before.before.has-bit4.ensures ∙ c.before.if4.false))
 
 pub relies-by-spec : {M : Type 1} → statement M
 relies-by-spec =

@@ -13,8 +13,8 @@ returns c =
     let b = read-bytes a.route.egress a.route.sender in
     sym (ap₂ (λ e s. set (set a.table.now (2 * a.v) e) (2 * a.v + 1) s) b.0 b.1)
 
-pub put-route-spec : {M : Type 1} → statement M
-put-route-spec =
+pub put_route_spec : {M : Type 1} → statement M
+put_route_spec =
     tie.close
     (tie.spec
     (λ c. search rules)

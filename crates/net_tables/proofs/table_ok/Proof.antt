@@ -6,7 +6,7 @@ use mathlib.Core.List.{List}
 use borrow.Author.Rules.{rules}
 use Rattle.base.specs.Below.{all_below}
 use Rattle.base.proofs.Below.{all_none, all_more, all-fail, all_done}
-use Rattle.base.proofs.Numbers.{yes, no}
+use Rattle.base.proofs.Numbers.{granted, denied}
 use Rattle.net_rules.specs.declared.Network.{Network}
 use Rattle.route_rules.specs.Activation.{entry_ok, table_ok, held}
 use Rattle.net_rules.specs.Decoded.{decoded}
@@ -19,39 +19,39 @@ use Rattle.net_tables.proofs.table_ok.Tie as tie
 abbrev rule_at : Network → List ℕ → List ℕ → List ℕ → ℕ → Bool
 rule_at net rows table distances v = entry_ok (decoded net rows distances) v (held (table_of table net.n) v)
 
-abbrev invariant-loop : tie.invariant-loop
-invariant-loop net rows table n v₀ v = (v ≤ n) × ((distances : List ℕ) → all_below (rule_at net rows table distances) v ≡ true)
+abbrev invariant-loop-v : tie.invariant-loop-v
+invariant-loop-v net rows table n v₀ v = (v ≤ n) × ((distances : List ℕ) → all_below (rule_at net rows table distances) v ≡ true)
 
-abbrev decreases-loop : tie.decreases-loop
-decreases-loop net rows table n v₀ v = n - v
+abbrev decreases-loop-v : tie.decreases-loop-v
+decreases-loop-v net rows table n v₀ v = n - v
 
 -- the entry read is the table's
-rule-is : (c : tie.After-entry-ok invariant-loop decreases-loop) (distances : List ℕ)
-    → let a = c.before.before.before.before.before.args in
-    c.entry-ok.result ≡ rule_at a.net a.rows.now a.table.now distances c.before.before.before.loop.v
+rule-is : (c : tie.After-entry_ok invariant-loop-v decreases-loop-v) (distances : List ℕ)
+    → let a = c.args in
+    c.entry_ok.result ≡ rule_at a.net a.rows.now a.table.now distances c.loop-v.v
 rule-is c distances =
-    c.entry-ok.ensures distances ∙ ap (entry_ok _ _) (c.before.route-at.ensures ∙ sym (table-held _ _ _ c.before.before.loop-test.true))
+    c.entry_ok.ensures distances ∙ ap (entry_ok _ _) (c.route_at.ensures ∙ sym (table-held _ _ _ c.loop-v-test.true))
 
-returns : tie.Need-returns invariant-loop decreases-loop
+returns : tie.Need-returns-then-not-entry_ok invariant-loop-v decreases-loop-v
 unfolding table_ok
-returns c distances = sym (all-fail _ _ _ c.before.before.before.loop-test.true (no _ (rule-is c.before distances) c.if1.true))
+returns c distances = sym (all-fail _ _ _ c.loop-v-test.true (denied _ (rule-is c.before distances) c.if-not-entry_ok.true))
 
-loop-again : tie.Need-loop-preserved invariant-loop decreases-loop
+loop-again : tie.Need-loop-v-preserved invariant-loop-v decreases-loop-v
 loop-again c = (
   omega arith,
-  λ distances. all_more _ _ (c.before.before.before.before.loop.invariant.1 distances) (yes _ (rule-is c.before distances) c.if1.false),
+  λ distances. all_more _ _ (c.loop-v.invariant.1 distances) (granted _ (rule-is c.before distances) c.if-not-entry_ok.false),
 )
 
-returns-2 : tie.Need-returns-2 invariant-loop decreases-loop
+returns-2 : tie.Need-returns invariant-loop-v decreases-loop-v
 unfolding table_ok
-returns-2 c distances = sym (all_done _ _ _ c.before.loop.invariant.0 c.loop-test.false (c.before.loop.invariant.1 distances))
+returns-2 c distances = sym (all_done _ _ _ c.loop-v.invariant.0 c.loop-v-test.false (c.loop-v.invariant.1 distances))
 
-pub table-ok-spec : {M : Type 1} → statement M
-table-ok-spec =
+pub table_ok_spec : {M : Type 1} → statement M
+table_ok_spec =
     tie.close
     (tie.spec
-    invariant-loop
-    decreases-loop
+    invariant-loop-v
+    decreases-loop-v
     (λ c. (omega arith, λ distances. all_none _))
     (λ c κs. search rules)
     (λ c κs. search rules)

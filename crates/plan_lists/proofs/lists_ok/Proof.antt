@@ -4,9 +4,9 @@ use Rattle.plan_rules.specs.Lists.{lists_ok}
 use Rattle.plan_lists.proofs.lists_ok.Statement.{statement}
 use Rattle.plan_lists.proofs.lists_ok.Tie as tie
 
-pub lists-ok-spec : {M : Type 1} → statement M
+pub lists_ok_spec : {M : Type 1} → statement M
 unfolding lists_ok
-lists-ok-spec =
+lists_ok_spec =
     tie.close
     (tie.spec
     (λ c. search tests)

@@ -5,9 +5,9 @@ use Rattle.plan_rules.specs.Lists.{member_ok}
 use Rattle.plan_lists.proofs.member_ok.Statement.{statement}
 use Rattle.plan_lists.proofs.member_ok.Tie as tie
 
-pub member-ok-spec : {M : Type 1} → statement M
+pub member_ok_spec : {M : Type 1} → statement M
 unfolding member_ok
-member-ok-spec =
+member_ok_spec =
     tie.close
     (tie.spec
     (λ c. search rules)

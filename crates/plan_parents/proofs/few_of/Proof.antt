@@ -3,11 +3,11 @@ use borrow.Author.Tests.{le-leb, lt-leb}
 use Rattle.plan_parents.proofs.few_of.Statement.{statement}
 use Rattle.plan_parents.proofs.few_of.Tie as tie
 
-returns : tie.Need-returns
-returns c = rw (le-leb _ _ c.if1.true)
+returns : tie.Need-returns-then-counts-v-le-MOST
+returns c = rw (le-leb _ _ c.if-counts-v-le-MOST.true)
 
-returns-2 : tie.Need-returns-2
-returns-2 c = rw (lt-leb _ _ c.before.if1.false) c.is-reflector.ensures
+returns-2 : tie.Need-returns
+returns-2 c = rw (lt-leb _ _ c.if-counts-v-le-MOST.false) c.is_reflector.ensures
 
-pub few-of-spec : {M : Type 1} → statement M
-few-of-spec = tie.close (tie.spec (λ c. search rules) returns (λ c κs. search rules) returns-2)
+pub few_of_spec : {M : Type 1} → statement M
+few_of_spec = tie.close (tie.spec (λ c. search rules) returns (λ c κs. search rules) returns-2)

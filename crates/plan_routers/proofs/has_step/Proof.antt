@@ -18,5 +18,5 @@ from-four role most = go (eq-or-ne role 4) (eq-or-ne role 5)
     go (inr f) (inl e) = rw e refl
     go (inr f) (inr g) = cc (lt-leb 4 role (omega arith), ne_eqb role 4 f, ne_eqb role 5 g)
 
-pub has-step-spec : {M : Type 1} → statement M
-has-step-spec = tie.close (tie.spec (λ c. from-four _ c.requires))
+pub has_step_spec : {M : Type 1} → statement M
+has_step_spec = tie.close (tie.spec (λ c. from-four _ c.requires))

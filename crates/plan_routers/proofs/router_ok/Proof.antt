@@ -5,9 +5,9 @@ use Rattle.plan_rules.specs.Routers.{router_ok}
 use Rattle.plan_routers.proofs.router_ok.Statement.{statement}
 use Rattle.plan_routers.proofs.router_ok.Tie as tie
 
-pub router-ok-spec : {M : Type 1} → statement M
+pub router_ok_spec : {M : Type 1} → statement M
 unfolding router_ok
-router-ok-spec =
+router_ok_spec =
     tie.close
     (tie.spec
     (λ c. search rules)
@@ -22,4 +22,4 @@ router-ok-spec =
     (λ c. search rules)
     (λ c. search rules)
     (λ c κs. search rules)
-    (λ c. search (tests, ← c.before.read4.ensures.0, ← c.read42.ensures.0)))
+    (λ c. search (tests, ← c.read4.ensures.0, ← c.read4-2.ensures.0)))

@@ -5,19 +5,19 @@ use Rattle.base.proofs.Numbers.{tests}
 use Rattle.plan_sessions.proofs.goes_on.Statement.{statement}
 use Rattle.plan_sessions.proofs.goes_on.Tie as tie
 
-returns : tie.Need-returns
-returns c = search (tests, ← c.before.wide.ensures.0)
+returns : tie.Need-returns-then-wide-v
+returns c = search (tests, ← c.wide.ensures.0)
 
-returns-2 : tie.Need-returns-2
-returns-2 c = search (tests, ← c.before.before.before.before.wide.ensures.0, ← c.before.wide2.ensures.0)
+returns-2 : tie.Need-returns-then-second-last
+returns-2 c = search (tests, ← c.wide.ensures.0, ← c.wide-second.ensures.0)
 
-returns-3 : tie.Need-returns-3
+returns-3 : tie.Need-returns
 returns-3 c =
-    let d = c.before.before.before in
-    rw (← d.before.wide.ensures.0, ← c.before.wide2.ensures.0, eq-eqb _ _ d.if1.false, lt-ltb _ _ c.if2.false)
+    let d = c in
+    rw (← d.wide.ensures.0, ← c.wide-second.ensures.0, eq-eqb _ _ d.if-wide-v.false, lt-ltb _ _ c.if-second-last.false)
 
-pub goes-on-spec : {M : Type 1} → statement M
-goes-on-spec =
+pub goes_on_spec : {M : Type 1} → statement M
+goes_on_spec =
     tie.close
     (tie.spec
     (λ c. search rules)

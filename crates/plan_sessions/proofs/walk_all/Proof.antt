@@ -12,27 +12,27 @@ use Rattle.plan_parents.proofs.Counts.{counted_start}
 use Rattle.plan_sessions.proofs.walk_all.Statement.{statement}
 use Rattle.plan_sessions.proofs.walk_all.Tie as tie
 
-abbrev invariant-loop : tie.invariant-loop
-invariant-loop routers s n counts₀ count v₀ j₀ counts v j = (v ≤ n) × Reached s n v j × Counted routers s n v j counts
+abbrev invariant-loop-j : tie.invariant-loop-j
+invariant-loop-j routers s n counts₀ count v₀ j₀ counts v j = (v ≤ n) × Reached s n v j × Counted routers s n v j counts
 
-abbrev decreases-loop : tie.decreases-loop
-decreases-loop routers s n counts₀ count v₀ j₀ counts v j = n - v
+abbrev decreases-loop-j : tie.decreases-loop-j
+decreases-loop-j routers s n counts₀ count v₀ j₀ counts v j = n - v
 
-returns : tie.Need-returns invariant-loop decreases-loop
+returns : tie.Need-returns-then-n-v invariant-loop-j decreases-loop-j
 returns c =
-    let i = c.before.before.loop.invariant in
+    let i = c.loop-j.invariant in
     record {
-      row5 = sym (reached-fail _ _ _ _ i.1 c.before.loop-test.true c.if1.true);
+      row5 = sym (reached-fail _ _ _ _ i.1 c.loop-j-test.true c.if-n-v.true);
       below = i.0;
       reached = λ e. not-both false e refl;
       counted = λ e. not-both false e refl;
     }
 
-returns-2 : tie.Need-returns-2 invariant-loop decreases-loop
+returns-2 : tie.Need-returns invariant-loop-j decreases-loop-j
 returns-2 c =
-    let i = c.before.loop.invariant in
-    let all = c.loop-test.false in
-    let e : c.before.loop.j ≡ session_count c.before.before.before.before.args.s.now = omega (arith, i.1.upto) in
+    let i = c.loop-j.invariant in
+    let all = c.loop-j-test.false in
+    let e : c.loop-j.j ≡ session_count c.args.s.now = omega (arith, i.1.upto) in
     record {
       row5 = sym (reached-done _ _ _ _ i.1 all);
       below = i.0;
@@ -40,19 +40,19 @@ returns-2 c =
       counted = λ yes. rw e at i.2;
     }
 
-pub walk-all-spec : {M : Type 1} → statement M
-walk-all-spec =
+pub walk_all_spec : {M : Type 1} → statement M
+walk_all_spec =
     tie.close
     (tie.spec
-    invariant-loop
-    decreases-loop
-    (λ c. (omega arith, reached-start _ _, rw c.before.before.requires.2 (counted_start _ _ _)))
+    invariant-loop-j
+    decreases-loop-j
+    (λ c. (omega arith, reached-start _ _, rw c.requires.2 (counted_start _ _ _)))
     returns
     (λ c κs.
-    let p = c.before.before.before.before.before.before.requires in
-    let i = c.before.before.before.loop.invariant in
-    (c.before.if1.false, p.0, p.1, i.1, i.2))
+    let p = c.requires in
+    let i = c.loop-j.invariant in
+    (c.if-n-v.false, p.0, p.1, i.1, i.2))
     (λ c. search rules)
     (λ c. search rules)
-    (λ c. (omega arith, c.sessions-of.ensures.0, c.sessions-of.ensures.1))
+    (λ c. (omega arith, c.sessions_of-j.ensures.0, c.sessions_of-j.ensures.1))
     returns-2)

@@ -27,25 +27,25 @@ put-digits-below t = and 1 put-digits-kinds.ps (falls 1 put-digits-kinds.ps ◌<
 abbrev claims : ℕ → put-digits-lts.Claims
 claims t = (put-digit-reads.Asked, put-digit-reads.Learnt, put-digits-below t, put-digits.Post)
 
-returns : (t : ℕ) → put-digits-lts.Need-returns (claims t) (put-digits-at t) put-digits.Post
+returns : (t : ℕ) → put-digits-lts.Need-returns-then-left-eq0 (claims t) (put-digits-at t) put-digits.Post
 unfolding digits
-returns t c = rw c.if1.true (put-none (search rules))
+returns t c = rw c.if-left-eq0.true (put-none (search rules))
 
-returns-2 : (t : ℕ) → put-digits-lts.Need-returns-2 (claims t) (put-digits-at t) put-digits.Post
+returns-2 : (t : ℕ) → put-digits-lts.Need-returns-then-x-lt10 (claims t) (put-digits-at t) put-digits.Post
 returns-2 t c =
-    let test = c.before.before.before.before in
-    put_as c.before.before.put-digit.ensures (sym (digits-one _ _ test.before.if1.false test.if2.true)) (omega arith)
+    let test = c in
+    put_as c.put_digit.ensures (sym (digits-one _ _ test.if-left-eq0.false test.if-x-lt10.true)) (omega arith)
 
-returns-3 : (t : ℕ) → put-digits-lts.Need-returns-3 (claims t) (put-digits-at t) put-digits.Post
+returns-3 : (t : ℕ) → put-digits-lts.Need-returns (claims t) (put-digits-at t) put-digits.Post
 returns-3 t c =
-    let first = c.before.before.before.before.before.before in
-    let test = first.before.before in
-    put_as (put_then first.put-digits.ensures c.before.before.put-digit2.ensures)
-    (sym (digits_last _ _ test.before.if1.false test.if2.false))
+    let first = c in
+    let test = first in
+    put_as (put_then first.put_digits-last.ensures c.put_digit-2.ensures)
+    (sym (digits_last _ _ test.if-left-eq0.false test.if-x-lt10.false))
     (omega arith)
 
-pub +put-digits-spec : {M : Type 1} → statement M
-+put-digits-spec = close μ-put-digits λ t. put-digits-lts.spec (claims t)
+pub +put_digits_spec : {M : Type 1} → statement M
++put_digits_spec = close μ-put-digits λ t. put-digits-lts.spec (claims t)
     (put-digits-at t)
     put-digits.Post
     (returns t)

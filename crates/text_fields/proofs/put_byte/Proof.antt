@@ -3,6 +3,6 @@ use Rattle.text_fields.proofs.Writing.{put_one}
 use Rattle.text_fields.proofs.put_byte.Statement.{statement}
 use Rattle.text_fields.proofs.put_byte.Tie as tie
 
-pub put-byte-spec : {M : Type 1} → statement M
-put-byte-spec =
+pub put_byte_spec : {M : Type 1} → statement M
+put_byte_spec =
     tie.close (tie.spec (λ c. search rules) (λ c. search rules) (λ c. search rules) (λ c. put_one _ (search rules)))

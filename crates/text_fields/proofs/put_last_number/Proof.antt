@@ -5,8 +5,8 @@ use Rattle.text_fields.proofs.put_last_number.Tie as tie
 
 returns : tie.Need-returns
 returns c =
-    let number = c.before.before.before.before.before.before in
-    put_then number.put-next-number.ensures c.before.before.put_byte.ensures
+    let number = c in
+    put_then number.put_next_number-next.ensures c.put_byte.ensures
 
-pub put-last-number-spec : {M : Type 1} → statement M
-put-last-number-spec = tie.close (tie.spec (λ c κs. search rules) (λ c κs. search rules) (λ c. search rules) returns)
+pub put_last_number_spec : {M : Type 1} → statement M
+put_last_number_spec = tie.close (tie.spec (λ c κs. search rules) (λ c κs. search rules) (λ c. search rules) returns)

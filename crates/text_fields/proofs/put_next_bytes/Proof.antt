@@ -5,8 +5,8 @@ use Rattle.text_fields.proofs.put_next_bytes.Tie as tie
 
 returns : tie.Need-returns
 returns c =
-    let space = c.before.before.before.before.before.before in
-    put_then space.put_byte.ensures c.before.before.put-bytes.ensures
+    let space = c in
+    put_then space.put_byte-next.ensures c.put_bytes.ensures
 
-pub put-next-bytes-spec : {M : Type 1} → statement M
-put-next-bytes-spec = tie.close (tie.spec (λ c κs. search rules) (λ c κs. search rules) (λ c. search rules) returns)
+pub put_next_bytes_spec : {M : Type 1} → statement M
+put_next_bytes_spec = tie.close (tie.spec (λ c κs. search rules) (λ c κs. search rules) (λ c. search rules) returns)

@@ -9,7 +9,7 @@ use Rattle.text_fields.proofs.put_number.Tie as tie
 
 returns : tie.Need-returns
 unfolding decimal
-returns c = put_as c.before.before.put-digits.ensures (sym (digits-enough 2 17 _ (omega arith))) (omega arith)
+returns c = put_as c.put_digits.ensures (sym (digits-enough 2 17 _ (omega arith))) (omega arith)
 
-pub put-number-spec : {M : Type 1} → statement M
-put-number-spec = tie.close (tie.spec (λ c κs. search rules) (λ c. search rules) returns)
+pub put_number_spec : {M : Type 1} → statement M
+put_number_spec = tie.close (tie.spec (λ c κs. search rules) (λ c. search rules) returns)

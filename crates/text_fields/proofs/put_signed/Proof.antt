@@ -11,29 +11,29 @@ use Rattle.text_fields.proofs.Writing.{put_then, put_as}
 use Rattle.text_fields.proofs.put_signed.Statement.{statement}
 use Rattle.text_fields.proofs.put_signed.Tie as tie
 
-returns : tie.Need-returns
+returns : tie.Need-returns-then-x-lt0
 unfolding decimal
 returns c =
-    let sign = c.before.before.before.before.before.before in
-    let test = sign.before.before in
-    let fits = test.before.before.before.ranges.x in
-    let is = read_below _ fits test.if1.true in
-    put_as (put_then sign.put_byte.ensures c.before.before.put-digits.ensures)
-    (ap (λ n. 45 ∷ decimal n) (test.before.magnitude.ensures ∙ ap nat_abs (to_z-of_z w64 _ fits ∙ is)) ∙ sym (ap signed_decimal is))
+    let sign = c in
+    let test = sign in
+    let fits = test.ranges.x in
+    let is = read_below _ fits test.if-x-lt0.true in
+    put_as (put_then sign.put_byte-next.ensures c.put_digits.ensures)
+    (ap (λ n. 45 ∷ decimal n) (test.magnitude-size.ensures ∙ ap nat_abs (to_z-of_z w64 _ fits ∙ is)) ∙ sym (ap signed_decimal is))
     (omega arith)
 
-returns-2 : tie.Need-returns-2
+returns-2 : tie.Need-returns
 unfolding decimal
 returns-2 c =
-    let test = c.before.before.before.before in
-    let fits = test.before.before.before.ranges.x in
-    let is = read_above _ fits test.if1.false in
-    put_as c.before.before.put-digits2.ensures
-    (ap decimal (test.before.magnitude.ensures ∙ ap nat_abs (to_z-of_z w64 _ fits ∙ is)) ∙ sym (ap signed_decimal is))
+    let test = c in
+    let fits = test.ranges.x in
+    let is = read_above _ fits test.if-x-lt0.false in
+    put_as c.put_digits-2.ensures
+    (ap decimal (test.magnitude-size.ensures ∙ ap nat_abs (to_z-of_z w64 _ fits ∙ is)) ∙ sym (ap signed_decimal is))
     (omega arith)
 
-pub put-signed-spec : {M : Type 1} → statement M
-put-signed-spec =
+pub put_signed_spec : {M : Type 1} → statement M
+put_signed_spec =
     tie.close
     (tie.spec
     (λ c κs. search rules)

@@ -7,23 +7,21 @@ use Rattle.text_lines.proofs.head_line.Tie as tie
 
 returns : tie.Need-returns
 returns c =
-    let lists = c.before.before.before.before.before.before in
-    let routers = lists.before.before.before.before.before in
-    let word = routers.before.before.before.before in
+    let lists = c in
+    let routers = lists in
+    let word = routers in
     put_as
-    (put_then (put_then (put_then word.put-bytes.ensures routers.put-next-number.ensures) lists.put-next-bytes.ensures)
-    c.before.before.put-last-number.ensures)
+    (put_then (put_then (put_then word.put_bytes-first.ensures routers.put_next_number-second.ensures) lists.put_next_bytes-third.ensures)
+    c.put_last_number.ensures)
     (head-parts _ _)
     (omega arith)
 
-pub head-line-spec : {M : Type 1} → statement M
-head-line-spec =
+pub head_line_spec : {M : Type 1} → statement M
+head_line_spec =
     tie.close
     (tie.spec
-    (λ c. search rules)
     (λ c κs. search rules)
     (λ c κs. search rules)
-    (λ c. search rules)
     (λ c κs. search rules)
     (λ c κs. search rules)
     (λ c. search rules)

@@ -11,11 +11,11 @@ use Rattle.text_lines.proofs.margin_line.Tie as tie
 
 returns : tie.Need-returns
 returns c =
-    let field = c.before.before.before.before.before.before in
-    let fits = field.before.before.before.ranges.margin in
-    put_as (put_then field.put-signed.ensures c.before.before.put_byte.ensures)
+    let field = c in
+    let fits = field.ranges.margin in
+    put_as (put_then field.put_signed-end.ensures c.put_byte.ensures)
     (margin-parts _ ∙ ap margin_line (to_z-of_z w64 _ fits))
     (omega arith)
 
-pub margin-line-spec : {M : Type 1} → statement M
-margin-line-spec = tie.close (tie.spec (λ c κs. search rules) (λ c κs. search rules) (λ c. search rules) returns)
+pub margin_line_spec : {M : Type 1} → statement M
+margin_line_spec = tie.close (tie.spec (λ c κs. search rules) (λ c κs. search rules) (λ c. search rules) returns)

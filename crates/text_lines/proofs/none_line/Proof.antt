@@ -7,9 +7,13 @@ use Rattle.text_lines.proofs.none_line.Tie as tie
 
 returns : tie.Need-returns
 returns c =
-    let field = c.before.before.before.before.before.before in
-    put_as (put_then field.put-bytes.ensures c.before.before.put_byte.ensures) none-parts (omega arith)
+    let field = c in
+    put_as (put_then field.put_bytes-last.ensures c.put_byte.ensures) none-parts (omega arith)
 
-pub none-line-spec : {M : Type 1} → statement M
-none-line-spec =
-    tie.close (tie.spec (λ c. search rules) (λ c κs. search rules) (λ c κs. search rules) (λ c. search rules) returns)
+pub none_line_spec : {M : Type 1} → statement M
+none_line_spec =
+    tie.close (tie.spec
+    (λ c κs. search rules)
+    (λ c κs. search rules)
+    (λ c. search rules)
+    returns)

@@ -7,8 +7,8 @@ use Rattle.text_lines.proofs.put_verdict.Tie as tie
 
 returns : tie.Need-returns
 returns c =
-    let number = c.before.before.before.before.before.before in
-    put_as (put_then number.put-number.ensures c.before.before.put-next-bytes.ensures) refl (omega arith)
+    let number = c in
+    put_as (put_then number.put_number-next.ensures c.put_next_bytes.ensures) refl (omega arith)
 
-pub put-verdict-spec : {M : Type 1} → statement M
-put-verdict-spec = tie.close (tie.spec (λ c κs. search rules) (λ c κs. search rules) (λ c. search rules) returns)
+pub put_verdict_spec : {M : Type 1} → statement M
+put_verdict_spec = tie.close (tie.spec (λ c κs. search rules) (λ c κs. search rules) (λ c. search rules) returns)

@@ -9,16 +9,15 @@ use Rattle.text_lines.proofs.refused_line.Tie as tie
 
 returns : tie.Need-returns
 returns c =
-    let word = c.before.before.before.before.before.before.before in
-    put_as (put_then word.put-bytes.ensures c.before.before.put-last-number.ensures)
-    (refused-parts _ ∙ ap refused_line c.before.before.before.wide.ensures.0)
+    let word = c in
+    put_as (put_then word.put_bytes-next.ensures c.put_last_number.ensures)
+    (refused-parts _ ∙ ap refused_line c.wide.ensures.0)
     (omega arith)
 
-pub refused-line-spec : {M : Type 1} → statement M
-refused-line-spec =
+pub refused_line_spec : {M : Type 1} → statement M
+refused_line_spec =
     tie.close
     (tie.spec
-    (λ c. search rules)
     (λ c κs. search rules)
     (λ c κs. search rules)
     (λ c κs. search rules)

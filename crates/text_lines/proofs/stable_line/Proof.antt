@@ -7,9 +7,13 @@ use Rattle.text_lines.proofs.stable_line.Tie as tie
 
 returns : tie.Need-returns
 returns c =
-    let verdict = c.before.before.before.before.before.before in
-    put_as (put_then verdict.put-verdict.ensures c.before.before.put-last-number.ensures) (stable-parts _ _) (omega arith)
+    let verdict = c in
+    put_as (put_then verdict.put_verdict-next.ensures c.put_last_number.ensures) (stable-parts _ _) (omega arith)
 
-pub stable-line-spec : {M : Type 1} → statement M
-stable-line-spec =
-    tie.close (tie.spec (λ c. search rules) (λ c κs. search rules) (λ c κs. search rules) (λ c. search rules) returns)
+pub stable_line_spec : {M : Type 1} → statement M
+stable_line_spec =
+    tie.close (tie.spec
+    (λ c κs. search rules)
+    (λ c κs. search rules)
+    (λ c. search rules)
+    returns)

@@ -7,21 +7,20 @@ use Rattle.text_lines.proofs.suspect_line.Tie as tie
 
 returns : tie.Need-returns
 returns c =
-    let members = c.before.before.before.before.before.before in
-    let size = members.before.before.before.before in
-    let verdict = size.before.before.before.before in
+    let members = c in
+    let size = members in
+    let verdict = size in
     put_as
     (put_then
-    (put_then (put_then verdict.put-verdict.ensures size.put-next-number.ensures) members.put-next-numbers.ensures)
-    c.before.before.put_byte.ensures)
+    (put_then (put_then verdict.put_verdict-size.ensures size.put_next_number-members.ensures) members.put_next_numbers-last.ensures)
+    c.put_byte.ensures)
     (suspect-parts _ _)
     (omega arith)
 
-pub suspect-line-spec : {M : Type 1} → statement M
-suspect-line-spec =
+pub suspect_line_spec : {M : Type 1} → statement M
+suspect_line_spec =
     tie.close
     (tie.spec
-    (λ c. search rules)
     (λ c κs. search rules)
     (λ c κs. search rules)
     (λ c κs. search rules)

@@ -5,17 +5,17 @@ use borrow.Author.Rules.{rules}
 use lib.IntN.{pos, ◌-ℤ◌}
 use mir.Syntax.{w64}
 use mir.ValLaws.{to_z-of_z}
-use Rattle.base.proofs.Numbers.{yes, no}
+use Rattle.base.proofs.Numbers.{granted, denied}
 use Rattle.call_compare.specs.declared.compare.Margin.TheVariants.{Of}
 use Rattle.call_compare.proofs.Preferring.{margin-none, margin-some}
 use Rattle.call_compare.proofs.compare.margin_of.Statement.{statement}
 use Rattle.call_compare.proofs.compare.margin_of.Tie as tie
 
 returns : tie.Need-returns
-returns c I w e f p q = sym (margin-none I w e f (inl (p.way ∙ no _ c.before.is-way.ensures c.if1.true)))
+returns c I w e f p q = sym (margin-none I w e f (inl (p.way ∙ denied _ c.before.is-way.ensures c.if1.true)))
 
 returns-2 : tie.Need-returns-2
-returns-2 c I w e f p q = sym (margin-none I w e f (inr (q.way ∙ no _ c.before.is-way2.ensures c.if2.true)))
+returns-2 c I w e f p q = sym (margin-none I w e f (inr (q.way ∙ denied _ c.before.is-way2.ensures c.if2.true)))
 
 returns-3 : tie.Need-returns-3
 returns-3 c I w e f p q =
@@ -23,8 +23,8 @@ returns-3 c I w e f p q =
     let b = d.before.before in
     ap Of (to_z-of_z w64 _ (search rules) ∙ c.difference.ensures)
     ∙ sym (ap₂ (λ x y. Of (pos x -ℤ pos y)) p.dist q.dist)
-    ∙ sym (margin-some I w e f (p.way ∙ yes _ b.before.is-way.ensures b.if1.false)
-    (q.way ∙ yes _ d.before.is-way2.ensures d.if2.false))
+    ∙ sym (margin-some I w e f (p.way ∙ granted _ b.before.is-way.ensures b.if1.false)
+    (q.way ∙ granted _ d.before.is-way2.ensures d.if2.false))
 
 pub margin-of-spec : {M : Type 1} → statement M
 margin-of-spec =

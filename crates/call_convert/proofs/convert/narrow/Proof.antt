@@ -3,7 +3,7 @@ use mathlib.Core.Path.{refl, ◌∙◌}
 use mathlib.Core.Logic.{inl}
 use borrow.Author.Rules.{rules}
 use lib.Dec.{lit<}
-use Rattle.base.proofs.Numbers.{yes, no}
+use Rattle.base.proofs.Numbers.{granted, denied}
 use Rattle.plan_rules.specs.Refusal.{refuse}
 use Rattle.plan_rules.specs.Converted.{narrow_refusal}
 use Rattle.plan_rules.proofs.Cascade.{refuse-true}
@@ -22,7 +22,7 @@ unfolding narrow_refusal refuse
 returns-2 c =
     let f = c.before.before in
     let t = f.before in
-    converts-not (rest-decides t.before.before.check-marked.ensures t.if1.false _ ∙ rw (no _ f.distances-fit.ensures c.before.if2.true))
+    converts-not (rest-decides t.before.before.check-marked.ensures t.if1.false _ ∙ rw (denied _ f.distances-fit.ensures c.before.if2.true))
     (lit< tt) c.refused-conversion2.ensures
 
 returns-3 : tie.Need-returns-3
@@ -32,7 +32,7 @@ returns-3 c =
     let d = w.before.before in
     let t = d.before.before in
     converts-as
-    (rest-decides t.before.before.check-marked.ensures t.if1.false _ ∙ refuse-true _ 14 _ (yes _ d.before.distances-fit.ensures d.if2.false))
+    (rest-decides t.before.before.check-marked.ensures t.if1.false _ ∙ refuse-true _ 14 _ (granted _ d.before.distances-fit.ensures d.if2.false))
     w.into-buffer.ensures
 
 pub narrow-spec : {M : Type 1} → statement M

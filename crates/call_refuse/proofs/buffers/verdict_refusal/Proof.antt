@@ -2,7 +2,7 @@ use Prim.Native.Nat.{ℕ}
 use mathlib.Core.Path.{◌≡◌, ◌∙◌, sym, ap}
 use mathlib.Core.List.{List}
 use borrow.Author.Rules.{rules}
-use Rattle.base.proofs.Numbers.{yes, no}
+use Rattle.base.proofs.Numbers.{granted, denied}
 use Rattle.plan_contents.specs.Header.{router_count}
 use Rattle.plan_rules.specs.Refusal.{refuse}
 use Rattle.plan_read.specs.Checked.{Checked}
@@ -31,13 +31,13 @@ returns c plan read = asked-refused plan (has_list plan c.before.before.before.b
 returns-2 : tie.Need-returns-2
 unfolding egress_list_refusal verdict_refusal refuse
 returns-2 c plan read =
-    sym (ap (λ b. refuse b 9 0) (no _ (judged c.before plan read) c.if2.true))
+    sym (ap (λ b. refuse b 9 0) (denied _ (judged c.before plan read) c.if2.true))
     ∙ asked-passed plan (has_list plan (entry c.before.before.before).args.list) _ (given c.before.before.before plan read)
 
 returns-3 : tie.Need-returns-3
 unfolding egress_list_refusal verdict_refusal refuse
 returns-3 c plan read =
-    sym (ap (λ b. refuse b 9 0) (yes _ (judged c.before plan read) c.if2.false))
+    sym (ap (λ b. refuse b 9 0) (granted _ (judged c.before plan read) c.if2.false))
     ∙ asked-passed plan (has_list plan (entry c.before.before.before).args.list) _ (given c.before.before.before plan read)
 
 pub verdict-refusal-spec : {M : Type 1} → statement M

@@ -3,7 +3,7 @@ use mathlib.Core.Path.{◌≡◌, ◌∙◌, sym}
 use mathlib.Core.Bool.{true, false}
 use mathlib.Core.List.{List}
 use borrow.Author.Rules.{rules}
-use Rattle.base.proofs.Numbers.{yes, no}
+use Rattle.base.proofs.Numbers.{granted, denied}
 use Rattle.plan_contents.specs.Header.{router_count}
 use Rattle.plan_rules.specs.Refusal.{refuse}
 use Rattle.plan_read.specs.Checked.{Checked}
@@ -33,13 +33,13 @@ returns-2 : tie.Need-returns-2
 unfolding egress_list_refusal refuse
 returns-2 c plan read =
     let d = c.before.before.before in
-    more-passed plan (has_list plan (entry d).args.list) false (no _ (judged c.before plan read) c.if2.true) (given d plan read)
+    more-passed plan (has_list plan (entry d).args.list) false (denied _ (judged c.before plan read) c.if2.true) (given d plan read)
 
 returns-3 : tie.Need-returns-3
 unfolding egress_list_refusal refuse
 returns-3 c plan read =
     let d = c.before.before.before in
-    more-passed plan (has_list plan (entry d).args.list) true (yes _ (judged c.before plan read) c.if2.false) (given d plan read)
+    more-passed plan (has_list plan (entry d).args.list) true (granted _ (judged c.before plan read) c.if2.false) (given d plan read)
 
 pub sequence-refusal-spec : {M : Type 1} → statement M
 sequence-refusal-spec =

@@ -1,7 +1,7 @@
 use native.Mathlib.Omega.{arith}
 use mathlib.Core.Path.{◌≡◌, refl, ◌∙◌, sym, ap}
 use borrow.Author.Rules.{rules}
-use Rattle.base.proofs.Numbers.{yes, no}
+use Rattle.base.proofs.Numbers.{granted, denied}
 use Rattle.base.proofs.SetBits.{bit-none}
 use Rattle.net_everylist.proofs.Rows.{own-none, clients-below, own_is}
 use Rattle.net_everylist.proofs.peeling.own_clients.Statement.{statement}
@@ -13,7 +13,7 @@ returns c e =
     let d = b.before.before.before in
     let a = d.args in
     bit-none e
-    ∙ sym (own-none a.net a.rows.now a.distances.now d.requires.0 a.w _ b.before.without.ensures (no _ b.has-bit.ensures c.if1.true) e)
+    ∙ sym (own-none a.net a.rows.now a.distances.now d.requires.0 a.w _ b.before.without.ensures (denied _ b.has-bit.ensures c.if1.true) e)
 
 upto-key-requires : tie.Need-upto-key-requires
 upto-key-requires c κs =
@@ -34,7 +34,7 @@ returns-2 c e =
     let a = d.args in
     c.upto-key.ensures e
     ∙ own_is a.net a.rows.now a.distances.now d.requires.0 a.w _ b.before.without.ensures _ t.without2.ensures
-    (λ i. omega (arith, s.shared-slice-known.given i)) (yes _ b.has-bit.ensures t.before.before.if1.false) _ (omega (arith, k.no_key.ensures.0))
+    (λ i. omega (arith, s.shared-slice-known.given i)) (granted _ b.has-bit.ensures t.before.before.if1.false) _ (omega (arith, k.no_key.ensures.0))
     (omega (arith, k.no_key.ensures)) e
 
 pub own-clients-spec : {M : Type 1} → statement M

@@ -1,6 +1,6 @@
 -- At each return the guards that led there say what the check is.
 use borrow.Author.Rules.{rules}
-use Rattle.base.proofs.Numbers.{tests, yes, no}
+use Rattle.base.proofs.Numbers.{tests, granted, denied}
 use Rattle.plan_contents.specs.Header.{header_ok}
 use Rattle.plan_contents.proofs.header.header_ok.Statement.{statement}
 use Rattle.plan_contents.proofs.header.header_ok.Tie as tie
@@ -19,6 +19,6 @@ header_ok_spec =
     (λ c. search tests)
     (λ c. search rules)
     (λ c κs. search rules)
-    (λ c. rw (no _ c.mark_ok.ensures c.if-not-mark_ok.true) (search tests))
+    (λ c. rw (denied _ c.mark_ok.ensures c.if-not-mark_ok.true) (search tests))
     (λ c. search rules)
-    (λ c. rw (yes _ c.mark_ok.ensures c.if-not-mark_ok.false) (search tests)))
+    (λ c. rw (granted _ c.mark_ok.ensures c.if-not-mark_ok.false) (search tests)))

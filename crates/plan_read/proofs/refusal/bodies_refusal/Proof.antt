@@ -7,7 +7,7 @@ use mathlib.Core.List.{List}
 use borrow.Author.Rules.{rules}
 use borrow.Author.Tests.{not-false}
 use lib.ListN.{length}
-use Rattle.base.proofs.Numbers.{yes, no}
+use Rattle.base.proofs.Numbers.{granted, denied}
 use Rattle.plan_contents.specs.declared.entries.Entry.{Entry}
 use Rattle.plan_contents.specs.Contents.{body, routers_entry, sessions_entry, distances_entry}
 use Rattle.plan_rules.specs.Routers.{routers_ok}
@@ -45,10 +45,10 @@ within c = bodies-within _ _ _ _ (row3 c)
 -- what a check of a part tells of the body that the part is
 module _ (ok : List ℕ → ℕ → Bool) (n : ℕ) {r : Bool} {part given : List ℕ} (answer : r ≡ ok part n) (is : part ≡ given) where
   fails : not r ≡ true → ok given n ≡ false
-  fails h = no r (answer ∙ ap (λ s. ok s n) is) h
+  fails h = denied r (answer ∙ ap (λ s. ok s n) is) h
 
   passes : not r ≡ false → ok given n ≡ true
-  passes h = yes r (answer ∙ ap (λ s. ok s n) is) h
+  passes h = granted r (answer ∙ ap (λ s. ok s n) is) h
 
 abbrev part : (List Entry → Entry) → tie.Start → List ℕ
 part which c = body c.args.plan.now (which c.args.t2)
@@ -77,7 +77,7 @@ parents-answer c =
     ∙ ap₂ (λ r s. parents_ok r s (entry₂ c).args.n) routers d.before.body-of2.ensures.bytes
 
 parents-pass : (c : tie.Else3) → let e = entry₃ c in parents_ok (part routers_entry e) (part sessions_entry e) e.args.n ≡ true
-parents-pass c = yes _ (parents-answer c.before.before) c.if3.false
+parents-pass c = granted _ (parents-answer c.before.before) c.if3.false
 
 distances-pass : (c : tie.Else4) → Passes (distances_ok (entry₄ c).args.width) distances_entry (entry₄ c)
 unfolding Passes
@@ -116,7 +116,7 @@ returns-3 : tie.Need-returns-3
 unfolding body_checks refuse Passes
 returns-3 c =
     let d₂ = c.before.before in
-    rw (routers-pass d₂.before.before.before.before.before, sessions-pass d₂, no _ (parents-answer d₂) c.if3.true)
+    rw (routers-pass d₂.before.before.before.before.before, sessions-pass d₂, denied _ (parents-answer d₂) c.if3.true)
 
 returns-4 : tie.Need-returns-4
 unfolding body_checks refuse Passes

@@ -7,7 +7,7 @@ use mathlib.Core.List.{List}
 use mathlib.Core.Logic.{⊎_elim}
 use borrow.Author.Rules.{rules}
 use lib.ListN.{length}
-use Rattle.base.proofs.Numbers.{yes, no}
+use Rattle.base.proofs.Numbers.{granted, denied}
 use Rattle.plan_contents.specs.Header.{header_ok, mark, width, router_count, router_count_ok}
 use Rattle.plan_contents.specs.Contents.{contents_ok}
 use Rattle.plan_rules.specs.Distances.{TwoOrFour}
@@ -30,13 +30,13 @@ abbrev plan₃ : tie.Else3 → List ℕ
 plan₃ c = plan₂ (second c)
 
 header-passes : (c : tie.Else1) → header_ok (plan₁ c) ≡ true
-header-passes c = yes _ c.before.header_ok.ensures c.if1.false
+header-passes c = granted _ c.before.header_ok.ensures c.if1.false
 
 long : (c : tie.Else1) → 26 ≤ length (plan₁ c)
 long c = (header-facts (plan₁ c) (header-passes c)).least
 
 count-passes : (c : tie.Else2) → router_count_ok (router_count (plan₂ c)) ≡ true
-count-passes c = yes _ c.before.router-count-ok.ensures c.if2.false
+count-passes c = granted _ c.before.router-count-ok.ensures c.if2.false
 
 few : (c : tie.Else2) → router_count (plan₂ c) ≤ 64
 few c = (count-facts (router_count (plan₂ c)) (count-passes c)).most
@@ -50,15 +50,15 @@ width-bytes c = rw (width-is c) (width-of-mark (mark (plan₂ c.before.before)))
 
 contents-passes : (c : tie.Else3) → let read = c.before.before in
     contents_ok read.read-contents.result read.before.width_of_lem.result (router_count (plan₃ c)) (length (plan₃ c)) ≡ true
-contents-passes c = yes _ c.before.contents-ok.ensures c.if3.false
+contents-passes c = granted _ c.before.contents-ok.ensures c.if3.false
 
 returns : tie.Need-returns
 unfolding plan_refusal plan_checks refuse
-returns c = rw (no _ c.before.header_ok.ensures c.if1.true)
+returns c = rw (denied _ c.before.header_ok.ensures c.if1.true)
 
 returns-2 : tie.Need-returns-2
 unfolding plan_refusal plan_checks refuse
-returns-2 c = rw (header-passes c.before.before.before, no _ c.before.router-count-ok.ensures c.if2.true)
+returns-2 c = rw (header-passes c.before.before.before, denied _ c.before.router-count-ok.ensures c.if2.true)
 
 returns-3 : tie.Need-returns-3
 unfolding plan_refusal plan_checks refuse
@@ -70,7 +70,7 @@ returns-3 c =
       count-passes d,
       ← read.read-contents.ensures,
       ← (width-is read.before),
-      no _ c.before.contents-ok.ensures c.if3.true,
+      denied _ c.before.contents-ok.ensures c.if3.true,
     )
 
 returns-4 : tie.Need-returns-4
