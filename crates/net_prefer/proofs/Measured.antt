@@ -4,7 +4,7 @@ use native.Mathlib.Omega.{arith}
 use mathlib.Core.List.{List}
 use mathlib.Core.Path.{◌≡◌, ◌∙◌, sym, ap}
 use mathlib.Core.Bool.{Bool, true, false, not}
-use Rattle.base.proofs.Numbers.{yes, no}
+use Rattle.base.proofs.Numbers.{granted, denied}
 use Rattle.plan_rules.specs.Distances.{highest, as_distance, number_at, distance_in, is_way, way_in, TwoOrFour}
 use Rattle.plan_rules.proofs.Widths.{distance_is, distance-order}
 use Rattle.route_rules.specs.Instance.{Instance}
@@ -41,8 +41,8 @@ numbers-ordered {I} {width} q t w e f first second p a r b =
     }
 
 module _ {I : Instance} {width : ℕ} {s : List ℕ} {n : ℕ} (q : Measured I width s n) (w e : ℕ) (r : Bool) (tested : r ≡ way_in width s n w e) where
-  pub some-way : not r ≡ false → I.way w e ≡ true
-  some-way h = ap (λ way. way w e) q.way ∙ yes r tested h
+  pub some-way : r ≡ true → I.way w e ≡ true
+  some-way h = ap (λ way. way w e) q.way ∙ granted r tested h
 
-  pub no_way : not r ≡ true → I.way w e ≡ false
-  no_way h = ap (λ way. way w e) q.way ∙ no r tested h
+  pub no_way : r ≡ false → I.way w e ≡ false
+  no_way h = ap (λ way. way w e) q.way ∙ denied r tested h

@@ -11,43 +11,43 @@ use Rattle.links_rules.proofs.Returns.{count-refused, sheet-refused}
 use Rattle.call_distances.proofs.distances.Statement.{statement}
 use Rattle.call_distances.proofs.distances.Tie as tie
 
-abbrev start : tie.Else2 → tie.Start
+abbrev start : tie.Else-n-gt64 → tie.Start
 start c = c.before.before.before.before
 
-few : (c : tie.Then1) → router_count_ok c.before.before.before.args.n ≡ false
+few : (c : tie.Then-n-lt1) → router_count_ok c.args.n ≡ false
 unfolding router_count_ok
 few c = search tests
 
-many : (c : tie.Then2) → router_count_ok c.before.before.before.before.args.n ≡ false
+many : (c : tie.Then-n-gt64) → router_count_ok c.args.n ≡ false
 unfolding router_count_ok
 many c = search tests
 
 -- where n is from 1 to 64, and where the links pass too
-count-passes : (c : tie.Else2) → router_count_ok (start c).args.n ≡ true
+count-passes : (c : tie.Else-n-gt64) → router_count_ok (start c).args.n ≡ true
 unfolding router_count_ok
 count-passes c = search tests
 
-sheet-passes : (c : tie.Else3) → let a = (start c.before.before).args in sheet_ok a.links.now a.n ≡ true
-sheet-passes c = granted _ c.before.sheet-ok.ensures c.if3.false
+sheet-passes : (c : tie.Else-not-sheet_ok) → let a = (start c.before.before).args in sheet_ok a.links.now a.n ≡ true
+sheet-passes c = granted _ c.sheet_ok.ensures c.if-not-sheet_ok.false
 
-pub distances-spec : {M : Type 1} → statement M
-distances-spec =
+pub distances_spec : {M : Type 1} → statement M
+distances_spec =
     tie.close
     (tie.spec
     (λ c. count-refused _ _ _ (few c))
     (λ c. count-refused _ _ _ (many c))
     (λ c. search rules)
     (λ c κs. search rules)
-    (λ c. sheet-refused _ _ _ (count-passes c.before.before) (denied _ c.before.sheet-ok.ensures c.if3.true))
+    (λ c. sheet-refused _ _ _ (count-passes c.before.before) (denied _ c.sheet_ok.ensures c.if-not-sheet_ok.true))
     (λ c. search rules)
     (λ c κs.
     let h = c.before.before.before in
     (search rules, count-passes h.before.before, sheet-passes h, no-walks _ 512 (search rules) (omega arith)))
     (λ c. search rules)
-    (λ c. c.before.before.before.least-body.ensures)
+    (λ c. c.least_body.ensures)
     (λ c. search rules)
     (λ c κs.
     let h = c.before.before.before in
     (search rules, count-passes h.before.before, sheet-passes h, no-walks _ 4096 (search rules) (omega arith)))
     (λ c. search rules)
-    (λ c. c.before.before.before.least-body2.ensures))
+    (λ c. c.least_body-2.ensures))

@@ -8,24 +8,24 @@ use Rattle.links_fit.specs.Near.{near, near_to}
 use Rattle.links_fit.proofs.near_to.Statement.{statement}
 use Rattle.links_fit.proofs.near_to.Tie as tie
 
-abbrev invariant-loop : tie.invariant-loop
-invariant-loop words n e found₀ u₀ found u = (u ≤ n) × (found ≡ near_to words u e)
+abbrev invariant-loop-u : tie.invariant-loop-u
+invariant-loop-u words n e found₀ u₀ found u = (u ≤ n) × (found ≡ near_to words u e)
 
-abbrev decreases-loop : tie.decreases-loop
-decreases-loop words n e found₀ u₀ found u = n - u
+abbrev decreases-loop-u : tie.decreases-loop-u
+decreases-loop-u words n e found₀ u₀ found u = n - u
 
-loop-again : tie.Need-loop-preserved invariant-loop decreases-loop
+loop-again : tie.Need-loop-u-preserved invariant-loop-u decreases-loop-u
 loop-again c =
-    let u = c.before.before.before in
-    let a = u.before.before.args in
-    (search rules, c.with-bit-if.ensures ∙ marked_more (λ v. near a.words.now v a.e) u.loop.u _ _ refl u.loop.invariant.1)
+    let u = c in
+    let a = u.args in
+    (search rules, c.with_bit_if-found.ensures ∙ marked_more (λ v. near a.words.now v a.e) u.loop-u.u _ _ refl u.loop-u.invariant.1)
 
-pub near-to-spec : {M : Type 1} → statement M
-near-to-spec =
+pub near_to_spec : {M : Type 1} → statement M
+near_to_spec =
     tie.close
     (tie.spec
-    invariant-loop
-    decreases-loop
+    invariant-loop-u
+    decreases-loop-u
     (λ c. (search rules, sym (marked-none _)))
     (λ c. search rules)
     (λ c. search rules)
@@ -35,4 +35,4 @@ near-to-spec =
     (λ c. search rules)
     (λ c. search rules)
     loop-again
-    (λ c. let e : c.before.loop.u ≡ c.before.before.before.args.n = omega arith in rw e at c.before.loop.invariant.1))
+    (λ c. let e : c.loop-u.u ≡ c.args.n = omega arith in rw e at c.loop-u.invariant.1))

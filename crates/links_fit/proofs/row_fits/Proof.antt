@@ -8,26 +8,26 @@ use Rattle.links_fit.specs.Near.{near, row_fits}
 use Rattle.links_fit.proofs.row_fits.Statement.{statement}
 use Rattle.links_fit.proofs.row_fits.Tie as tie
 
-abbrev invariant-loop : tie.invariant-loop
-invariant-loop words n u e₀ e = HeldSoFar (near words u) n e
+abbrev invariant-loop-e : tie.invariant-loop-e
+invariant-loop-e words n u e₀ e = HeldSoFar (near words u) n e
 
-abbrev decreases-loop : tie.decreases-loop
-decreases-loop words n u e₀ e = n - e
+abbrev decreases-loop-e : tie.decreases-loop-e
+decreases-loop-e words n u e₀ e = n - e
 
-pub row-fits-spec : {M : Type 1} → statement M
+pub row_fits_spec : {M : Type 1} → statement M
 unfolding row_fits
-row-fits-spec =
+row_fits_spec =
     tie.close
     (tie.spec
-    invariant-loop
-    decreases-loop
+    invariant-loop-e
+    decreases-loop-e
     (λ c. held_start _ _)
     (λ c. search rules)
     (λ c. search rules)
     (λ c. search rules)
     (λ c. search rules)
-    (λ c. sym (all-fail _ _ _ c.before.before.loop-test.true (lt-leb _ 65534 c.if1.true)))
+    (λ c. sym (all-fail _ _ _ c.loop-e-test.true (lt-leb _ 65534 c.if-words-u-gt65534.true)))
     (λ c. search rules)
     (λ c. search rules)
-    (λ c. record { upto = search rules; held = all_more _ _ c.before.before.before.loop.invariant.held (le-leb _ 65534 c.if1.false) })
-    (λ c. held-done _ _ _ c.before.loop.invariant c.loop-test.false))
+    (λ c. record { upto = search rules; held = all_more _ _ c.loop-e.invariant.held (le-leb _ 65534 c.if-words-u-gt65534.false) })
+    (λ c. held-done _ _ _ c.loop-e.invariant c.loop-e-test.false))

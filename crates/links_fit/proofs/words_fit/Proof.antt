@@ -6,25 +6,25 @@ use Rattle.links_fit.specs.Near.{row_fits, words_fit}
 use Rattle.links_fit.proofs.words_fit.Statement.{statement}
 use Rattle.links_fit.proofs.words_fit.Tie as tie
 
-abbrev invariant-loop : tie.invariant-loop
-invariant-loop words n u₀ u = HeldSoFar (row_fits words n) n u
+abbrev invariant-loop-u : tie.invariant-loop-u
+invariant-loop-u words n u₀ u = HeldSoFar (row_fits words n) n u
 
-abbrev decreases-loop : tie.decreases-loop
-decreases-loop words n u₀ u = n - u
+abbrev decreases-loop-u : tie.decreases-loop-u
+decreases-loop-u words n u₀ u = n - u
 
-pub words-fit-spec : {M : Type 1} → statement M
+pub words_fit_spec : {M : Type 1} → statement M
 unfolding words_fit
-words-fit-spec =
+words_fit_spec =
     tie.close
     (tie.spec
-    invariant-loop
-    decreases-loop
+    invariant-loop-u
+    decreases-loop-u
     (λ c. held_start _ _)
     (λ c κs. search rules)
-    (λ c. held-fail _ _ _ c.before.before.loop-test.true _ c.before.row-fits.ensures c.if1.true)
+    (λ c. held-fail _ _ _ c.loop-u-test.true _ c.row_fits.ensures c.if-not-row_fits.true)
     (λ c. search rules)
     (λ c. search rules)
     (λ c.
-    let u = c.before.before.before in
-    held_more _ _ _ u.loop.invariant c.before.before.loop-test.true _ c.before.row-fits.ensures c.if1.false)
-    (λ c. held-done _ _ _ c.before.loop.invariant c.loop-test.false))
+    let u = c in
+    held_more _ _ _ u.loop-u.invariant c.loop-u-test.true _ c.row_fits.ensures c.if-not-row_fits.false)
+    (λ c. held-done _ _ _ c.loop-u.invariant c.loop-u-test.false))

@@ -4,9 +4,9 @@ use Rattle.links_rules.specs.Sheet.{link_ok}
 use Rattle.links_read.proofs.link_ok.Statement.{statement}
 use Rattle.links_read.proofs.link_ok.Tie as tie
 
-pub link-ok-spec : {M : Type 1} → statement M
+pub link_ok_spec : {M : Type 1} → statement M
 unfolding link_ok
-link-ok-spec =
+link_ok_spec =
     tie.close
     (tie.spec
     (λ c. search rules)
@@ -19,6 +19,6 @@ link-ok-spec =
     (λ c. search rules)
     (λ c. search rules)
     (λ c κs. search rules)
-    (λ c. search (tests, ← c.before.read2.ensures.0))
+    (λ c. search (tests, ← c.read2.ensures.0))
     (λ c κs. search rules)
-    (λ c. search (tests, ← c.before.before.read2.ensures.0)))
+    (λ c. search (tests, ← c.read2.ensures.0)))

@@ -7,35 +7,35 @@ use Rattle.links_rules.specs.Sheet.{link_ok, sheet_ok}
 use Rattle.links_read.proofs.sheet_ok.Statement.{statement}
 use Rattle.links_read.proofs.sheet_ok.Tie as tie
 
-abbrev invariant-loop : tie.invariant-loop
-invariant-loop s n count k₀ k = HeldSoFar (link_ok s n) count k
+abbrev invariant-loop-k : tie.invariant-loop-k
+invariant-loop-k s n count k₀ k = HeldSoFar (link_ok s n) count k
 
-abbrev decreases-loop : tie.decreases-loop
-decreases-loop s n count k₀ k = count - k
+abbrev decreases-loop-k : tie.decreases-loop-k
+decreases-loop-k s n count k₀ k = count - k
 
-pub sheet-ok-spec : {M : Type 1} → statement M
+pub sheet_ok_spec : {M : Type 1} → statement M
 unfolding sheet_ok
-sheet-ok-spec =
+sheet_ok_spec =
     tie.close
     (tie.spec
-    invariant-loop
-    decreases-loop
+    invariant-loop-k
+    decreases-loop-k
     (λ c. search tests)
     (λ c. search tests)
     (λ c. held_start _ _)
     (λ c κs. search rules)
     (λ c.
     rw (
-      eq-eqb _ _ c.before.before.before.before.before.if1.false,
-      le-leb _ _ c.before.before.before.before.if2.false,
-      ← held-fail _ _ _ c.before.before.loop-test.true _ c.before.link-ok.ensures c.if3.true,
+      eq-eqb _ _ c.if-s-ne0.false,
+      le-leb _ _ c.if-count-gt512.false,
+      ← held-fail _ _ _ c.loop-k-test.true _ c.link_ok.ensures c.if-not-link_ok.true,
     ))
     (λ c. search rules)
     (λ c. search rules)
-    (λ c. held_more _ _ _ c.before.before.before.loop.invariant c.before.before.loop-test.true _ c.before.link-ok.ensures c.if3.false)
+    (λ c. held_more _ _ _ c.loop-k.invariant c.loop-k-test.true _ c.link_ok.ensures c.if-not-link_ok.false)
     (λ c.
     rw (
-      eq-eqb _ _ c.before.before.before.if1.false,
-      le-leb _ _ c.before.before.if2.false,
-      ← held-done _ _ _ c.before.loop.invariant c.loop-test.false,
+      eq-eqb _ _ c.if-s-ne0.false,
+      le-leb _ _ c.if-count-gt512.false,
+      ← held-done _ _ _ c.loop-k.invariant c.loop-k-test.false,
     )))

@@ -9,28 +9,28 @@ use Rattle.links_sums.proofs.Words.{stays, stay-more, stay-done}
 use Rattle.links_sums.proofs.stay.Statement.{statement}
 use Rattle.links_sums.proofs.stay.Tie as tie
 
-abbrev invariant-loop : tie.invariant-loop
-invariant-loop words₀ n u₀ words u = HoldsSums (stays u) n words × (u ≤ n) × (length words ≡ length words₀)
+abbrev invariant-loop-u : tie.invariant-loop-u
+invariant-loop-u words₀ n u₀ words u = HoldsSums (stays u) n words × (u ≤ n) × (length words ≡ length words₀)
 
-abbrev decreases-loop : tie.decreases-loop
-decreases-loop words₀ n u₀ words u = n - u
+abbrev decreases-loop-u : tie.decreases-loop-u
+decreases-loop-u words₀ n u₀ words u = n - u
 
-pub stay-spec : {M : Type 1} → statement M
+pub stay_spec : {M : Type 1} → statement M
 unfolding stays
-stay-spec =
+stay_spec =
     tie.close
     (tie.spec
-    invariant-loop
-    decreases-loop
-    (λ c. (c.before.requires.1, search rules, refl))
-    (λ c κs. omega (arith, c.before.before.loop.invariant.0.room))
+    invariant-loop-u
+    decreases-loop-u
+    (λ c. (c.requires.1, search rules, refl))
+    (λ c κs. omega (arith, c.loop-u.invariant.0.room))
     (λ c. search rules)
     (λ c. search rules)
     (λ c.
     let b = c.before.before.before.before.before in
-    let lowered = c.before.before.lower.ensures in
-    (stay-more _ b.before.before.requires.0 _ _ b.loop.u (search rules) b.loop.invariant.0 lowered, search rules, search rules))
-    (λ c. c.before.loop.invariant.2)
+    let lowered = c.lower.ensures in
+    (stay-more _ b.requires.0 _ _ b.loop-u.u (search rules) b.loop-u.invariant.0 lowered, search rules, search rules))
+    (λ c. c.loop-u.invariant.2)
     (λ c.
-    let b = c.before in
-    stay-done _ b.before.before.requires.0 _ b.loop.u b.loop.invariant.1 c.loop-test.false b.loop.invariant.0))
+    let b = c in
+    stay-done _ b.requires.0 _ b.loop-u.u b.loop-u.invariant.1 c.loop-u-test.false b.loop-u.invariant.0))

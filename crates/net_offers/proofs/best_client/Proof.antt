@@ -9,48 +9,48 @@ use Rattle.net_offers.proofs.Clients.{Seeking, seeking-start, seeking-below, see
 use Rattle.net_offers.proofs.best_client.Statement.{statement}
 use Rattle.net_offers.proofs.best_client.Tie as tie
 
-abbrev invariant-loop : tie.invariant-loop
-invariant-loop net rows distances v best₀ left₀ best left = Seeking (decoded net rows distances) v left₀ (as_router best) left
+abbrev invariant-loop-left : tie.invariant-loop-left
+invariant-loop-left net rows distances v best₀ left₀ best left = Seeking (decoded net rows distances) v left₀ (as_router best) left
 
-abbrev decreases-loop : tie.decreases-loop
-decreases-loop net rows distances v best₀ left₀ best left = left
+abbrev decreases-loop-left : tie.decreases-loop-left
+decreases-loop-left net rows distances v best₀ left₀ best left = left
 
-abbrev instance : tie.Start invariant-loop decreases-loop → Instance
+abbrev instance : tie.Start invariant-loop-left decreases-loop-left → Instance
 instance c = decoded c.args.net c.args.rows.now c.args.distances.now
 
-loop-holds : tie.Need-loop-init invariant-loop decreases-loop
+loop-holds : tie.Need-loop-left-init invariant-loop-left decreases-loop-left
 loop-holds c =
     let d = c.before.before in
-    let clients = c.listed-clients.ensures d.args.distances.now in
+    let clients = c.listed_clients-left.ensures d.args.distances.now in
     seeking-start (instance d) d.args.v _ _ (router-none 255 refl) clients.marks
     (λ e set. d.requires.0.neighbours d.args.v e (eqb-true _ 1 (clients.near e set)))
 
-keep-client-requires : tie.Need-keep-client-requires invariant-loop decreases-loop
+keep-client-requires : tie.Need-keep_client-best-requires invariant-loop-left decreases-loop-left
 keep-client-requires c κs =
-    let d = c.before.before.before.before.before in
-    let inv = c.before.before.loop.invariant in
-    let low = c.lowest-bit.ensures.0 in
+    let d = c in
+    let inv = c.loop-left.invariant in
+    let low = c.lowest_bit-e.ensures.0 in
     (d.requires.1, seeking-below _ _ _ _ _ inv _ low, d.requires.0.count, d.requires.0.pairs, seeking-router _ _ _ _ _ inv _ low)
 
-loop-again : tie.Need-loop-preserved invariant-loop decreases-loop
+loop-again : tie.Need-loop-left-preserved invariant-loop-left decreases-loop-left
 loop-again c =
-    let k = c.before in
-    let v = k.before in
+    let k = c in
+    let v = k in
     let d = v.before.before.before.before.before in
-    let low = v.lowest-bit.ensures.0 in
-    seeking-more _ _ _ _ _ v.before.before.loop.invariant _ low _ _ (c.without-lowest.ensures.1 _ low) (k.keep-client.ensures (instance d) (record { dist = refl; way = refl }))
+    let low = v.lowest_bit-e.ensures.0 in
+    seeking-more _ _ _ _ _ v.loop-left.invariant _ low _ _ (c.without_lowest-left.ensures.1 _ low) (k.keep_client-best.ensures (instance d.before.before) (record { dist = refl; way = refl }))
 
-pub best-client-spec : {M : Type 1} → statement M
-best-client-spec =
+pub best_client_spec : {M : Type 1} → statement M
+best_client_spec =
     tie.close
     (tie.spec
-    invariant-loop
-    decreases-loop
+    invariant-loop-left
+    decreases-loop-left
     (λ c κs. search rules)
     loop-holds
     (λ c κs. search rules)
     keep-client-requires
     (λ c κs. search rules)
-    (λ c. c.without-lowest.ensures.0)
+    (λ c. c.without_lowest-left.ensures.0)
     loop-again
-    (λ c. seeking-done _ _ _ _ _ c.before.loop.invariant c.loop-test.false))
+    (λ c. seeking-done _ _ _ _ _ c.loop-left.invariant c.loop-left-test.false))

@@ -29,45 +29,45 @@ measured c rows = record { dist = refl; way = refl }
 abbrev decides : tie.Start → List ℕ → Option ℕ → Explanation
 decides c rows offer = let I = network c rows in by_offer I c.args.w (I.listed c.args.v) offer (as_router c.args.own)
 
-returns : tie.Need-returns
+returns : tie.Need-returns-then-offer-eq-NO_ROUTER
 returns c rows own =
     let d = c.before.before in
-    sym (ap (decides d rows) (router-none _ c.if1.true) ∙ offer-none (network d rows) _ _ _)
+    sym (ap (decides d rows) (router-none _ c.if-offer-eq-NO_ROUTER.true) ∙ offer-none (network d rows) _ _ _)
 
 -- an offer exists
-module _ (c : tie.After-wide) where
+module _ (c : tie.After-wide-egress) where
   abbrev start : tie.Start
   start = c.before.before.before
 
-  offered : as_router start.args.offer ≡ some c.wide.result
-  offered = router-some _ c.before.if1.false ∙ ap some (sym c.wide.ensures.0)
+  offered : as_router start.args.offer ≡ some c.wide-egress.result
+  offered = router-some _ c.if-offer-eq-NO_ROUTER.false ∙ ap some (sym c.wide-egress.ensures.0)
 
-  below : c.wide.result < start.args.net.n
-  below = omega (arith, c.wide.ensures.0, router-below _ start.args.offer c.before.if1.false start.pre.4)
+  below : c.wide-egress.result < start.args.net.n
+  below = omega (arith, c.wide-egress.ensures.0, router-below _ start.args.offer c.if-offer-eq-NO_ROUTER.false start.requires.4)
 
-has-way-requires : tie.Need-has-way-requires
+has-way-requires : tie.Need-has_way-requires
 has-way-requires c κs = let p = (start c).requires in (p.1, below c, p.3)
 
-returns-2 : tie.Need-returns-2
+returns-2 : tie.Need-returns-then-not-has_way
 returns-2 c rows own =
     let f = c.before.before in
     let d = start f in
     sym (ap (decides d rows) (offered f)
-    ∙ offer-no-way (network d rows) _ _ _ _ (no_way (measured d rows) _ _ _ c.before.has-way.ensures c.if2.true))
+    ∙ offer-no-way (network d rows) _ _ _ _ (no_way (measured d rows) _ _ _ c.has_way.ensures c.if-not-has_way.true))
 
-against-own-requires : tie.Need-against-own-requires
+against-own-requires : tie.Need-against_own-requires
 against-own-requires c κs = let f = c.before.before in let p = (start f).requires in (p.0, p.1, p.2, p.3, below f, p.5)
 
-returns-3 : tie.Need-returns-3
+returns-3 : tie.Need-returns
 returns-3 c rows own =
-    let e = c.before in
+    let e = c in
     let f = e.before.before in
-    let d = start f in
+    let d = start f.before in
     -- .. to which w has a way
-    let way = some-way (measured d rows) _ _ _ e.before.has-way.ensures e.if2.false in
-    c.against-own.ensures rows way own ∙ sym (ap (decides d rows) (offered f) ∙ offer-way (network d rows) _ _ _ _ way)
+    let way = some-way (measured d rows) _ _ _ e.has_way.ensures e.if-not-has_way.false in
+    c.against_own.ensures rows way own ∙ sym (ap (decides d rows) (offered f.before) ∙ offer-way (network d rows) _ _ _ _ way)
 
-pub by-offer-spec : {M : Type 1} → statement M
-by-offer-spec =
+pub by_offer_spec : {M : Type 1} → statement M
+by_offer_spec =
     tie.close
     (tie.spec returns (λ c κs. search rules) has-way-requires returns-2 against-own-requires returns-3)

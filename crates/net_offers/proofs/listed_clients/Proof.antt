@@ -15,11 +15,11 @@ use Rattle.net_offers.proofs.listed_clients.Statement.{statement}
 use Rattle.net_offers.proofs.listed_clients.Tie as tie
 
 -- the bits of the word
-word : (c : tie.After-without) (e : ℕ) → let a = c.before.before.before.args in
+word : (c : tie.After-without) (e : ℕ) → let a = c.args in
     eqb (bit_n c.without.result e) 1
     ≡ (eqb (bits a.rows.now a.v e) 1 && eqb (bit_n a.net.listed e) 1 && not (eqb (bit_n a.net.reflectors e) 1))
 word c e =
-    let a = c.before.before.before.args in
+    let a = c.args in
     let near = get_or a.rows.now a.v 0 in
     set-less (bit_and near a.net.listed) a.net.reflectors e _ (c.without.ensures e)
     ∙ ap (λ b. b && not (eqb (bit_n a.net.reflectors e) 1)) (set-and near a.net.listed e)
@@ -27,11 +27,11 @@ word c e =
 returns : tie.Need-returns
 unfolding listed_client_of
 returns c distances =
-    let a = c.before.before.before.args in
+    let a = c.args in
     record {
       marks = λ e. ap (λ b. b && way_in a.net.width distances a.net.n a.v e) (sym (word c e));
       near = λ e set. both_left _ _ (both_left _ _ (sym (word c e) ∙ eq-eqb _ 1 set));
     }
 
-pub listed-clients-spec : {M : Type 1} → statement M
-listed-clients-spec = tie.close (tie.spec (λ c. search rules) (λ c. search rules) (λ c κs. search rules) returns)
+pub listed_clients_spec : {M : Type 1} → statement M
+listed_clients_spec = tie.close (tie.spec (λ c. search rules) (λ c. search rules) (λ c κs. search rules) returns)

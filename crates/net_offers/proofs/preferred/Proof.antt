@@ -6,17 +6,17 @@ use Rattle.net_offers.proofs.OnOffer.{not-preferred, preferred-nearer}
 use Rattle.net_offers.proofs.preferred.Statement.{statement}
 use Rattle.net_offers.proofs.preferred.Tie as tie
 
-returns : tie.Need-returns
+returns : tie.Need-returns-then-behind
 returns c rows distances e f h =
-    let b = c.before in
-    let a = b.before.args in
-    sym (not-preferred (decoded a.net rows distances) _ _ e f (sym (b.behind.ensures rows distances) ∙ c.if1.true))
+    let b = c in
+    let a = b.args in
+    sym (not-preferred (decoded a.net rows distances) _ _ e f (sym (b.behind.ensures rows distances) ∙ c.if-behind.true))
 
-returns-2 : tie.Need-returns-2
+returns-2 : tie.Need-returns
 returns-2 c rows distances e f h =
-    let b = c.before in
-    let a = b.before.args in
-    h ∙ sym (preferred-nearer (decoded a.net rows distances) _ _ e f (sym (b.behind.ensures rows distances) ∙ c.if1.false))
+    let b = c in
+    let a = b.args in
+    h ∙ sym (preferred-nearer (decoded a.net rows distances) _ _ e f (sym (b.behind.ensures rows distances) ∙ c.if-behind.false))
 
-pub preferred-spec : {M : Type 1} → statement M
-preferred-spec = tie.close (tie.spec (λ c κs. search rules) returns returns-2)
+pub preferred_spec : {M : Type 1} → statement M
+preferred_spec = tie.close (tie.spec (λ c κs. search rules) returns returns-2)

@@ -22,7 +22,7 @@ fits (negsuc n) h = record { sfits = omega (arith, far-below) }
 as-it-is : (x : ℕ) → x < 4294967296 → to_z w64 x ≡ pos x
 as-it-is x h = to_z_pos w64 x (omega (arith, far-below))
 
-sub-result : tie.Need-overflow-sub-result
+sub-result : tie.Need-overflow_sub-result
 sub-result c =
     let a = c.args in
     rw (as-it-is a.first c.requires.0, as-it-is a.second c.requires.1)
@@ -33,5 +33,5 @@ returns c =
     let a = c.args in
     to_z-of_z w64 _ (sub-result c) ∙ rw (as-it-is a.first c.requires.0, as-it-is a.second c.requires.1)
 
-pub difference-spec : {M : Type 1} → statement M
-difference-spec = tie.close (tie.spec (λ c. search rules) (λ c. search rules) sub-result returns)
+pub difference_spec : {M : Type 1} → statement M
+difference_spec = tie.close (tie.spec (λ c. search rules) (λ c. search rules) sub-result returns)

@@ -8,26 +8,26 @@ use Rattle.net_prefer.proofs.Step.{step-decided, step-open}
 use Rattle.net_prefer.proofs.prefers.Statement.{statement}
 use Rattle.net_prefer.proofs.prefers.Tie as tie
 
-returns-2 : tie.Need-returns-2
+returns-2 : tie.Need-returns-then-step_decides
 returns-2 c I w o h =
-    let a = c.before.before.before.before.before.args in
-    let tested = c.before.step-decides.ensures in
+    let a = c.args in
+    let tested = c.step_decides.ensures in
     sym (step-decided I w _ _ a.e.direct a.f.direct
-    (ap (λ s. s && not (beq a.e.direct a.f.direct)) (sym h) ∙ sym tested ∙ c.if2.true) (λ q. omega arith))
+    (ap (λ s. s && not (beq a.e.direct a.f.direct)) (sym h) ∙ sym tested ∙ c.if-step_decides.true) (λ q. omega arith))
 
-returns-3 : tie.Need-returns-3
+returns-3 : tie.Need-returns
 returns-3 c I w o h =
-    let a = c.before.before.before.before.before.before.args in
-    let tested = c.before.before.step-decides.ensures in
+    let a = c.args in
+    let tested = c.step_decides.ensures in
     c.nearer.ensures I w o
     ∙ sym (step-open I w _ _ a.e.direct a.f.direct
-    (ap (λ s. s && not (beq a.e.direct a.f.direct)) (sym h) ∙ sym tested ∙ c.before.if2.false))
+    (ap (λ s. s && not (beq a.e.direct a.f.direct)) (sym h) ∙ sym tested ∙ c.if-step_decides.false))
 
-pub prefers-spec : {M : Type 1} → statement M
-prefers-spec =
+pub prefers_spec : {M : Type 1} → statement M
+prefers_spec =
     tie.close
     (tie.spec
-    (λ c I w o h. sym (prefers-same I w _ _ _ _ c.if1.true))
+    (λ c I w o h. sym (prefers-same I w _ _ _ _ c.if-e-f.true))
     (λ c κs. search rules)
     returns-2
     (λ c κs. search rules)

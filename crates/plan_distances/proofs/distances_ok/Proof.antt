@@ -5,23 +5,23 @@ use Rattle.plan_rules.specs.Distances.{diagonal_ok, distances_ok}
 use Rattle.plan_distances.proofs.distances_ok.Statement.{statement}
 use Rattle.plan_distances.proofs.distances_ok.Tie as tie
 
-abbrev invariant-loop : tie.invariant-loop
-invariant-loop s width n u₀ u = HeldSoFar (diagonal_ok width s n) n u
+abbrev invariant-loop-u : tie.invariant-loop-u
+invariant-loop-u s width n u₀ u = HeldSoFar (diagonal_ok width s n) n u
 
-abbrev decreases-loop : tie.decreases-loop
-decreases-loop s width n u₀ u = n - u
+abbrev decreases-loop-u : tie.decreases-loop-u
+decreases-loop-u s width n u₀ u = n - u
 
-pub distances-ok-spec : {M : Type 1} → statement M
+pub distances_ok_spec : {M : Type 1} → statement M
 unfolding distances_ok
-distances-ok-spec =
+distances_ok_spec =
     tie.close
     (tie.spec
-    invariant-loop
-    decreases-loop
+    invariant-loop-u
+    decreases-loop-u
     (λ c. held_start _ _)
     (λ c κs. search rules)
-    (λ c. held-fail _ _ _ c.before.before.loop-test.true _ c.before.diagonal-ok.ensures c.if1.true)
+    (λ c. held-fail _ _ _ c.loop-u-test.true _ c.diagonal_ok.ensures c.if-not-diagonal_ok.true)
     (λ c. search rules)
     (λ c. search rules)
-    (λ c. held_more _ _ _ c.before.before.before.loop.invariant c.before.before.loop-test.true _ c.before.diagonal-ok.ensures c.if1.false)
-    (λ c. held-done _ _ _ c.before.loop.invariant c.loop-test.false))
+    (λ c. held_more _ _ _ c.loop-u.invariant c.loop-u-test.true _ c.diagonal_ok.ensures c.if-not-diagonal_ok.false)
+    (λ c. held-done _ _ _ c.loop-u.invariant c.loop-u-test.false))

@@ -9,12 +9,12 @@ use Rattle.plan_distances.proofs.has_way.Tie as tie
 
 returns : tie.Need-returns
 returns c =
-    let d = c.before in
-    let a = d.before.before.args in
+    let d = c in
+    let a = d.args in
     ap (λ h. not (eqb d.number.result h)) c.highest.ensures.0
-    ∙ sym (way-is a.width _ d.before.before.requires.2.bytes d.number.ensures.1)
+    ∙ sym (way-is a.width _ d.requires.2.bytes d.number.ensures.1)
     ∙ ap (λ x. is_way (as_distance a.width x)) d.number.ensures.0
 
-pub has-way-spec : {M : Type 1} → statement M
-has-way-spec =
-    tie.close (tie.spec (λ c κs. search rules) (λ c κs. c.before.before.requires.2.bytes) returns)
+pub has_way_spec : {M : Type 1} → statement M
+has_way_spec =
+    tie.close (tie.spec (λ c κs. search rules) (λ c κs. c.requires.2.bytes) returns)

@@ -9,38 +9,38 @@ use Rattle.plan_rules.proofs.Widths.{not-two}
 use Rattle.plan_distances.proofs.number_at.Statement.{statement}
 use Rattle.plan_distances.proofs.number_at.Tie as tie
 
-is-2 : (c : tie.Then1) → c.before.before.args.width ≡ 2
-is-2 c = c.if1.true
+is-2 : (c : tie.Then-width-eq2) → c.args.width ≡ 2
+is-2 c = c.if-width-eq2.true
 
-is-4 : (c : tie.Else1) → c.before.before.args.width ≡ 4
-is-4 c = not-two _ c.before.before.requires.0 c.if1.false
+is-4 : (c : tie.Else-width-eq2) → c.args.width ≡ 4
+is-4 c = not-two _ c.requires.0 c.if-width-eq2.false
 
-within-2 : (c : tie.Then1) → 2 * c.before.before.args.i + 2 ≤ length c.before.before.args.s.now
-within-2 c = rw (is-2 c) at c.before.before.requires.1
+within-2 : (c : tie.Then-width-eq2) → 2 * c.args.i + 2 ≤ length c.args.s.now
+within-2 c = rw (is-2 c) at c.requires.1
 
-within-4 : (c : tie.Else1) → 4 * c.before.before.args.i + 4 ≤ length c.before.before.args.s.now
-within-4 c = rw (is-4 c) at c.before.before.requires.1
+within-4 : (c : tie.Else-width-eq2) → 4 * c.args.i + 4 ≤ length c.args.s.now
+within-4 c = rw (is-4 c) at c.requires.1
 
-returns : tie.Need-returns
+returns : tie.Need-returns-then-width-eq2
 returns c =
     let d = c.before in
-    let a = d.before.before.args in (
+    let a = d.args in (
       c.read2.ensures.0 ∙ sym (ap (λ w. number_at w a.s.now a.i) (is-2 d)),
       rw (is-2 d) (omega (arith, c.read2.ensures.1)),
       omega (arith, c.read2.ensures.1),
     )
 
-returns-2 : tie.Need-returns-2
+returns-2 : tie.Need-returns
 returns-2 c =
     let d = c.before in
-    let a = d.before.before.args in (
+    let a = d.args in (
       c.read4.ensures.0 ∙ sym (ap (λ w. number_at w a.s.now a.i) (is-4 d)),
       rw (is-4 d) (omega (arith, c.read4.ensures.1)),
       c.read4.ensures.1,
     )
 
-pub number-at-spec : {M : Type 1} → statement M
-number-at-spec =
+pub number_at_spec : {M : Type 1} → statement M
+number_at_spec =
     tie.close
     (tie.spec
     (λ c. omega (arith, within-2 c))

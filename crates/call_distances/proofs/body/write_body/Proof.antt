@@ -11,47 +11,47 @@ use Rattle.plan_rules.proofs.KindThree.{length-row}
 use Rattle.call_distances.proofs.body.write_body.Statement.{statement}
 use Rattle.call_distances.proofs.body.write_body.Tie as tie
 
-abbrev invariant-loop : tie.invariant-loop
-invariant-loop words n out₀ row₀ out row = Joining (λ u. row_of 2 (word_at words u) n) (2 * n) n out₀ 0 out row
+abbrev invariant-loop-row : tie.invariant-loop-row
+invariant-loop-row words n out₀ row₀ out row = Joining (λ u. row_of 2 (word_at words u) n) (2 * n) n out₀ 0 out row
 
-abbrev decreases-loop : tie.decreases-loop
-decreases-loop words n out₀ row₀ out row = n - row
+abbrev decreases-loop-row : tie.decreases-loop-row
+decreases-loop-row words n out₀ row₀ out row = n - row
 
-loop-holds : tie.Need-loop-init invariant-loop decreases-loop
+loop-holds : tie.Need-loop-row-init invariant-loop-row decreases-loop-row
 loop-holds c =
-    let n : ℕ = c.before.before.args.n in
+    let n : ℕ = c.args.n in
     join-start _ _ (λ u. length-row 2 _ n) n _ 0 (omega (arith, mul_assoc 2 n n))
 
-room : (c : tie.After-write-row-arg invariant-loop decreases-loop) →
-    let u = c.before.before in
-    let n = u.before.before.before.args.n in 2 * n * u.loop.row + 2 * n ≤ length u.loop.out
-room c = omega (arith, join-room _ _ (λ u. length-row 2 _ _) _ _ 0 _ _ c.before.before.loop.invariant c.before.loop-test.true)
+room : (c : tie.After-write_row-arg-1 invariant-loop-row decreases-loop-row) →
+    let u = c in
+    let n = u.args.n in 2 * n * u.loop-row.row + 2 * n ≤ length u.loop-row.out
+room c = omega (arith, join-room _ _ (λ u. length-row 2 _ _) _ _ 0 _ _ c.loop-row.invariant c.loop-row-test.true)
 
-loop-again : tie.Need-loop-preserved invariant-loop decreases-loop
+loop-again : tie.Need-loop-row-preserved invariant-loop-row decreases-loop-row
 loop-again c =
-    let u = c.before.before.before.before.before in
-    join_more _ _ (λ u. length-row 2 _ _) _ _ 0 _ _ u.loop.invariant _ c.before.before.before.before.loop-test.true
-    (rw zero-add c.before.before.write-row.ensures)
+    let u = c in
+    join_more _ _ (λ u. length-row 2 _ _) _ _ 0 _ _ u.loop-row.invariant _ c.loop-row-test.true
+    (rw zero-add c.write_row.ensures)
 
-returns : tie.Need-returns invariant-loop decreases-loop
+returns : tie.Need-returns invariant-loop-row decreases-loop-row
 unfolding body_of
 returns c =
-    let n : ℕ = c.before.before.before.before.args.n in
+    let n : ℕ = c.args.n in
     rw (zero-add (2 * n * n), mul_assoc 2 n n) at
-    (join-done _ _ (λ u. length-row 2 _ _) _ _ 0 _ _ c.before.loop.invariant c.loop-test.false)
+    (join-done _ _ (λ u. length-row 2 _ _) _ _ 0 _ _ c.loop-row.invariant c.loop-row-test.false)
 
-pub write-body-spec : {M : Type 1} → statement M
-write-body-spec =
+pub write_body_spec : {M : Type 1} → statement M
+write_body_spec =
     tie.close
     (tie.spec
-    invariant-loop
-    decreases-loop
+    invariant-loop-row
+    decreases-loop-row
     loop-holds
     (λ c. search rules)
-    (λ c. record { fits = omega (arith, room c, join-length _ _ (λ u. length-row 2 _ _) _ _ 0 _ _ c.before.before.loop.invariant) })
+    (λ c. record { fits = omega (arith, room c, join-length _ _ (λ u. length-row 2 _ _) _ _ 0 _ _ c.loop-row.invariant) })
     (λ c κs. (search rules, search rules, search rules, room c))
     (λ c. search rules)
     (λ c. search rules)
     loop-again
-    (λ c. join-length _ _ (λ u. length-row 2 _ _) _ _ 0 _ _ c.before.loop.invariant)
+    (λ c. join-length _ _ (λ u. length-row 2 _ _) _ _ 0 _ _ c.loop-row.invariant)
     returns)

@@ -11,30 +11,30 @@ use Rattle.base.proofs.Joined.{Joining, join-start, join-length, join-room, join
 use Rattle.call_distances.proofs.body.write_row.Statement.{statement}
 use Rattle.call_distances.proofs.body.write_row.Tie as tie
 
-abbrev invariant-loop : tie.invariant-loop
-invariant-loop words n u out₀ at e₀ out e = Joining (λ e. bytes_of 2 (word_at words u e)) 2 n out₀ at out e
+abbrev invariant-loop-e : tie.invariant-loop-e
+invariant-loop-e words n u out₀ at e₀ out e = Joining (λ e. bytes_of 2 (word_at words u e)) 2 n out₀ at out e
 
-abbrev decreases-loop : tie.decreases-loop
-decreases-loop words n u out₀ at e₀ out e = n - e
+abbrev decreases-loop-e : tie.decreases-loop-e
+decreases-loop-e words n u out₀ at e₀ out e = n - e
 
-room : (c : tie.After-shared-slice-known invariant-loop decreases-loop) →
-    c.before.before.before.args.at + 2 * c.before.before.loop.e + 2 ≤ length c.before.before.loop.out
-room c = join-room _ 2 (λ e. refl) _ _ _ _ _ c.before.before.loop.invariant c.before.loop-test.true
+room : (c : tie.After-shared_slice_known-1 invariant-loop-e decreases-loop-e) →
+    c.args.at + 2 * c.loop-e.e + 2 ≤ length c.loop-e.out
+room c = join-room _ 2 (λ e. refl) _ _ _ _ _ c.loop-e.invariant c.loop-e-test.true
 
-loop-again : tie.Need-loop-preserved invariant-loop decreases-loop
+loop-again : tie.Need-loop-e-preserved invariant-loop-e decreases-loop-e
 loop-again c =
-    let b = c.before.before in
-    let word = word_at b.before.args.words.now b.before.args.u b.loop.e in
-    let two = two-set b.loop.out (b.before.args.at + 2 * b.loop.e) (word % 256) (word / 256 % 256) (room c) in
-    join_more _ 2 (λ e. refl) _ _ _ _ _ b.loop.invariant _ c.before.loop-test.true two
+    let b = c in
+    let word = word_at b.args.words.now b.args.u b.loop-e.e in
+    let two = two-set b.loop-e.out (b.args.at + 2 * b.loop-e.e) (word % 256) (word / 256 % 256) (room c) in
+    join_more _ 2 (λ e. refl) _ _ _ _ _ b.loop-e.invariant _ c.loop-e-test.true two
 
-pub write-row-spec : {M : Type 1} → statement M
+pub write_row_spec : {M : Type 1} → statement M
 unfolding row_of
-write-row-spec =
+write_row_spec =
     tie.close
     (tie.spec
-    invariant-loop
-    decreases-loop
+    invariant-loop-e
+    decreases-loop-e
     (λ c. join-start _ 2 (λ e. refl) _ _ _ c.requires.3)
     (λ c. search rules)
     (λ c. search rules)
@@ -52,5 +52,5 @@ write-row-spec =
     (λ c. search rules)
     (λ c. search rules)
     loop-again
-    (λ c. join-length _ 2 (λ e. refl) _ _ _ _ _ c.before.loop.invariant)
-    (λ c. join-done _ 2 (λ e. refl) _ _ _ _ _ c.before.loop.invariant c.loop-test.false))
+    (λ c. join-length _ 2 (λ e. refl) _ _ _ _ _ c.loop-e.invariant)
+    (λ c. join-done _ 2 (λ e. refl) _ _ _ _ _ c.loop-e.invariant c.loop-e-test.false))

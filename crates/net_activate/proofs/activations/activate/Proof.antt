@@ -10,36 +10,36 @@ use Rattle.net_activate.proofs.activations.activate.Tie as tie
 abbrev numbers : tie.Start → Numbers
 numbers c = numbers_of c.args.net c.args.distances.now c.args.w
 
-returns : tie.Need-returns
+returns : tie.Need-returns-then-has_bit
 returns c =
-    let e = c.before.before.before.before in
-    let a = e.before.before.before.before.args in
-    c.before.before.put-own.ensures
-    ∙ own-act a.net a.rows.now a.distances.now _ _ (sym e.before.has-bit.ensures ∙ e.if1.true)
+    let e = c in
+    let a = e.args in
+    c.put_own.ensures
+    ∙ own-act a.net a.rows.now a.distances.now _ _ (sym e.has_bit.ensures ∙ e.if-has_bit.true)
 
-returns-2 : tie.Need-returns-2
+returns-2 : tie.Need-returns
 returns-2 c =
-    let k = c.before.before.before.before in
-    let none = k.before.before in
-    let e = none.before in
-    let s = e.before.before.before in
+    let k = c in
+    let none = k in
+    let e = none in
+    let s = e in
     let d = s.before in
     let a = d.args in
-    c.before.before.put-best.ensures (numbers d) none.no_key.ensures
-    ∙ ap (λ key. put_route a.table.now a.w (key_route (numbers d) key)) k.chosen.ensures
+    c.put_best.ensures (numbers d.before.before.before.before.before.before.before.before.before) none.no_key-none.ensures
+    ∙ ap (λ key. put_route a.table.now a.w (key_route (numbers d) key)) k.chosen-key.ensures
     ∙ best-act a.net a.rows.now a.distances.now a.w a.table.now d.requires.0 d.requires.2
-    (λ i. omega (arith, s.shared-slice-known.given i)) (sym e.before.has-bit.ensures ∙ e.if1.false)
+    (λ i. omega (arith, s.shared_slice_known-1.given i)) (sym e.has_bit.ensures ∙ e.if-has_bit.false)
 
-pub activate-spec : {M : Type 1} → statement M
-activate-spec =
+pub activate_spec : {M : Type 1} → statement M
+activate_spec =
     tie.close
     (tie.spec
     (λ c κs. search rules)
     (λ c κs. search rules)
     (λ c. search rules)
     returns
-    (λ c κs. c.before.before.before.before.requires.0.pairs.bytes)
-    (λ c κs. let d = c.before.before.before.before.before.before in let p = d.requires in (p.0, p.1, entries_below _ d.args.rows.now _ d.args.w _ p.0 p.2, c.before.no_key.ensures))
+    (λ c κs. c.requires.0.pairs.bytes)
+    (λ c κs. let d = c in let p = d.requires in (p.0, p.1, entries_below _ d.args.rows.now _ d.args.w _ p.0 p.2, c.no_key-none.ensures))
     (λ c κs. search rules)
     (λ c. search rules)
     returns-2)

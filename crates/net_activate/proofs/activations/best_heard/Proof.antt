@@ -11,82 +11,82 @@ use Rattle.net_activate.proofs.MayAdvertise.{Hearing, hearing-start, hearing-bel
 use Rattle.net_activate.proofs.activations.best_heard.Statement.{statement}
 use Rattle.net_activate.proofs.activations.best_heard.Tie as tie
 
-abbrev invariant-loop : tie.invariant-loop
-invariant-loop net rows distances w table none least₀ left₀ least left = Hearing net rows distances w (route_at table) least left
+abbrev invariant-loop-left : tie.invariant-loop-left
+invariant-loop-left net rows distances w table none least₀ left₀ least left = Hearing net rows distances w (route_at table) least left
 
-abbrev decreases-loop : tie.decreases-loop
-decreases-loop net rows distances w table none least₀ left₀ least left = left
+abbrev decreases-loop-left : tie.decreases-loop-left
+decreases-loop-left net rows distances w table none least₀ left₀ least left = left
 
 -- after a neighbour is found
 abbrev Visit : Type 0
-Visit = tie.After-lowest-bit invariant-loop decreases-loop
+Visit = tie.After-lowest_bit-v invariant-loop-left decreases-loop-left
 
-abbrev start : Visit → tie.Start invariant-loop decreases-loop
-start c = c.before.before.before.before.before.before.before
+abbrev start : Visit → tie.Start invariant-loop-left decreases-loop-left
+start c = c.before.before.before.before.before.before.before.before
 
-abbrev view : tie.Start invariant-loop decreases-loop → ℕ → Route
+abbrev view : tie.Start invariant-loop-left decreases-loop-left → ℕ → Route
 view c = route_at c.args.table.now
 
-below : (c : Visit) → c.lowest-bit.result < (start c).args.net.n
+below : (c : Visit) → c.lowest_bit-v.result < (start c).args.net.n
 below c =
     let d = start c in
     let a = d.args in
-    hearing-below a.net a.rows.now a.distances.now d.pre.0 a.w (view d) _ _ c.before.before.loop.invariant _ c.lowest-bit.ensures.0
+    hearing-below a.net a.rows.now a.distances.now d.requires.0 a.w (view d) _ _ c.loop-left.invariant _ c.lowest_bit-v.ensures.0
 
-route-at-requires : tie.Need-route-at-requires invariant-loop decreases-loop
+route-at-requires : tie.Need-route_at-requires invariant-loop-left decreases-loop-left
 route-at-requires c κs = omega (arith, below c, (start c).requires.2.long)
 
-advertised-requires : tie.Need-advertised-requires invariant-loop decreases-loop
+advertised-requires : tie.Need-advertised-requires invariant-loop-left decreases-loop-left
 advertised-requires c κs =
     let v = c.before in
     let d = start v in
     let a = d.args in
-    let p = d.pre in (
+    let p = d.requires in (
       p.0.count,
       p.1,
       below v,
       p.0.pairs,
-      rw c.route-at.ensures (p.2.below _ (below v)),
-      hearing-kind a.net a.rows.now a.distances.now p.0 a.w (view d) _ _ v.before.before.loop.invariant _ v.lowest-bit.ensures.0,
+      rw c.route_at.ensures (p.2.below _ (below v)),
+      hearing-kind a.net a.rows.now a.distances.now p.0 a.w (view d) _ _ v.loop-left.invariant _ v.lowest_bit-v.ensures.0,
       p.3,
     )
 
-loop-again : tie.Need-loop-preserved invariant-loop decreases-loop
+loop-again : tie.Need-loop-left-preserved invariant-loop-left decreases-loop-left
 loop-again c =
-    let l = c.before in
-    let h = l.before in
+    let l = c in
+    let h = l in
     let v = h.before.before in
     let d = start v in
     let a = d.args in
     let I : Instance = decoded a.net a.rows.now a.distances.now in
-    let low = v.lowest-bit.ensures.0 in
-    hearing-more a.net a.rows.now a.distances.now d.pre.0 a.w (view d) _ _ v.before.before.loop.invariant _ low _ _
-    (c.without-lowest.ensures.1 _ low)
-    (l.lesser.ensures
-    ∙ ap (min v.before.before.loop.least)
+    let low = v.lowest_bit-v.ensures.0 in
+    hearing-more a.net a.rows.now a.distances.now d.requires.0 a.w (view d) _ _ v.loop-left.invariant _ low _ _
+    (c.without_lowest-left.ensures.1 _ low)
+    (l.lesser-least.ensures
+    ∙ ap (min v.loop-left.least)
     (h.advertised.ensures a.rows.now
-    ∙ ap (λ x. told_key (numbers_of a.net a.distances.now a.w) v.lowest-bit.result (advertises I v.lowest-bit.result x a.w)) h.before.route-at.ensures))
+    ∙ ap (λ x. told_key (numbers_of a.net a.distances.now a.w) v.lowest_bit-v.result (advertises I v.lowest_bit-v.result x a.w)) h.route_at.ensures))
 
-returns : tie.Need-returns invariant-loop decreases-loop
+returns : tie.Need-returns invariant-loop-left decreases-loop-left
 returns c =
     let d = c.before.before.before.before.before.before in
     let a = d.args in
-    hearing-done a.net a.rows.now a.distances.now d.requires.0 a.w (view d) _ _ c.before.loop.invariant c.loop-test.false
+    hearing-done a.net a.rows.now a.distances.now d.requires.0 a.w (view d.before) _ _ c.loop-left.invariant c.loop-left-test.false
 
-pub best-heard-spec : {M : Type 1} → statement M
-best-heard-spec =
+pub best_heard_spec : {M : Type 1} → statement M
+best_heard_spec =
     tie.close
     (tie.spec
-    invariant-loop
-    decreases-loop
+    invariant-loop-left
+    decreases-loop-left
     (λ c. search rules)
     (λ c. search rules)
-    (λ c. let p = c.before.before.before.before.requires in rw p.3 (hearing-start _ _ _ p.0 _ _))
+    (λ c. let p = c.requires in rw p.3 (hearing-start _ _ _ p.0 _ _))
     (λ c κs. search rules)
     route-at-requires
     advertised-requires
     (λ c κs. search rules)
     (λ c κs. search rules)
-    (λ c. c.without-lowest.ensures.0)
+    (λ c. c.without_lowest-left.ensures.0)
     loop-again
     returns)

@@ -21,28 +21,28 @@ module _ (c : tie.Start) where
   abbrev view : ℕ → Route
   view = route_at c.args.table.now
 
-returns : tie.Need-returns
+returns : tie.Need-returns-then-direct-none
 returns c =
-    let i = c.before.before in
+    let i = c in
     let d = i.before.before.before.before in
-    let direct = c.before.best-direct.ensures in
+    let direct = c.best_direct-direct.ensures in
     direct
-    ∙ sym (chosen-direct (numbers d) (instance d) d.args.w (view d)
-    (sym (i.before.takes_step.ensures d.args.rows.now d.args.distances.now) ∙ i.if1.true) (omega (arith, direct, d.requires.3, c.if2.true)))
+    ∙ sym (chosen-direct (numbers d.before.before) (instance d.before.before) d.args.w (view d.before.before)
+    (sym (i.takes_step.ensures d.args.rows.now d.args.distances.now) ∙ i.if-takes_step.true) (omega (arith, direct, d.requires.3, c.if-direct-none.true)))
 
-returns-2 : tie.Need-returns-2
+returns-2 : tie.Need-returns
 returns-2 c =
-    let h = c.before.before in
+    let h = c in
     let d = h.before.before.before in
     let has-step = h.takes_step.ensures d.args.rows.now d.args.distances.now in
-    c.best-heard.ensures
+    c.best_heard.ensures
     ∙ sym (⊎_elim
-    (λ g. chosen-passed (numbers d) (instance d) d.args.w (view d) (sym has-step ∙ g.0.taken) (omega (arith, g.1.ensures, d.requires.3, g.2.left)))
-    (λ g. chosen-without (numbers d) (instance d) d.args.w (view d) (sym has-step ∙ g.left))
-    c.before.if1.branch)
+    (λ g. chosen-passed (numbers d.before.before) (instance d.before.before) d.args.w (view d.before.before) (sym has-step ∙ g.0.true) (omega (arith, g.1.ensures, d.requires.3, g.2.left)))
+    (λ g. chosen-without (numbers d.before.before) (instance d.before.before) d.args.w (view d.before.before) (sym has-step ∙ g.left))
+    c.if-takes_step.branch-raw)
 
-pub chosen-spec : {M : Type 1} → statement M
-chosen-spec =
+pub chosen_spec : {M : Type 1} → statement M
+chosen_spec =
     tie.close
     (tie.spec
     (λ c κs. search rules)

@@ -6,11 +6,11 @@ use Rattle.net_activate.proofs.activations.put_best.Tie as tie
 
 returns : tie.Need-returns
 returns c N none =
-    let key = c.before.before.before.before in
-    let a = key.before.before.args in
-    c.before.before.put-route.ensures ∙ ap (put_route a.table.now a.w) (key.key-route.ensures N none)
+    let key = c in
+    let a = key.args in
+    c.put_route.ensures ∙ ap (put_route a.table.now a.w) (key.key_route-best.ensures N none)
 
-pub put-best-spec : {M : Type 1} → statement M
-put-best-spec =
+pub put_best_spec : {M : Type 1} → statement M
+put_best_spec =
     tie.close
     (tie.spec (λ c κs. search rules) (λ c κs. search rules) (λ c. search rules) returns)

@@ -8,10 +8,10 @@ use Rattle.net_activate.proofs.activations.put_own.Tie as tie
 
 returns : tie.Need-returns
 returns c =
-    let a = c.before.before.before.before.before.args in
-    c.before.before.put-route.ensures ∙ ap (put_route a.table.now a.w) (read-via _ _ (omega arith))
+    let a = c.args in
+    c.put_route.ensures ∙ ap (put_route a.table.now a.w) (read-via _ _ (omega arith))
 
-pub put-own-spec : {M : Type 1} → statement M
-put-own-spec =
+pub put_own_spec : {M : Type 1} → statement M
+put_own_spec =
     tie.close
     (tie.spec (λ c. search rules) (λ c. search rules) (λ c κs. search rules) (λ c. search rules) returns)

@@ -16,36 +16,36 @@ use Rattle.net_activate.proofs.OnePass.{told-nothing, told-egress, route-none, r
 use Rattle.net_activate.proofs.activations.reflected.Statement.{statement}
 use Rattle.net_activate.proofs.activations.reflected.Tie as tie
 
-returns : tie.Need-returns
+returns : tie.Need-returns-then-route-eq-NO_ROUTER
 returns c rows =
-    let d = c.before.before.before in
+    let d = c in
     let a = d.args in
     let I = decoded a.net rows a.distances.now in
     let N = numbers_of a.net a.distances.now a.w in
     d.requires.5
-    ∙ sym (ap (λ x. told_key N a.v (reflects I a.v x a.w)) (route-none _ _ _ d.requires.0 d.requires.4 c.if1.true)
+    ∙ sym (ap (λ x. told_key N a.v (reflects I a.v x a.w)) (route-none _ _ _ d.requires.0 d.requires.4 c.if-route-eq-NO_ROUTER.true)
     ∙ ap (told_key N a.v) (reflects-nothing I a.v a.w)
     ∙ told-nothing N a.v)
 
 -- a route is held, of routers
-held_below : (c : tie.Else1) → let a = c.before.before.before.args in
+held_below : (c : tie.Else-route-eq-NO_ROUTER) → let a = c.args in
     (a.route.egress < a.net.n) × (a.route.sender < a.net.n)
-held_below c = let p = c.before.before.before.requires in route-some _ _ _ p.0 p.4 c.if1.false
+held_below c = let p = c.requires in route-some _ _ _ p.0 p.4 c.if-route-eq-NO_ROUTER.false
 
-route-key-requires : tie.Need-route-key-requires
+route-key-requires : tie.Need-route_key-key-requires
 route-key-requires c κs =
-    let p = c.before.before.before.before.requires in
+    let p = c.requires in
     (p.1, omega (arith, c.wide.ensures.0, (held_below c.before).0), p.2, p.0, p.3)
 
-passes-on-requires : tie.Need-passes-on-requires
+passes-on-requires : tie.Need-passes_on-requires
 passes-on-requires c κs =
-    let p = c.before.before.before.before.before.before.requires in (
+    let p = c.requires in (
       omega (arith, p.0, p.2),
-      omega (arith, c.wide2.ensures.0, (held_below c.before.before.before).1, p.0),
+      omega (arith, c.wide-2.ensures.0, (held_below c.before.before.before).1, p.0),
       omega (arith, p.0, p.1),
     )
 
-module _ (c : tie.After-passes-on) (rows : List ℕ) where
+module _ (c : tie.After-passes_on) (rows : List ℕ) where
   abbrev start : tie.Start
   start = c.before.before.before.before.before.before.before
 
@@ -55,27 +55,27 @@ module _ (c : tie.After-passes-on) (rows : List ℕ) where
   abbrev told : Option ℕ → ℕ
   told = told_key (numbers_of start.args.net start.args.distances.now start.args.w) start.args.v
 
-  passed : {t : Option ℕ} → cond c.passes_on.result (some c.before.before.before.wide.result) none ≡ t
+  passed : {t : Option ℕ} → cond c.passes_on.result (some c.wide.result) none ≡ t
       → told (reflects I start.args.v (route_of start.args.route) start.args.w) ≡ told t
   passed h =
       ap (λ x. told (reflects I start.args.v x start.args.w))
-      (read-via _ _ c.before.before.before.before.if1.false ∙ ap₂ via (sym c.before.before.before.wide.ensures.0) (sym c.before.wide2.ensures.0))
+      (read-via _ _ c.if-route-eq-NO_ROUTER.false ∙ ap₂ via (sym c.wide.ensures.0) (sym c.wide-2.ensures.0))
       ∙ ap told (c.passes_on.ensures rows start.args.distances.now _ ∙ h)
 
-returns-2 : tie.Need-returns-2
+returns-2 : tie.Need-returns-then-passes_on
 returns-2 c rows =
     let d = c.before in
-    d.before.before.route-key.ensures
-    ∙ sym (passed d rows (ap (λ b. cond b (some d.before.before.before.wide.result) none) c.if2.true) ∙ told-egress _ _ _)
+    d.route_key-key.ensures
+    ∙ sym (passed d rows (ap (λ b. cond b (some d.wide.result) none) c.if-passes_on.true) ∙ told-egress _ _ _)
 
-returns-3 : tie.Need-returns-3
+returns-3 : tie.Need-returns
 returns-3 c rows =
     let d = c.before in
-    (start d rows).pre.5
-    ∙ sym (passed d rows (ap (λ b. cond b (some d.before.before.before.wide.result) none) c.if2.false) ∙ told-nothing _ _)
+    (start d rows).requires.5
+    ∙ sym (passed d rows (ap (λ b. cond b (some d.wide.result) none) c.if-passes_on.false) ∙ told-nothing _ _)
 
-pub reflected-spec : {M : Type 1} → statement M
-reflected-spec =
+pub reflected_spec : {M : Type 1} → statement M
+reflected_spec =
     tie.close
     (tie.spec
     returns

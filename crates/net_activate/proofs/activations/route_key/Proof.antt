@@ -6,16 +6,16 @@ use Rattle.net_activate.proofs.OnePass.{mark-below, key-is}
 use Rattle.net_activate.proofs.activations.route_key.Statement.{statement}
 use Rattle.net_activate.proofs.activations.route_key.Tie as tie
 
-add-result-2 : tie.Need-overflow-add-result-2
-add-result-2 c = let a = c.before.before.before.args in omega (arith, c.sender-mark.ensures, mark-below a.egress a.sender (omega (arith, c.before.before.before.requires)))
+add-result-2 : tie.Need-overflow_add-result-2
+add-result-2 c = let a = c.args in omega (arith, c.sender_mark.ensures, mark-below a.egress a.sender (omega (arith, c.requires)))
 
 returns : tie.Need-returns
 returns c =
-    let e = c.before.before.before.args.egress in
-    ap₂ (λ d m. d * 65536 + e * 256 + m) c.before.number.ensures.0 c.sender-mark.ensures ∙ sym (key-is _ _ _)
+    let e = c.args.egress in
+    ap₂ (λ d m. d * 65536 + e * 256 + m) c.number-number.ensures.0 c.sender_mark.ensures ∙ sym (key-is _ _ _)
 
-pub route-key-spec : {M : Type 1} → statement M
-route-key-spec =
+pub route_key_spec : {M : Type 1} → statement M
+route_key_spec =
     tie.close
     (tie.spec
     (λ c κs. search rules)

@@ -5,10 +5,10 @@ use Rattle.net_activate.proofs.OnePass.{mark-itself, mark-other}
 use Rattle.net_activate.proofs.activations.sender_mark.Statement.{statement}
 use Rattle.net_activate.proofs.activations.sender_mark.Tie as tie
 
-pub sender-mark-spec : {M : Type 1} → statement M
-sender-mark-spec =
+pub sender_mark_spec : {M : Type 1} → statement M
+sender_mark_spec =
     tie.close
     (tie.spec
-    (λ c. sym (mark-itself _ _ c.if1.true))
+    (λ c. sym (mark-itself _ _ c.if-egress-sender.true))
     (λ c. search rules)
-    (λ c. omega (arith, mark-other _ _ c.if1.false)))
+    (λ c. omega (arith, mark-other _ _ c.if-egress-sender.false)))

@@ -8,8 +8,8 @@ use Rattle.net_activate.proofs.activations.takes_step.Tie as tie
 returns : tie.Need-returns
 unfolding has_step
 returns c rows distances =
-    let a = c.before.before.args in
-    c.has-bit.ensures ∙ set-and a.net.reflectors a.net.hop a.w
+    let a = c.args in
+    c.has_bit.ensures ∙ set-and a.net.reflectors a.net.hop a.w
 
-pub takes-step-spec : {M : Type 1} → statement M
-takes-step-spec = tie.close (tie.spec (λ c κs. search rules) returns)
+pub takes_step_spec : {M : Type 1} → statement M
+takes_step_spec = tie.close (tie.spec (λ c κs. search rules) returns)

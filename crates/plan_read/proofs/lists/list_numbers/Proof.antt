@@ -6,16 +6,16 @@ use Rattle.plan_read.proofs.lists.list_numbers.Tie as tie
 
 returns : tie.Need-returns
 returns c =
-    let span = c.before.before.list-span.ensures in
+    let span = c.list_span-span.ensures in
     record { bytes = rw (add-sub_cancel_left, span.starts, span.counts); address = rw span.starts }
 
-pub list-numbers-spec : {M : Type 1} → statement M
-list-numbers-spec =
+pub list_numbers_spec : {M : Type 1} → statement M
+list_numbers_spec =
     tie.close
     (tie.spec
     (λ c κs. search rules)
-    (λ c. omega (arith, c.before.list-span.ensures))
+    (λ c. omega (arith, c.list_span-span.ensures))
     (λ c. search rules)
     (λ c. search rules)
-    (λ c. omega (arith, c.before.list-span.ensures))
+    (λ c. omega (arith, c.list_span-span.ensures))
     returns)

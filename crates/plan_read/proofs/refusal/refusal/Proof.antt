@@ -17,50 +17,50 @@ use Rattle.plan_contents.proofs.Facts.{header-facts, count-facts}
 use Rattle.plan_read.proofs.refusal.refusal.Statement.{statement}
 use Rattle.plan_read.proofs.refusal.refusal.Tie as tie
 
-abbrev plan₁ : tie.Else1 → List ℕ
-plan₁ c = c.before.before.before.args.plan.now
+abbrev plan₁ : tie.Else-not-header_ok → List ℕ
+plan₁ c = c.args.plan.now
 
-abbrev plan₂ : tie.Else2 → List ℕ
+abbrev plan₂ : tie.Else-not-router_count_ok → List ℕ
 plan₂ c = plan₁ c.before.before.before
 
-abbrev second : tie.Else3 → tie.Else2
+abbrev second : tie.Else-not-contents_ok → tie.Else-not-router_count_ok
 second c = c.before.before.before.before.before
 
-abbrev plan₃ : tie.Else3 → List ℕ
+abbrev plan₃ : tie.Else-not-contents_ok → List ℕ
 plan₃ c = plan₂ (second c)
 
-header-passes : (c : tie.Else1) → header_ok (plan₁ c) ≡ true
-header-passes c = granted _ c.before.header_ok.ensures c.if1.false
+header-passes : (c : tie.Else-not-header_ok) → header_ok (plan₁ c) ≡ true
+header-passes c = granted _ c.header_ok.ensures c.if-not-header_ok.false
 
-long : (c : tie.Else1) → 26 ≤ length (plan₁ c)
+long : (c : tie.Else-not-header_ok) → 26 ≤ length (plan₁ c)
 long c = (header-facts (plan₁ c) (header-passes c)).least
 
-count-passes : (c : tie.Else2) → router_count_ok (router_count (plan₂ c)) ≡ true
-count-passes c = granted _ c.before.router-count-ok.ensures c.if2.false
+count-passes : (c : tie.Else-not-router_count_ok) → router_count_ok (router_count (plan₂ c)) ≡ true
+count-passes c = granted _ c.router_count_ok.ensures c.if-not-router_count_ok.false
 
-few : (c : tie.Else2) → router_count (plan₂ c) ≤ 64
+few : (c : tie.Else-not-router_count_ok) → router_count (plan₂ c) ≤ 64
 few c = (count-facts (router_count (plan₂ c)) (count-passes c)).most
 
 -- the width read is the plan's
-width-is : (c : tie.After-width-of) → c.width_of_lem.result ≡ width (plan₂ c.before.before)
-width-is c = c.width_of_lem.ensures
+width-is : (c : tie.After-width_of-width) → c.width_of-width.result ≡ width (plan₂ c.before.before)
+width-is c = c.width_of-width.ensures
 
-width-bytes : (c : tie.After-width-of) → TwoOrFour c.width_of_lem.result
+width-bytes : (c : tie.After-width_of-width) → TwoOrFour c.width_of-width.result
 width-bytes c = rw (width-is c) (width-of-mark (mark (plan₂ c.before.before)))
 
-contents-passes : (c : tie.Else3) → let read = c.before.before in
-    contents_ok read.read-contents.result read.before.width_of_lem.result (router_count (plan₃ c)) (length (plan₃ c)) ≡ true
-contents-passes c = granted _ c.before.contents-ok.ensures c.if3.false
+contents-passes : (c : tie.Else-not-contents_ok) → let read = c in
+    contents_ok read.read_contents-table.result read.width_of-width.result (router_count (plan₃ c)) (length (plan₃ c)) ≡ true
+contents-passes c = granted _ c.contents_ok.ensures c.if-not-contents_ok.false
 
-returns : tie.Need-returns
+returns : tie.Need-returns-then-not-header_ok
 unfolding plan_refusal plan_checks refuse
-returns c = rw (denied _ c.before.header_ok.ensures c.if1.true)
+returns c = rw (denied _ c.header_ok.ensures c.if-not-header_ok.true)
 
-returns-2 : tie.Need-returns-2
+returns-2 : tie.Need-returns-then-not-router_count_ok
 unfolding plan_refusal plan_checks refuse
-returns-2 c = rw (header-passes c.before.before.before, denied _ c.before.router-count-ok.ensures c.if2.true)
+returns-2 c = rw (header-passes c.before.before.before, denied _ c.router_count_ok.ensures c.if-not-router_count_ok.true)
 
-returns-3 : tie.Need-returns-3
+returns-3 : tie.Need-returns-then-not-contents_ok
 unfolding plan_refusal plan_checks refuse
 returns-3 c =
     let read = c.before.before in
@@ -68,12 +68,12 @@ returns-3 c =
     rw (
       header-passes d.before.before.before,
       count-passes d,
-      ← read.read-contents.ensures,
+      ← read.read_contents-table.ensures,
       ← (width-is read.before),
-      denied _ c.before.contents-ok.ensures c.if3.true,
+      denied _ c.contents_ok.ensures c.if-not-contents_ok.true,
     )
 
-returns-4 : tie.Need-returns-4
+returns-4 : tie.Need-returns
 unfolding plan_refusal plan_checks refuse
 returns-4 c =
     let read = c.before.before.before in
@@ -81,14 +81,14 @@ returns-4 c =
     rw (
       header-passes d.before.before.before,
       count-passes d,
-      ← read.read-contents.ensures,
+      ← read.read_contents-table.ensures,
       ← (width-is read.before),
       contents-passes c.before,
     )
-    c.bodies-refusal.ensures
+    c.bodies_refusal.ensures
 
-pub refusal-spec : {M : Type 1} → statement M
-refusal-spec =
+pub refusal_spec : {M : Type 1} → statement M
+refusal_spec =
     tie.close
     (tie.spec
     (λ c κs. search rules)
