@@ -15,35 +15,35 @@ use Rattle.net_read.proofs.listed_word.Tie as tie
 abbrev is_number : List ℕ → ℕ → ℕ → Bool
 is_number s v j = eqb (get_or s j 0) v
 
-abbrev invariant-loop : tie.invariant-loop
-invariant-loop numbers word₀ j₀ word j = (j ≤ length numbers) × Marks (is_number numbers) j word
+abbrev invariant-loop-j : tie.invariant-loop-j
+invariant-loop-j numbers word₀ j₀ word j = (j ≤ length numbers) × Marks (is_number numbers) j word
 
-abbrev decreases-loop : tie.decreases-loop
-decreases-loop numbers word₀ j₀ word j = length numbers - j
+abbrev decreases-loop-j : tie.decreases-loop-j
+decreases-loop-j numbers word₀ j₀ word j = length numbers - j
 
-with-bit-requires : tie.Need-with-bit-requires invariant-loop decreases-loop
+with-bit-requires : tie.Need-with_bit-word-requires invariant-loop-j decreases-loop-j
 with-bit-requires c κs =
-    let at = c.before.before.before in
-    omega (arith, at.before.before.requires at.loop.j c.before.before.loop-test.true)
+    let at = c in
+    omega (arith, at.requires at.loop-j.j c.loop-j-test.true)
 
-loop-again : tie.Need-loop-preserved invariant-loop decreases-loop
+loop-again : tie.Need-loop-j-preserved invariant-loop-j decreases-loop-j
 loop-again c =
-    let at = c.before.before.before.before in (
+    let at = c in (
       omega arith,
-      subst (Marks _ _) (sym c.with-bit.ensures)
-          (marks-more _ _ _ _ (λ v. ap (λ x. eqb x v) c.before.wide.ensures.0) at.loop.invariant.1),
+      subst (Marks _ _) (sym c.with_bit-word.ensures)
+          (marks-more _ _ _ _ (λ v. ap (λ x. eqb x v) c.wide.ensures.0) at.loop-j.invariant.1),
     )
 
-returns : tie.Need-returns invariant-loop decreases-loop
+returns : tie.Need-returns invariant-loop-j decreases-loop-j
 unfolding named
-returns c = marks-done _ _ _ _ c.before.loop.invariant.0 c.loop-test.false c.before.loop.invariant.1
+returns c = marks-done _ _ _ _ c.loop-j.invariant.0 c.loop-j-test.false c.loop-j.invariant.1
 
-pub listed-word-spec : {M : Type 1} → statement M
-listed-word-spec =
+pub listed_word_spec : {M : Type 1} → statement M
+listed_word_spec =
     tie.close
     (tie.spec
-    invariant-loop
-    decreases-loop
+    invariant-loop-j
+    decreases-loop-j
     (λ c. (omega arith, marks-none _))
     (λ c. search rules)
     (λ c κs. search rules)

@@ -11,58 +11,58 @@ use Rattle.net_read.proofs.Marks.{RowMarks, row-marks-none, row-marks-more, row-
 use Rattle.net_read.proofs.neighbour_rows.Statement.{statement}
 use Rattle.net_read.proofs.neighbour_rows.Tie as tie
 
-abbrev invariant-loop : tie.invariant-loop
-invariant-loop s rows₀ count j₀ rows j = (j ≤ session_count s) × (length rows ≡ 64) × RowMarks (pairs s) j rows
+abbrev invariant-loop-j : tie.invariant-loop-j
+invariant-loop-j s rows₀ count j₀ rows j = (j ≤ session_count s) × (length rows ≡ 64) × RowMarks (pairs s) j rows
 
-abbrev decreases-loop : tie.decreases-loop
-decreases-loop s rows₀ count j₀ rows j = count - j
+abbrev decreases-loop-j : tie.decreases-loop-j
+decreases-loop-j s rows₀ count j₀ rows j = count - j
 
-loop-holds : tie.Need-loop-init invariant-loop decreases-loop
+loop-holds : tie.Need-loop-j-init invariant-loop-j decreases-loop-j
 loop-holds c =
-    let zeros = c.before.requires.0 in
+    let zeros = c.requires.0 in
     (omega arith, ap length zeros, rw zeros (row-marks-none _ 64))
 
-set-bit-requires : tie.Need-set-bit-requires invariant-loop decreases-loop
+set-bit-requires : tie.Need-set_bit-requires invariant-loop-j decreases-loop-j
 set-bit-requires c κs =
-    let at = c.before.before.before.before.before.before in
-    omega (arith, at.before.before.requires.1 at.loop.j (omega arith))
+    let at = c in
+    omega (arith, at.requires.1 at.loop-j.j (omega arith))
 
-set-bit-requires-2 : tie.Need-set-bit-requires-2 invariant-loop decreases-loop
+set-bit-requires-2 : tie.Need-set_bit-requires-in-loop-j invariant-loop-j decreases-loop-j
 set-bit-requires-2 c κs =
-    let at = c.before.before.before.before.before.before.before.before in
-    omega (arith, at.before.before.requires.1 at.loop.j (omega arith))
+    let at = c in
+    omega (arith, at.requires.1 at.loop-j.j (omega arith))
 
-loop-again : tie.Need-loop-preserved invariant-loop decreases-loop
+loop-again : tie.Need-loop-j-preserved invariant-loop-j decreases-loop-j
 unfolding pairs
 loop-again c =
-    let second = c.before.before.before.before in
-    let first = second.before.before in
-    let at = first.before.before.before in
-    let rows = at.loop.rows in
-    let a = first.wide.result in
-    let b = second.wide2.result in
-    let below = at.before.before.requires.1 at.loop.j (omega arith) in
-    let stored : c.set-bit2.new.0 ≡ with_bit (with_bit rows a b) b a =
-    c.set-bit2.ensures ∙ ap (λ r. with_bit r b a) c.before.before.set-bit.ensures
+    let second = c in
+    let first = second in
+    let at = first in
+    let rows = at.loop-j.rows in
+    let a = first.wide-first.result in
+    let b = second.wide-second.result in
+    let below = at.requires.1 at.loop-j.j (omega arith) in
+    let stored : c.set_bit-in-loop-j.new.rows ≡ with_bit (with_bit rows a b) b a =
+    c.set_bit-in-loop-j.ensures ∙ ap (λ r. with_bit r b a) c.set_bit.ensures
     in (
       omega arith,
-      ap length stored ∙ simp length-set at.loop.invariant.1,
+      ap length stored ∙ simp length-set at.loop-j.invariant.1,
       subst (RowMarks _ _) (sym stored)
-          (row-marks-more _ _ rows a b (omega (arith, at.loop.invariant.1)) (omega (arith, at.loop.invariant.1))
-          (λ w v. ap₂ (λ x y. (eqb x w && eqb y v) || (eqb y w && eqb x v)) first.wide.ensures.0 second.wide2.ensures.0)
-          at.loop.invariant.2),
+          (row-marks-more _ _ rows a b (omega (arith, at.loop-j.invariant.1)) (omega (arith, at.loop-j.invariant.1))
+          (λ w v. ap₂ (λ x y. (eqb x w && eqb y v) || (eqb y w && eqb x v)) first.wide-first.ensures.0 second.wide-second.ensures.0)
+          at.loop-j.invariant.2),
     )
 
-returns : tie.Need-returns invariant-loop decreases-loop
+returns : tie.Need-returns invariant-loop-j decreases-loop-j
 unfolding in_session
-returns c = row-marks-done _ _ _ c.before.loop.rows c.before.loop.invariant.0 c.loop-test.false c.before.loop.invariant.2
+returns c = row-marks-done _ _ _ c.loop-j.rows c.loop-j.invariant.0 c.loop-j-test.false c.loop-j.invariant.2
 
-pub neighbour-rows-spec : {M : Type 1} → statement M
-neighbour-rows-spec =
+pub neighbour_rows_spec : {M : Type 1} → statement M
+neighbour_rows_spec =
     tie.close
     (tie.spec
-    invariant-loop
-    decreases-loop
+    invariant-loop-j
+    decreases-loop-j
     loop-holds
     (λ c. search rules)
     (λ c. search rules)

@@ -16,25 +16,25 @@ not-added role a b with_it without l p q =
     let y : eqb role b ≡ false = ne_eqb role b (λ e. omega arith) in
     rw (x, y)
 
-returns : tie.Need-returns
+returns : tie.Need-returns-then-role-le-CLIENT
 returns c =
-    let a = c.before.before.args in (
-      c.before.with-bit-if.ensures,
-      not-added a.role 3 5 _ _ c.if1.true (omega arith) (omega arith),
-      not-added a.role 4 5 _ _ c.if1.true (omega arith) (omega arith),
+    let a = c.args in (
+      c.with_bit_if-reflectors.ensures,
+      not-added a.role 3 5 _ _ c.if-role-le-CLIENT.true (omega arith) (omega arith),
+      not-added a.role 4 5 _ _ c.if-role-le-CLIENT.true (omega arith) (omega arith),
     )
 
-returns-2 : tie.Need-returns-2
+returns-2 : tie.Need-returns
 returns-2 c =
-    let skips = c.before.before in
-    let a = skips.before.before.before.before.args in (
-      skips.before.before.before.with-bit-if.ensures,
-      skips.with-bit-if2.ensures ∙ ap (λ b. cond b (bit_or a.words.skips (2 ^ a.v)) a.words.skips) skips.before.skips-clients.ensures,
-      c.with-bit-if3.ensures ∙ ap (λ b. cond b (bit_or a.words.hop (2 ^ a.v)) a.words.hop) c.before.has-step.ensures,
+    let skips = c in
+    let a = skips.args in (
+      skips.with_bit_if-reflectors.ensures,
+      skips.with_bit_if.ensures ∙ ap (λ b. cond b (bit_or a.words.skips (2 ^ a.v)) a.words.skips) skips.skips_clients.ensures,
+      c.with_bit_if-2.ensures ∙ ap (λ b. cond b (bit_or a.words.hop (2 ^ a.v)) a.words.hop) c.has_step.ensures,
     )
 
-pub with-role-spec : {M : Type 1} → statement M
-with-role-spec =
+pub with_role_spec : {M : Type 1} → statement M
+with_role_spec =
     tie.close
     (tie.spec
     (λ c κs. search rules)

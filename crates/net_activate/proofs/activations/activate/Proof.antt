@@ -26,7 +26,7 @@ returns-2 c =
     let d = s.before in
     let a = d.args in
     c.put_best.ensures (numbers d.before.before.before.before.before.before.before.before.before) none.no_key-none.ensures
-    ∙ ap (λ key. put_route a.table.now a.w (key_route (numbers d) key)) k.chosen-key.ensures
+    ∙ ap (λ key. put_route a.table.now a.w (key_route (numbers d.before.before.before.before.before.before.before.before.before) key)) k.chosen-key.ensures
     ∙ best-act a.net a.rows.now a.distances.now a.w a.table.now d.requires.0 d.requires.2
     (λ i. omega (arith, s.shared_slice_known-1.given i)) (sym e.has_bit.ensures ∙ e.if-has_bit.false)
 

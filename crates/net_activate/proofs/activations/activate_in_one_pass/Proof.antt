@@ -32,8 +32,8 @@ returns-2 c =
     let d = s.before in
     let a = d.args in
     c.put_best.ensures (numbers d.before.before.before.before.before.before.before.before.before) none.no_key-none.ensures
-    ∙ ap (λ key. put_route a.table.now a.w (key_route (numbers d) key)) (k.best_heard-key.ensures
-    ∙ sym (chosen-without (numbers d) (instance d) d.args.w (route_at d.args.table.now) d.requires.3))
+    ∙ ap (λ key. put_route a.table.now a.w (key_route (numbers d.before.before.before.before.before.before.before.before.before) key)) (k.best_heard-key.ensures
+    ∙ sym (chosen-without (numbers d.before.before.before.before.before.before.before.before.before) (instance d.before.before.before.before.before.before.before.before.before) d.args.w (route_at d.args.table.now) d.requires.3))
     ∙ best-act a.net a.rows.now a.distances.now a.w a.table.now d.requires.0 d.requires.2
     (λ i. omega (arith, s.shared_slice_known-1.given i)) (sym e.has_bit.ensures ∙ e.if-has_bit.false)
 

@@ -61,7 +61,7 @@ loop-again c =
     let l = c in
     let h = l.before in
     let v = h.before.before.before in
-    let d = start v in
+    let d = start v.before in
     let a = d.args in
     let I : Instance = decoded a.net a.rows.now a.distances.now in
     let low = v.lowest_bit-v.ensures.0 in
@@ -70,7 +70,7 @@ loop-again c =
     (l.lesser-least.ensures
     ∙ ap (min v.loop-left.least)
     (h.advertised.ensures a.rows.now
-    ∙ ap (λ x. told_key (numbers_of a.net a.distances.now a.w) v.lowest_bit-v.result (advertises I v.lowest_bit-v.result x a.w)) (own h.before)))
+    ∙ ap (λ x. told_key (numbers_of a.net a.distances.now a.w) v.lowest_bit-v.result (advertises I v.lowest_bit-v.result x a.w)) (own h.before.before)))
 
 returns : tie.Need-returns invariant-loop-left decreases-loop-left
 returns c =

@@ -37,8 +37,8 @@ returns-2 c =
     let has-step = h.takes_step.ensures d.args.rows.now d.args.distances.now in
     c.best_heard.ensures
     ∙ sym (⊎_elim
-    (λ g. chosen-passed (numbers d.before.before) (instance d.before.before) d.args.w (view d.before.before) (sym has-step ∙ g.0.true) (omega (arith, g.1.ensures, d.requires.3, g.2.left)))
-    (λ g. chosen-without (numbers d.before.before) (instance d.before.before) d.args.w (view d.before.before) (sym has-step ∙ g.left))
+    (λ g. chosen-passed (numbers d.before.before) (instance d.before.before) d.args.w (view d.before.before) (sym has-step ∙ g.if-takes_step.true) (omega (arith, g.best_direct-direct.ensures, d.requires.3, g.if-direct-none.false)))
+    (λ g. chosen-without (numbers d.before.before) (instance d.before.before) d.args.w (view d.before.before) (sym has-step ∙ g.if-takes_step.false))
     c.if-takes_step.branch-raw)
 
 pub chosen_spec : {M : Type 1} → statement M
