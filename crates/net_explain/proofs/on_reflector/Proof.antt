@@ -16,21 +16,21 @@ use Rattle.net_explain.proofs.on_reflector.Tie as tie
 abbrev I : tie.Start → Instance
 I c = decoded c.args.net c.args.rows.now c.args.distances.now
 
-returns : tie.Need-returns
-returns c = sym (on-reflector-parent (I c.before.before.before) _ _ (denied _ c.before.has-bit.ensures c.if1.true))
+returns : tie.Need-returns-then-not-has_bit
+returns c = sym (on-reflector-parent (I c.before.before.before) _ _ (denied _ c.has_bit.ensures c.if-not-has_bit.true))
 
-module _ (c : tie.After-offered) where
-  abbrev left : tie.Else1
+module _ (c : tie.After-offered-offer) where
+  abbrev left : tie.Else-not-has_bit
   left = c.before.before.before
 
   abbrev start : tie.Start
   start = left.before.before.before
 
   -- v's offer, from its best client
-  offer-is : as_router c.offered.result ≡ offer (I start) start.args.v
-  offer-is = c.offered.ensures start.args.rows.now start.args.distances.now c.before.best-client2.ensures
+  offer-is : as_router c.offered-offer.result ≡ offer (I start) start.args.v
+  offer-is = c.offered-offer.ensures start.args.rows.now start.args.distances.now c.best_client-other.ensures
 
-by-offer-requires : tie.Need-by-offer-requires
+by-offer-requires : tie.Need-by_offer-requires
 by-offer-requires c κs =
     let p = (start c).requires in (
       p.0.count,
@@ -38,21 +38,21 @@ by-offer-requires c κs =
       p.2,
       p.0.pairs,
       rw (offer-is c) (offer-below (I (start c)) _ p.2),
-      rw c.before.before.best-client.ensures (best_client-below (I (start c)) _),
+      rw c.best_client-own.ensures (best_client-below (I (start c)) _),
     )
 
-returns-2 : tie.Need-returns-2
+returns-2 : tie.Need-returns
 returns-2 c =
     let d = c.before in
     let J = I (start d) in
     let a = (start d).args in
-    let own = d.before.before.best-client.ensures in
-    c.by-offer.ensures a.rows.now (rw own (own-way-to J _))
+    let own = d.best_client-own.ensures in
+    c.by_offer.ensures a.rows.now (rw own (own-way-to J _))
     ∙ ap₂ (by_offer J a.w (J.listed a.v)) (offer-is d) own
-    ∙ sym (on-reflector-offer J _ _ (granted _ (left d).before.has-bit.ensures (left d).if1.false))
+    ∙ sym (on-reflector-offer J _ _ (granted _ (left d).has_bit.ensures (left d).if-not-has_bit.false))
 
-pub on-reflector-spec : {M : Type 1} → statement M
-on-reflector-spec =
+pub on_reflector_spec : {M : Type 1} → statement M
+on_reflector_spec =
     tie.close
     (tie.spec
     (λ c κs. search rules)

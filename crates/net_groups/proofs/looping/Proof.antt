@@ -9,29 +9,29 @@ use Rattle.base.proofs.Marked.{marked-none, marked_more}
 use Rattle.net_groups.proofs.looping.Statement.{statement}
 use Rattle.net_groups.proofs.looping.Tie as tie
 
-abbrev invariant-loop : tie.invariant-loop
-invariant-loop closed n found₀ w₀ found w = (w ≤ n) × (found ≡ marked (λ w. eqb (bits closed w w) 1) w)
+abbrev invariant-loop-w : tie.invariant-loop-w
+invariant-loop-w closed n found₀ w₀ found w = (w ≤ n) × (found ≡ marked (λ w. eqb (bits closed w w) 1) w)
 
-abbrev decreases-loop : tie.decreases-loop
-decreases-loop closed n found₀ w₀ found w = n - w
+abbrev decreases-loop-w : tie.decreases-loop-w
+decreases-loop-w closed n found₀ w₀ found w = n - w
 
-loop-again : tie.Need-loop-preserved invariant-loop decreases-loop
+loop-again : tie.Need-loop-w-preserved invariant-loop-w decreases-loop-w
 loop-again c =
-    let u = c.before.before.before.before in
-    (omega arith, c.with-bit-if.ensures ∙ marked_more _ u.loop.w _ _ c.before.has-bit.ensures u.loop.invariant.1)
+    let u = c in
+    (omega arith, c.with_bit_if-found.ensures ∙ marked_more _ u.loop-w.w _ _ c.has_bit.ensures u.loop-w.invariant.1)
 
-returns : tie.Need-returns invariant-loop decreases-loop
+returns : tie.Need-returns invariant-loop-w decreases-loop-w
 returns c =
-    let l = c.before.loop in
-    let e : l.w ≡ c.before.before.args.n = omega (arith, l.invariant.0, c.loop-test.false) in
+    let l = c.loop-w in
+    let e : l.w ≡ c.args.n = omega (arith, l.invariant.0, c.loop-w-test.false) in
     l.invariant.1 ∙ ap (marked _) e
 
-pub looping-spec : {M : Type 1} → statement M
-looping-spec =
+pub looping_spec : {M : Type 1} → statement M
+looping_spec =
     tie.close
     (tie.spec
-    invariant-loop
-    decreases-loop
+    invariant-loop-w
+    decreases-loop-w
     (λ c. (omega arith, sym (marked-none _)))
     (λ c. search rules)
     (λ c. search rules)

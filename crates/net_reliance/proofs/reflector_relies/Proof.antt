@@ -18,31 +18,31 @@ use Rattle.net_reliance.proofs.reflector_relies.Tie as tie
 abbrev instance : tie.Start → Instance
 instance c = decoded c.args.net c.args.rows.now c.args.distances.now
 
-returns : tie.Need-returns
+returns : tie.Need-returns-then-not-has_bit
 returns c =
-    let e = c.before in
+    let e = c in
     let d = e.before.before.before in
     let a = d.args in
     ap (λ x. eqb x a.v) c.wide.ensures.0
-    ∙ sym (relies-own (instance d) _ _ d.requires.3.unlisted d.requires.3.reflector (denied _ e.before.has-bit.ensures e.if1.true)
+    ∙ sym (relies-own (instance d.before) _ _ d.requires.3.unlisted d.requires.3.reflector (denied _ e.has_bit.ensures e.if-not-has_bit.true)
     ∙ ap (is_router a.v) (sym d.requires.3.client)
     ∙ router-is _ _ (omega arith))
 
-returns-2 : tie.Need-returns-2
+returns-2 : tie.Need-returns-then-not-has_bit-2
 returns-2 c =
-    let e = c.before.before.before in
+    let e = c in
     let d = e.before.before.before in
-    sym (offer-stranger (instance d) _ _ d.requires.3.unlisted d.requires.3.reflector (granted _ e.before.has-bit.ensures e.if1.false) (denied _ c.before.has-bit2.ensures c.if2.true))
+    sym (offer-stranger (instance d.before.before.before.before) _ _ d.requires.3.unlisted d.requires.3.reflector (granted _ e.has_bit.ensures e.if-not-has_bit.false) (denied _ c.has_bit-2.ensures c.if-not-has_bit-2.true))
 
 -- v's offer, from its best client
-offer-is : (c : tie.After-offered)
-    → let d = c.before.before.before.before.before.before.before in as_router c.offered.result ≡ offer (instance d) d.args.v
+offer-is : (c : tie.After-offered-offer)
+    → let d = c.before.before.before.before.before.before.before in as_router c.offered-offer.result ≡ offer (instance d.before) d.args.v
 offer-is c =
-    let e = c.before.before.before.before in
-    let d = e.before.before.before in
-    c.offered.ensures d.args.rows.now d.args.distances.now (d.requires.4 (granted _ e.before.has-bit.ensures e.if1.false))
+    let e = c in
+    let d = e in
+    c.offered-offer.ensures d.args.rows.now d.args.distances.now (d.requires.4 (granted _ e.has_bit.ensures e.if-not-has_bit.false))
 
-by-offer-requires : tie.Need-by-offer-requires
+by-offer-requires : tie.Need-by_offer-requires
 by-offer-requires c κs =
     let d = c.before.before.before.before.before.before.before in
     let p = d.requires in (
@@ -50,24 +50,24 @@ by-offer-requires c κs =
       p.1,
       p.2,
       p.0.pairs,
-      rw (offer-is c) (offer-below (instance d) _ p.2),
-      rw p.3.client (best_client-below (instance d) _),
+      rw (offer-is c) (offer-below (instance d.before) _ p.2),
+      rw p.3.client (best_client-below (instance d.before) _),
     )
 
-returns-3 : tie.Need-returns-3
+returns-3 : tie.Need-returns
 returns-3 c =
     let said = c.before in
-    let g = said.before.before in
-    let e = g.before.before.before in
+    let g = said in
+    let e = g in
     let d = e.before.before.before in
-    c.says-yes.ensures
-    ∙ ap is_yes (said.by-offer.ensures d.args.rows.now (rw d.requires.3.client (own-way-to (instance d) _)))
-    ∙ by-offer-says (instance d) _ _ _ _
-    ∙ ap₂ (better_offer (instance d) d.args.w ((instance d).listed d.args.v)) (offer-is said.before) d.requires.3.client
-    ∙ sym (offer-neighbour (instance d) _ _ d.requires.3.unlisted d.requires.3.reflector (granted _ e.before.has-bit.ensures e.if1.false) (granted _ g.before.has-bit2.ensures g.if2.false))
+    c.says_yes.ensures
+    ∙ ap is_yes (said.by_offer.ensures d.args.rows.now (rw d.requires.3.client (own-way-to (instance d.before.before.before.before.before.before) _)))
+    ∙ by-offer-says (instance d.before.before.before.before.before.before) _ _ _ _
+    ∙ ap₂ (better_offer (instance d.before.before.before.before.before.before) d.args.w ((instance d.before.before.before.before.before.before).listed d.args.v)) (offer-is said.before) d.requires.3.client
+    ∙ sym (offer-neighbour (instance d.before.before.before.before.before.before) _ _ d.requires.3.unlisted d.requires.3.reflector (granted _ e.has_bit.ensures e.if-not-has_bit.false) (granted _ g.has_bit-2.ensures g.if-not-has_bit-2.false))
 
-pub reflector-relies-spec : {M : Type 1} → statement M
-reflector-relies-spec =
+pub reflector_relies_spec : {M : Type 1} → statement M
+reflector_relies_spec =
     tie.close
     (tie.spec
     (λ c κs. search rules)

@@ -8,16 +8,16 @@ use Rattle.net_settle.proofs.ByRank.{first-listed, first-unlisted}
 use Rattle.net_settle.proofs.first_route.Statement.{statement}
 use Rattle.net_settle.proofs.first_route.Tie as tie
 
-returns : tie.Need-returns
+returns : tie.Need-returns-then-has_bit
 returns c rows distances =
-    let a = c.before.before.args in
+    let a = c.args in
     read-via a.v a.v (omega arith)
-    ∙ sym (first-listed (decoded a.net rows distances) a.v (sym c.before.has-bit.ensures ∙ c.if1.true))
+    ∙ sym (first-listed (decoded a.net rows distances) a.v (sym c.has_bit.ensures ∙ c.if-has_bit.true))
 
-returns-2 : tie.Need-returns-2
+returns-2 : tie.Need-returns
 returns-2 c rows distances =
-    let a = c.before.before.args in
-    read-nothing ∙ sym (first-unlisted (decoded a.net rows distances) a.v (sym c.before.has-bit.ensures ∙ c.if1.false))
+    let a = c.args in
+    read-nothing ∙ sym (first-unlisted (decoded a.net rows distances) a.v (sym c.has_bit.ensures ∙ c.if-has_bit.false))
 
-pub first-route-spec : {M : Type 1} → statement M
-first-route-spec = tie.close (tie.spec (λ c κs. search rules) (λ c. search rules) (λ c. search rules) returns returns-2)
+pub first_route_spec : {M : Type 1} → statement M
+first_route_spec = tie.close (tie.spec (λ c κs. search rules) (λ c. search rules) (λ c. search rules) returns returns-2)

@@ -12,93 +12,93 @@ use Rattle.net_settle.proofs.ByRank.{Turn, below-legal, turn-start, turn-skip, t
 use Rattle.net_settle.proofs.settle_rank.Statement.{statement}
 use Rattle.net_settle.proofs.settle_rank.Tie as tie
 
-abbrev invariant-loop : tie.invariant-loop
-invariant-loop net rows distances ranks r table₀ n w₀ table w =
+abbrev invariant-loop-w : tie.invariant-loop-w
+invariant-loop-w net rows distances ranks r table₀ n w₀ table w =
     (w ≤ n) × (length table ≡ length table₀) × Turn (decoded net rows distances) ranks r table₀ w table
 
-abbrev decreases-loop : tie.decreases-loop
-decreases-loop net rows distances ranks r table₀ n w₀ table w = n - w
+abbrev decreases-loop-w : tie.decreases-loop-w
+decreases-loop-w net rows distances ranks r table₀ n w₀ table w = n - w
 
-loop-holds : tie.Need-loop-init invariant-loop decreases-loop
+loop-holds : tie.Need-loop-w-init invariant-loop-w decreases-loop-w
 loop-holds c =
-    let p = c.before.before.before.requires in
+    let p = c.requires in
     (search rules, search rules, turn-start _ _ p.0.falls _ _ p.1)
 
-loop-again : tie.Need-loop-preserved invariant-loop decreases-loop
+loop-again : tie.Need-loop-w-preserved-then-wide-r invariant-loop-w decreases-loop-w
 loop-again c =
-    let l = c.before.before.before.before in
-    let p = l.before.before.before.before.requires in (
+    let l = c in
+    let p = l.requires in (
       search rules,
       search rules,
-      turn-skip _ _ p.0.falls _ _ l.loop.w l.loop.table (λ e. c.if1.true (c.before.wide.ensures.0 ∙ e)) l.loop.invariant.2,
+      turn-skip _ _ p.0.falls _ _ l.loop-w.w l.loop-w.table (λ e. c.if-wide-r.true (c.wide.ensures.0 ∙ e)) l.loop-w.invariant.2,
     )
 
 -- w has rank r
-module _ (c : tie.Else1 invariant-loop decreases-loop) where
-  abbrev turn : tie.In-loop invariant-loop decreases-loop
+module _ (c : tie.Else-wide-r invariant-loop-w decreases-loop-w) where
+  abbrev turn : tie.In-loop-w invariant-loop-w decreases-loop-w
   turn = c.before.before.before
 
-  abbrev begun : tie.Start invariant-loop decreases-loop
+  abbrev begun : tie.Start invariant-loop-w decreases-loop-w
   begun = turn.before.before.before.before.before
 
   abbrev network : Instance
   network = let a = begun.args in decoded a.net a.rows.now a.distances.now
 
   abbrev table : List ℕ
-  table = turn.before.loop.table
+  table = turn.loop-w.table
 
   legal : TableIn network table
   legal =
-      let p = begun.pre.0 in
-      record { long = omega (arith, p.long, turn.before.loop.inv.1); rule = below-legal _ _ p.falls _ _ _ turn.before.loop.inv.2.on }
+      let p = begun.requires.0 in
+      record { long = omega (arith, p.long, turn.loop-w.invariant.1); rule = below-legal _ _ p.falls _ _ _ turn.loop-w.invariant.2.on }
 
-  acted : Turn network begun.args.ranks.now begun.args.r begun.args.table.now (turn.before.loop.w + 1)
-      (activate_bytes network turn.before.loop.w table)
+  acted : Turn network begun.args.ranks.now begun.args.r begun.args.table.now (turn.loop-w.w + 1)
+      (activate_bytes network turn.loop-w.w table)
   acted =
-      let p = begun.pre.0 in
-      turn-act _ _ p.falls begun.args.r _ turn.before.loop.w table p.formed.count turn.loop-test.taken legal.long
-      (sym c.before.wide.ensures.0 ∙ c.if1.false) turn.before.loop.inv.2
+      let p = begun.requires.0 in
+      turn-act _ _ p.falls begun.args.r _ turn.loop-w.w table p.formed.count turn.loop-w-test.true legal.long
+      (sym c.wide.ensures.0 ∙ c.if-wide-r.false) turn.loop-w.invariant.2
 
-activate-requires : tie.Need-activate-requires invariant-loop decreases-loop
+activate-requires : tie.Need-activate-requires invariant-loop-w decreases-loop-w
 activate-requires c κs =
     let e = c.before.before.before in
-    ((begun e).requires.0.formed, (turn e).loop-test.true, legal e)
+    ((begun e).requires.0.formed, (turn e).loop-w-test.true, legal e)
 
-loop-again-2 : tie.Need-loop-preserved-2 invariant-loop decreases-loop
+loop-again-2 : tie.Need-loop-w-preserved-then-takes_step invariant-loop-w decreases-loop-w
 loop-again-2 c =
     let act = c.before.before in
     (search rules, search rules, rw act.activate.ensures (acted act.before.before.before.before))
 
-activate-in-one-pass-requires : tie.Need-activate-in-one-pass-requires invariant-loop decreases-loop
+activate-in-one-pass-requires : tie.Need-activate_in_one_pass-requires invariant-loop-w decreases-loop-w
 activate-in-one-pass-requires c κs =
     let s = c.before.before in
     let e = s.before in
     let a = (begun e).args in
-    ((begun e).requires.0.formed, (turn e).loop-test.true, legal e, sym (s.takes_step.ensures a.rows.now a.distances.now) ∙ c.before.if2.false)
+    ((begun e).requires.0.formed, (turn e).loop-w-test.true, legal e, sym (s.takes_step.ensures a.rows.now a.distances.now) ∙ c.if-takes_step.false)
 
-loop-again-3 : tie.Need-loop-preserved-3 invariant-loop decreases-loop
+loop-again-3 : tie.Need-loop-w-preserved invariant-loop-w decreases-loop-w
 loop-again-3 c =
     let act = c.before.before in
-    (search rules, search rules, rw act.activate-in-one-pass.ensures (acted act.before.before.before.before))
+    (search rules, search rules, rw act.activate_in_one_pass.ensures (acted act.before.before.before.before))
 
-returns : tie.Need-returns invariant-loop decreases-loop
+returns : tie.Need-returns invariant-loop-w decreases-loop-w
 returns c =
-    let l = c.before in
-    turn-done _ _ l.before.before.before.before.requires.0.falls _ _ l.loop.w l.loop.table c.loop-test.false l.loop.invariant.2
+    let l = c in
+    turn-done _ _ l.requires.0.falls _ _ l.loop-w.w l.loop-w.table c.loop-w-test.false l.loop-w.invariant.2
 
-pub settle-rank-spec : {M : Type 1} → statement M
-settle-rank-spec =
+pub settle_rank_spec : {M : Type 1} → statement M
+settle_rank_spec =
     tie.close
     (tie.spec
-    invariant-loop
-    decreases-loop
+    invariant-loop-w
+    decreases-loop-w
     loop-holds
     (λ c. search rules)
     (λ c κs. search rules)
     (λ c. search rules)
     (λ c. search rules)
     loop-again
-    (λ c κs. omega (arith, (turn c).loop-test.true, (begun c).requires.0.formed.count))
+    (λ c κs. omega (arith, (turn c).loop-w-test.true, (begun c).requires.0.formed.count))
     activate-requires
     (λ c. search rules)
     (λ c. search rules)

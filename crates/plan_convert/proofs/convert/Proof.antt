@@ -14,41 +14,41 @@ use Rattle.plan_convert.proofs.convert.Statement.{statement}
 use Rattle.plan_convert.proofs.convert.Tie as tie
 
 -- after each write
-abbrev start : tie.After-result-contents → tie.Start
+abbrev start : tie.After-result_contents-table → tie.Start
 start c = c.before.before.before
 
-abbrev made : tie.After-write-front → tie.After-result-contents
+abbrev made : tie.After-write_front → tie.After-result_contents-table
 made c = c.before.before
 
-abbrev fronted : tie.After-write-bytes → tie.After-write-front
+abbrev fronted : tie.After-write_bytes → tie.After-write_front
 fronted c = c.before.before.before.before.before.before.before
 
-abbrev copied : tie.After-write-body → tie.After-write-bytes
+abbrev copied : tie.After-write_body → tie.After-write_bytes
 copied c = c.before.before.before.before
 
 passes : (c : tie.Start) → Passed c.args.plan.now
 passes c = passed _ c.requires.0.ok
 
-table_is : (c : tie.After-result-contents) →
-    let plan = (start c).args.plan.now in c.result-contents.result ≡ result_contents (start c).args.to (router_count plan) (contents_of plan)
-table_is c = let q = (start c).requires.0 in c.result-contents.ensures ∙ ap₂ (result_contents (start c).args.to) q.routers q.contents
+table_is : (c : tie.After-result_contents-table) →
+    let plan = (start c).args.plan.now in c.result_contents-table.result ≡ result_contents (start c).args.to (router_count plan) (contents_of plan)
+table_is c = let q = (start c).requires.0 in c.result_contents-table.ensures ∙ ap₂ (result_contents (start c).args.to) q.routers q.contents
 
-lie : (c : tie.After-result-contents) →
-    let a = (start c).args in PartsLie a.to a.plan.now c.result-contents.result (length a.out.now)
-lie c = let s = start c in parts-lie _ _ s.pre.1 (passes s) (table_is c) s.pre.2
+lie : (c : tie.After-result_contents-table) →
+    let a = (start c).args in PartsLie a.to a.plan.now c.result_contents-table.result (length a.out.now)
+lie c = let s = start c in parts-lie _ _ s.requires.1 (passes s) (table_is c) s.requires.2
 
 -- the buffer is as long as it was
-long₁ : (c : tie.After-write-front) → length c.write-front.new.0 ≡ length (start (made c)).args.out.now
-long₁ c = c.write-front.auto.0
+long₁ : (c : tie.After-write_front) → length c.write_front.new.out ≡ length (start (made c)).args.out.now
+long₁ c = c.write_front.auto.out
 
-long₂ : (c : tie.After-write-bytes) → length c.write_bytes.new.0 ≡ length (start (made (fronted c))).args.out.now
-long₂ c = c.write_bytes.auto.0 ∙ long₁ (fronted c)
+long₂ : (c : tie.After-write_bytes) → length c.write_bytes.new.out ≡ length (start (made (fronted c))).args.out.now
+long₂ c = c.write_bytes.auto.out ∙ long₁ (fronted c)
 
-long₃ : (c : tie.After-write-body) → length c.write-body.new.1.1.1.0 ≡ length (start (made (fronted (copied c)))).args.out.now
-long₃ c = c.write-body.auto.1.1.1.0 ∙ long₂ (copied c)
+long₃ : (c : tie.After-write_body) → length c.write_body.new.out ≡ length (start (made (fronted (copied c)))).args.out.now
+long₃ c = c.write_body.auto.out ∙ long₂ (copied c)
 
-pub convert-spec : {M : Type 1} → statement M
-convert-spec =
+pub convert_spec : {M : Type 1} → statement M
+convert_spec =
     tie.close
     (tie.spec
     (λ c κs. let s = c.before.before in next-most _ _ s.requires.1 (passes s) s.requires.0.contents s.requires.0.routers)
@@ -62,21 +62,21 @@ convert-spec =
     (λ c κs.
     let w = c.before.before.before in
     let s = start (made (fronted w)) in
-    (s.pre.0, s.pre.1, omega (arith, lie (made (fronted w)), long₂ w)))
+    (s.requires.0, s.requires.1, omega (arith, lie (made (fronted w)), long₂ w)))
     (λ c κs. ((start (made (fronted (copied c.before.before)))).requires.0, lit< tt))
     (λ c. search rules)
     (λ c. search rules)
     (λ c κs.
-    let part = c.before.before.before.part in
+    let part = c.part-lists in
     let w = c.before.before.before.before.before.before in
     omega (arith, (lie (made (fronted (copied w)))).lists, ap length part.ensures.bytes, long₃ w))
     (λ c. search rules)
     (λ c.
-    let q = c.before.before in
-    let part = q.before.before.before.before.part in
+    let q = c in
+    let part = q.part-lists in
     let w = q.before.before.before.before.before.before.before in
-    let b = copied w in
+    let b = copied w.before.before in
     let f = fronted b in
     let s = start (made f) in
-    all-written _ _ s.pre.1 (passes s) (table_is (made f)) s.pre.0.routers _ s.pre.2 f.write-front.ensures
-    b.write_bytes.ensures w.write-body.ensures part.ensures.bytes q.write-bytes2.ensures))
+    all-written _ _ s.requires.1 (passes s) (table_is (made f)) s.requires.0.routers _ s.requires.2 f.write_front.ensures
+    b.write_bytes.ensures w.write_body.ensures part.ensures.bytes q.write_bytes-2.ensures))

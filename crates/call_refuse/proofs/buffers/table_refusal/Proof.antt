@@ -6,22 +6,22 @@ use Rattle.call_rules.specs.Refusals.{table_checks}
 use Rattle.call_refuse.proofs.buffers.table_refusal.Statement.{statement}
 use Rattle.call_refuse.proofs.buffers.table_refusal.Tie as tie
 
-returns : tie.Need-returns
+returns : tie.Need-returns-then-table-net
 unfolding refuse table_checks
-returns c distances = rw (lt-leb _ _ c.if1.true)
+returns c distances = rw (lt-leb _ _ c.if-table-net.true)
 
-returns-2 : tie.Need-returns-2
+returns-2 : tie.Need-returns-then-not-table_ok
 unfolding refuse table_checks
 returns-2 c distances =
-    rw (le-leb _ _ c.before.before.if1.false, denied _ (c.before.table-ok.ensures distances) c.if2.true)
+    rw (le-leb _ _ c.if-table-net.false, denied _ (c.table_ok.ensures distances) c.if-not-table_ok.true)
 
-returns-3 : tie.Need-returns-3
+returns-3 : tie.Need-returns
 unfolding refuse table_checks
 returns-3 c distances =
-    rw (le-leb _ _ c.before.before.if1.false, granted _ (c.before.table-ok.ensures distances) c.if2.false)
+    rw (le-leb _ _ c.if-table-net.false, granted _ (c.table_ok.ensures distances) c.if-not-table_ok.false)
 
-pub table-refusal-spec : {M : Type 1} → statement M
-table-refusal-spec =
+pub table_refusal_spec : {M : Type 1} → statement M
+table_refusal_spec =
     tie.close
     (tie.spec
     (λ c. search rules)

@@ -9,11 +9,11 @@ use Rattle.call_refuse.proofs.numbers.compare_refusal.Tie as tie
 returns : tie.Need-returns
 unfolding compare_refusal plan_refusal refuse
 returns c plan read =
-    let a = c.before.before.before.args in
-    let at = c.before.before.and-router.ensures plan true read read.number in
-    let with_first = c.before.and-router2.ensures plan (has_router plan a.router) read at in
-    c.and-router3.ensures plan (has_router plan a.router && has_router plan a.first) read with_first
+    let a = c.args in
+    let at = c.and_router-at.ensures plan true read read.number in
+    let with_first = c.and_router-with_first.ensures plan (has_router plan a.router) read at in
+    c.and_router.ensures plan (has_router plan a.router && has_router plan a.first) read with_first
 
-pub compare-refusal-spec : {M : Type 1} → statement M
-compare-refusal-spec =
+pub compare_refusal_spec : {M : Type 1} → statement M
+compare_refusal_spec =
     tie.close (tie.spec (λ c κs. search rules) (λ c κs. search rules) (λ c κs. search rules) returns)

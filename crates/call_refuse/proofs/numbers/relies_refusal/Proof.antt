@@ -7,8 +7,8 @@ use Rattle.call_refuse.proofs.numbers.relies_refusal.Tie as tie
 returns : tie.Need-returns
 unfolding relies_refusal
 returns c plan read =
-    let a = c.before.before.args in
-    c.and-router.ensures plan (has_list plan a.list && has_router plan a.router) read (c.before.router-refusal.ensures plan read)
+    let a = c.args in
+    c.and_router.ensures plan (has_list plan a.list && has_router plan a.router) read (c.router_refusal.ensures plan read)
 
-pub relies-refusal-spec : {M : Type 1} → statement M
-relies-refusal-spec = tie.close (tie.spec (λ c κs. search rules) (λ c κs. search rules) returns)
+pub relies_refusal_spec : {M : Type 1} → statement M
+relies_refusal_spec = tie.close (tie.spec (λ c κs. search rules) (λ c κs. search rules) returns)

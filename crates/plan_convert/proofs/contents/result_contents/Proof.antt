@@ -7,22 +7,22 @@ use Rattle.plan_convert.proofs.contents.result_contents.Statement.{statement}
 use Rattle.plan_convert.proofs.contents.result_contents.Tie as tie
 
 -- the place after the distances, by n as it is multiplied
-small : (c : tie.After-wide) →
-    let a = c.before.before.args in
-    let n = c.wide.result in (distances_entry a.checked.table).offset + a.to * (n * n) < 65536
-small c = rw c.wide.ensures.0 c.before.before.requires
+small : (c : tie.After-wide-n) →
+    let a = c.args in
+    let n = c.wide-n.result in (distances_entry a.checked.table).offset + a.to * (n * n) < 65536
+small c = rw c.wide-n.ensures.0 c.requires
 
-pub result-contents-spec : {M : Type 1} → statement M
-result-contents-spec =
+pub result_contents_spec : {M : Type 1} → statement M
+result_contents_spec =
     tie.close
     (tie.spec
     (λ c κs. search rules)
     (λ c. search rules)
     (λ c. search rules)
-    (λ c. omega (arith, square_le c.before.before.wide.result 255 (omega (arith, c.before.before.wide.ensures.1))))
+    (λ c. omega (arith, square_le c.wide-n.result 255 (omega (arith, c.wide-n.ensures.1))))
     (λ c. omega (arith, small c.before.before))
     (λ c. omega (arith, small c.before.before))
     (λ c. search rules)
     (λ c. search rules)
     (λ c. omega (arith, small c.before.before.before.before))
-    (λ c. rw c.before.before.before.before.wide.ensures.0))
+    (λ c. rw c.wide-n.ensures.0))

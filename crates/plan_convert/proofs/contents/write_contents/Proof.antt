@@ -10,33 +10,33 @@ use Rattle.plan_rules.specs.Converted.{entry_bytes}
 use Rattle.plan_convert.proofs.contents.write_contents.Statement.{statement}
 use Rattle.plan_convert.proofs.contents.write_contents.Tie as tie
 
-abbrev invariant-loop : tie.invariant-loop
-invariant-loop out₀ table which₀ out which = Pieces (λ k. entry_bytes (get_or table k no_entry)) 5 4 out₀ 6 out which
+abbrev invariant-loop-which : tie.invariant-loop-which
+invariant-loop-which out₀ table which₀ out which = Pieces (λ k. entry_bytes (get_or table k no_entry)) 5 4 out₀ 6 out which
 
-abbrev decreases-loop : tie.decreases-loop
-decreases-loop out₀ table which₀ out which = 4 - which
+abbrev decreases-loop-which : tie.decreases-loop-which
+decreases-loop-which out₀ table which₀ out which = 4 - which
 
 five : (e : Entry) → length (entry_bytes e) ≡ 5
 unfolding entry_bytes
 five e = refl
 
-pub write-contents-spec : {M : Type 1} → statement M
-write-contents-spec =
+pub write_contents_spec : {M : Type 1} → statement M
+write_contents_spec =
     tie.close
     (tie.spec
-    invariant-loop
-    decreases-loop
-    (λ c. pieces-start (λ k. five _) c.before.requires)
+    invariant-loop-which
+    decreases-loop-which
+    (λ c. pieces-start (λ k. five _) c.requires)
     (λ c. search rules)
     (λ c. search rules)
     (λ c. search rules)
     (λ c. search rules)
-    (λ c κs. let h = c.before.before in pieces_room h.before.loop.invariant h.loop-test.true)
+    (λ c κs. let h = c.before.before in pieces_room h.loop-which.invariant h.loop-which-test.true)
     (λ c. search rules)
     (λ c. search rules)
     (λ c.
-    let w = c.before.before in
-    let h = w.before.before.before in
-    pieces_more h.before.loop.invariant h.loop-test.true w.write-entry.ensures)
-    (λ c. pieces-length c.before.loop.invariant)
-    (λ c. pieces-done c.before.loop.invariant c.loop-test.false))
+    let w = c in
+    let h = w in
+    pieces_more h.loop-which.invariant h.loop-which-test.true w.write_entry.ensures)
+    (λ c. pieces-length c.loop-which.invariant)
+    (λ c. pieces-done c.loop-which.invariant c.loop-which-test.false))

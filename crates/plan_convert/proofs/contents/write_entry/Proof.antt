@@ -12,15 +12,15 @@ use Rattle.plan_convert.proofs.contents.write_entry.Tie as tie
 returns : tie.Need-returns
 unfolding entry_bytes
 returns c =
-    let s = c.before.before.before.before in
+    let s = c in
     let at : ℕ = s.args.at in
     let two : at + 2 ≡ suc (suc at) = omega arith in
     let three : at + 3 ≡ suc (suc (suc at)) = omega arith in
     let four : at + 4 ≡ suc (suc (suc (suc at))) = omega arith in
     rw (add-one, two, three, four) (sets-written s.args.out.now at (entry_bytes s.args.e) s.requires)
 
-pub write-entry-spec : {M : Type 1} → statement M
-write-entry-spec =
+pub write_entry_spec : {M : Type 1} → statement M
+write_entry_spec =
     tie.close
     (tie.spec
     (λ c. search rules)

@@ -33,14 +33,14 @@ front-written d mark n table h e =
 
 returns : tie.Need-returns
 returns c =
-    let w = c.before.before in
-    let m = w.before.before in
-    let s = m.before.before in
-    front-written s.args.out.now m.mark_of.result s.args.n s.args.table s.requires w.write-contents.ensures
+    let w = c in
+    let m = w in
+    let s = m in
+    front-written s.args.out.now m.mark_of.result s.args.n s.args.table s.requires w.write_contents.ensures
     ∙ ap (λ x. written s.args.out.now 0 (first x s.args.n ++ entries s.args.table)) m.mark_of.ensures
 
-pub write-front-spec : {M : Type 1} → statement M
-write-front-spec =
+pub write_front_spec : {M : Type 1} → statement M
+write_front_spec =
     tie.close
     (tie.spec
     (λ c. search rules)
@@ -50,6 +50,6 @@ write-front-spec =
     (λ c. simp length-set (omega arith))
     (λ c. simp length-set (omega arith))
     (λ c. simp length-set (omega arith))
-    (λ c κs. simp length-set c.before.before.before.requires)
-    (λ c. c.before.before.write-contents.auto.0 ∙ simp length-set)
+    (λ c κs. simp length-set c.requires)
+    (λ c. c.write_contents.auto.out ∙ simp length-set)
     returns)

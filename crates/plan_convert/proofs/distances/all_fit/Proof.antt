@@ -11,38 +11,38 @@ use Rattle.plan_rules.specs.Converted.{distance_fits}
 use Rattle.plan_convert.proofs.distances.all_fit.Statement.{statement}
 use Rattle.plan_convert.proofs.distances.all_fit.Tie as tie
 
-abbrev invariant-loop : tie.invariant-loop
-invariant-loop s width count to all₀ i₀ all i = (i ≤ count) × (all ≡ all_below (λ j. distance_fits to (placed width s j)) i)
+abbrev invariant-loop-i : tie.invariant-loop-i
+invariant-loop-i s width count to all₀ i₀ all i = (i ≤ count) × (all ≡ all_below (λ j. distance_fits to (placed width s j)) i)
 
-abbrev decreases-loop : tie.decreases-loop
-decreases-loop s width count to all₀ i₀ all i = count - i
+abbrev decreases-loop-i : tie.decreases-loop-i
+decreases-loop-i s width count to all₀ i₀ all i = count - i
 
-loop-again : tie.Need-loop-preserved invariant-loop decreases-loop
+loop-again : tie.Need-loop-i-preserved invariant-loop-i decreases-loop-i
 loop-again c =
-    let b = c.before.before.before in
-    let a = b.before.before.args in (
+    let b = c in
+    let a = b.args in (
       omega arith,
-      ap₂ ◌&&◌ b.loop.invariant.1 (c.distance-fits.ensures ∙ ap (distance_fits a.to) c.before.distance-at.ensures.0)
-          ∙ sym (all-next (λ j. distance_fits a.to (placed a.width a.s.now j)) b.loop.i),
+      ap₂ ◌&&◌ b.loop-i.invariant.1 (c.distance_fits-all.ensures ∙ ap (distance_fits a.to) c.distance_at.ensures.0)
+          ∙ sym (all-next (λ j. distance_fits a.to (placed a.width a.s.now j)) b.loop-i.i),
     )
 
-returns : tie.Need-returns invariant-loop decreases-loop
+returns : tie.Need-returns invariant-loop-i decreases-loop-i
 returns c =
-    let b = c.before in
-    let e : b.loop.i ≡ b.before.before.args.count = omega (arith, b.loop.invariant.0) in
-    rw e at b.loop.invariant.1
+    let b = c in
+    let e : b.loop-i.i ≡ b.args.count = omega (arith, b.loop-i.invariant.0) in
+    rw e at b.loop-i.invariant.1
 
-pub all-fit-spec : {M : Type 1} → statement M
-all-fit-spec =
+pub all_fit_spec : {M : Type 1} → statement M
+all_fit_spec =
     tie.close
     (tie.spec
-    invariant-loop
-    decreases-loop
+    invariant-loop-i
+    decreases-loop-i
     (λ c. (search rules, sym (all_none _)))
     (λ c κs.
-    let s = c.before.before.before in
-    (s.requires.0, omega (arith, s.requires.1, item-within s.args.width s.args.count c.before.loop.i c.loop-test.true)))
-    (λ c κs. c.before.before.before.before.requires.2)
+    let s = c in
+    (s.requires.0, omega (arith, s.requires.1, item-within s.args.width s.args.count c.loop-i.i c.loop-i-test.true)))
+    (λ c κs. c.requires.2)
     (λ c. search rules)
     (λ c. search rules)
     loop-again

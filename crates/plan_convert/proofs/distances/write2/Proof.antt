@@ -10,8 +10,8 @@ use Rattle.plan_convert.proofs.distances.write2.Tie as tie
 returns : tie.Need-returns
 returns c = let a = c.args in rw add-one (sets-written a.out.now a.at (bytes_of 2 a.number) c.requires)
 
-pub write2-spec : {M : Type 1} → statement M
-write2-spec =
+pub write2_spec : {M : Type 1} → statement M
+write2_spec =
     tie.close
     (tie.spec
     (λ c. search rules)

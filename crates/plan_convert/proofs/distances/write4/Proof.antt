@@ -17,8 +17,8 @@ returns c =
     let three : at + 3 ≡ suc (suc (suc at)) = omega arith in
     rw (add-one, two, three) (sets-written a.out.now a.at (bytes_of 4 a.distance) c.requires)
 
-pub write4-spec : {M : Type 1} → statement M
-write4-spec =
+pub write4_spec : {M : Type 1} → statement M
+write4_spec =
     tie.close
     (tie.spec
     (λ c. search rules)

@@ -8,20 +8,20 @@ use Rattle.plan_rules.proofs.Widths.{not-two}
 use Rattle.plan_convert.proofs.distances.write_distance.Statement.{statement}
 use Rattle.plan_convert.proofs.distances.write_distance.Tie as tie
 
-is-2 : (c : tie.Then1) → c.before.before.args.to ≡ 2
-is-2 c = c.if1.true
+is-2 : (c : tie.Then-to-eq2) → c.args.to ≡ 2
+is-2 c = c.if-to-eq2.true
 
-is-4 : (c : tie.Else1) → c.before.before.args.to ≡ 4
-is-4 c = not-two _ c.before.before.requires.0 c.if1.false
+is-4 : (c : tie.Else-to-eq2) → c.args.to ≡ 4
+is-4 c = not-two _ c.requires.0 c.if-to-eq2.false
 
-within-2 : (c : tie.Then1) → let a = c.before.before.args in a.at + 2 * a.i + 2 ≤ length a.out.now
-within-2 c = rw (is-2 c) at c.before.before.requires.1
+within-2 : (c : tie.Then-to-eq2) → let a = c.args in a.at + 2 * a.i + 2 ≤ length a.out.now
+within-2 c = rw (is-2 c) at c.requires.1
 
-within-4 : (c : tie.Else1) → let a = c.before.before.args in a.at + 4 * a.i + 4 ≤ length a.out.now
-within-4 c = rw (is-4 c) at c.before.before.requires.1
+within-4 : (c : tie.Else-to-eq2) → let a = c.args in a.at + 4 * a.i + 4 ≤ length a.out.now
+within-4 c = rw (is-4 c) at c.requires.1
 
-pub write-distance-spec : {M : Type 1} → statement M
-write-distance-spec =
+pub write_distance_spec : {M : Type 1} → statement M
+write_distance_spec =
     tie.close
     (tie.spec
     (λ c. omega (arith, within-2 c.before))

@@ -10,35 +10,35 @@ use Rattle.plan_rules.specs.Distances.{placed}
 use Rattle.plan_convert.proofs.distances.write_distances.Statement.{statement}
 use Rattle.plan_convert.proofs.distances.write_distances.Tie as tie
 
-abbrev invariant-loop : tie.invariant-loop
-invariant-loop s width count out₀ at to i₀ out i = Pieces (λ j. bytes_of to (placed width s j)) to count out₀ at out i
+abbrev invariant-loop-i : tie.invariant-loop-i
+invariant-loop-i s width count out₀ at to i₀ out i = Pieces (λ j. bytes_of to (placed width s j)) to count out₀ at out i
 
-abbrev decreases-loop : tie.decreases-loop
-decreases-loop s width count out₀ at to i₀ out i = count - i
+abbrev decreases-loop-i : tie.decreases-loop-i
+decreases-loop-i s width count out₀ at to i₀ out i = count - i
 
-abbrev start : tie.In-loop invariant-loop decreases-loop → tie.Start invariant-loop decreases-loop
+abbrev start : tie.In-loop-i invariant-loop-i decreases-loop-i → tie.Start invariant-loop-i decreases-loop-i
 start h = h.before.before.before.before
 
-loop-again : tie.Need-loop-preserved invariant-loop decreases-loop
+loop-again : tie.Need-loop-i-preserved invariant-loop-i decreases-loop-i
 loop-again c =
-    let w = c.before.before in
-    let h = w.before.before.before in
-    pieces_more h.before.loop.invariant h.loop-test.true (rw w.before.distance-at.ensures.0 at w.write-distance.ensures)
+    let w = c in
+    let h = w in
+    pieces_more h.loop-i.invariant h.loop-i-test.true (rw w.distance_at.ensures.0 at w.write_distance.ensures)
 
-pub write-distances-spec : {M : Type 1} → statement M
-write-distances-spec =
+pub write_distances_spec : {M : Type 1} → statement M
+write_distances_spec =
     tie.close
     (tie.spec
-    invariant-loop
-    decreases-loop
-    (λ c. pieces-start (λ j. length-bytes _ _) c.before.before.requires.3)
+    invariant-loop-i
+    decreases-loop-i
+    (λ c. pieces-start (λ j. length-bytes _ _) c.requires.3)
     (λ c κs.
     let h = c.before in
     let s = start h in
-    (s.pre.0, omega (arith, s.pre.1, item-within s.args.width s.args.count h.before.loop.i h.loop-test.true)))
-    (λ c κs. let h = c.before.before in ((start h).requires.2, pieces_room h.before.loop.invariant h.loop-test.true))
+    (s.requires.0, omega (arith, s.requires.1, item-within s.args.width s.args.count h.loop-i.i h.loop-i-test.true)))
+    (λ c κs. let h = c.before.before in ((start h).requires.2, pieces_room h.loop-i.invariant h.loop-i-test.true))
     (λ c. search rules)
     (λ c. search rules)
     loop-again
-    (λ c. pieces-length c.before.loop.invariant)
-    (λ c. pieces-done c.before.loop.invariant c.loop-test.false))
+    (λ c. pieces-length c.loop-i.invariant)
+    (λ c. pieces-done c.loop-i.invariant c.loop-i-test.false))

@@ -6,24 +6,24 @@ use Rattle.route_rules.specs.Rounds.{tally_act}
 use Rattle.net_run.proofs.tally.RoundTally.act.Statement.{statement}
 use Rattle.net_run.proofs.tally.RoundTally.act.Tie as tie
 
-returns : tie.Need-returns
+returns : tie.Need-returns-then-has_bit
 unfolding tally_act
-returns c = rw (sym c.before.has-bit.ensures ∙ c.if1.true)
+returns c = rw (sym c.has_bit.ensures ∙ c.if-has_bit.true)
 
-returns-2 : tie.Need-returns-2
+returns-2 : tie.Need-returns-then-self-eq1
 unfolding tally_act
 returns-2 c =
-    let d = c.before.before.before in
-    rw (sym d.before.has-bit.ensures ∙ d.if1.false, eq-eqb _ _ c.before.if2.true)
+    let d = c in
+    rw (sym d.has_bit.ensures ∙ d.if-has_bit.false, eq-eqb _ _ c.if-self-eq1.true)
 
-returns-3 : tie.Need-returns-3
+returns-3 : tie.Need-returns
 unfolding tally_act
 returns-3 c =
-    let d = c.before.before.before.before in
-    rw (sym d.before.has-bit.ensures ∙ d.if1.false, ne_eqb _ _ c.before.before.if2.false, c.before.with-bit.ensures)
+    let d = c in
+    rw (sym d.has_bit.ensures ∙ d.if-has_bit.false, ne_eqb _ _ c.if-self-eq1.false, c.with_bit.ensures)
 
-pub act-spec : {M : Type 1} → statement M
-act-spec =
+pub act_spec : {M : Type 1} → statement M
+act_spec =
     tie.close
     (tie.spec
     (λ c κs. search rules)
