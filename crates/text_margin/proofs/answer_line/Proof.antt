@@ -2,14 +2,14 @@ use borrow.Author.Rules.{rules}
 use Rattle.text_margin.proofs.answer_line.Statement.{statement}
 use Rattle.text_margin.proofs.answer_line.Tie as tie
 
-returns : tie.Need-returns
-returns c = rw c.before.before.before.before.before.answer.given.1 c.before.before.refused-line.ensures
+returns : tie.Need-returns-in-Refused
+returns c = rw c.answer.given.1 c.refused_line.ensures
 
-returns-2 : tie.Need-returns-2
-returns-2 c = rw c.before.before.before.before.before.answer2.given.1 c.before.before.given-line.ensures
+returns-2 : tie.Need-returns-in-Compared
+returns-2 c = rw c.answer2.given.1 c.given_line.ensures
 
-pub answer-line-spec : {M : Type 1} → statement M
-answer-line-spec =
+pub answer_line_spec : {M : Type 1} → statement M
+answer_line_spec =
     tie.close
     (tie.spec
     (λ c. search rules)

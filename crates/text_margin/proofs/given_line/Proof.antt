@@ -8,17 +8,17 @@ use Rattle.text_fields.proofs.Writing.{put_as}
 use Rattle.text_margin.proofs.given_line.Statement.{statement}
 use Rattle.text_margin.proofs.given_line.Tie as tie
 
-returns : tie.Need-returns
-returns c = rw c.before.before.before.before.enum_told.given.1 c.before.before.none-line.ensures
+returns : tie.Need-returns-in-Absent
+returns c = rw c.enum_told.given.1 c.none_line.ensures
 
-returns-2 : tie.Need-returns-2
+returns-2 : tie.Need-returns-in-Of
 returns-2 c =
-    let told = c.before.before.before.before in
-    rw told.before.margin.given.1
-    (put_as c.before.before.margin-line.ensures (ap margin_line (to_z-of_z w64 _ (search rules))) (omega arith))
+    let told = c in
+    rw told.margin.given.1
+    (put_as c.margin_line.ensures (ap margin_line (to_z-of_z w64 _ (search rules))) (omega arith))
 
-pub given-line-spec : {M : Type 1} → statement M
-given-line-spec =
+pub given_line_spec : {M : Type 1} → statement M
+given_line_spec =
     tie.close
     (tie.spec
     (λ c. search rules)

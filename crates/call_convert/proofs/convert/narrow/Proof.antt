@@ -11,40 +11,40 @@ use Rattle.call_convert.proofs.Returned.{converts-not, converts-as, refused-befo
 use Rattle.call_convert.proofs.convert.narrow.Statement.{statement}
 use Rattle.call_convert.proofs.convert.narrow.Tie as tie
 
-returns : tie.Need-returns
+returns : tie.Need-returns-then-checked-ne0
 unfolding narrow_refusal
 returns c =
-    let t = c.before in
-    converts-not (refused-before t.before.before.check-marked.ensures t.if1.true _) (omega (arith, t.if1.true)) c.refused-conversion.ensures
+    let t = c in
+    converts-not (refused-before t.check_marked-checked.ensures t.if-checked-ne0.true _) (omega (arith, t.if-checked-ne0.true)) c.refused_conversion.ensures
 
-returns-2 : tie.Need-returns-2
+returns-2 : tie.Need-returns-then-not-distances_fit
 unfolding narrow_refusal refuse
 returns-2 c =
     let f = c.before.before in
-    let t = f.before in
-    converts-not (rest-decides t.before.before.check-marked.ensures t.if1.false _ ∙ rw (denied _ f.distances-fit.ensures c.before.if2.true))
-    (lit< tt) c.refused-conversion2.ensures
+    let t = f in
+    converts-not (rest-decides t.check_marked-checked.ensures t.if-checked-ne0.false _ ∙ rw (denied _ f.distances_fit.ensures c.if-not-distances_fit.true))
+    (lit< tt) c.refused_conversion-then-not-distances_fit.ensures
 
-returns-3 : tie.Need-returns-3
+returns-3 : tie.Need-returns
 unfolding narrow_refusal
 returns-3 c =
     let w = c.before.before in
     let d = w.before.before in
-    let t = d.before.before in
+    let t = d in
     converts-as
-    (rest-decides t.before.before.check-marked.ensures t.if1.false _ ∙ refuse-true _ 14 _ (granted _ d.before.distances-fit.ensures d.if2.false))
-    w.into-buffer.ensures
+    (rest-decides t.check_marked-checked.ensures t.if-checked-ne0.false _ ∙ refuse-true _ 14 _ (granted _ d.distances_fit.ensures d.if-not-distances_fit.false))
+    w.into_buffer.ensures
 
-pub narrow-spec : {M : Type 1} → statement M
-narrow-spec =
+pub narrow_spec : {M : Type 1} → statement M
+narrow_spec =
     tie.close
     (tie.spec
     (λ c κs. search rules)
     (λ c κs. search rules)
     returns
-    (λ c κs. (c.before.before.check-marked.ensures.accepted c.if1.false, inl refl))
+    (λ c κs. (c.check_marked-checked.ensures.accepted c.if-checked-ne0.false, inl refl))
     (λ c κs. search rules)
     returns-2
-    (λ c κs. let t = c.before.before.before in (t.before.before.check-marked.ensures.accepted t.if1.false, inl refl))
+    (λ c κs. let t = c in (t.check_marked-checked.ensures.accepted t.if-checked-ne0.false, inl refl))
     (λ c. search rules)
     returns-3)

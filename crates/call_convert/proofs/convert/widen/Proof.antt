@@ -7,18 +7,18 @@ use Rattle.call_convert.proofs.Returned.{converts-not, converts-as, refused-befo
 use Rattle.call_convert.proofs.convert.widen.Statement.{statement}
 use Rattle.call_convert.proofs.convert.widen.Tie as tie
 
-returns : tie.Need-returns
+returns : tie.Need-returns-then-checked-ne0
 unfolding widen_refusal
 returns c =
-    let t = c.before in
-    converts-not (refused-before t.before.before.check-marked.ensures t.if1.true _) (omega (arith, t.if1.true)) c.refused-conversion.ensures
+    let t = c in
+    converts-not (refused-before t.check_marked-checked.ensures t.if-checked-ne0.true _) (omega (arith, t.if-checked-ne0.true)) c.refused_conversion.ensures
 
-returns-2 : tie.Need-returns-2
+returns-2 : tie.Need-returns
 unfolding widen_refusal
 returns-2 c =
     let w = c.before.before in
-    let t = w.before.before in
-    converts-as (rest-decides t.before.before.check-marked.ensures t.if1.false _) w.into-buffer.ensures
+    let t = w in
+    converts-as (rest-decides t.check_marked-checked.ensures t.if-checked-ne0.false _) w.into_buffer.ensures
 
 pub widen_spec : {M : Type 1} → statement M
 widen_spec =
@@ -27,6 +27,6 @@ widen_spec =
     (λ c κs. search rules)
     (λ c κs. search rules)
     returns
-    (λ c κs. let t = c.before in (t.before.before.check-marked.ensures.accepted t.if1.false, inr refl))
+    (λ c κs. let t = c in (t.check_marked-checked.ensures.accepted t.if-checked-ne0.false, inr refl))
     (λ c. search rules)
     returns-2)

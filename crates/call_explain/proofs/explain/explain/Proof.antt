@@ -10,34 +10,34 @@ use Rattle.call_explain.proofs.explain.explain.Statement.{statement}
 use Rattle.call_explain.proofs.explain.explain.Tie as tie
 
 -- nothing is refused
-given : (c : tie.Else1) → let a = c.before.before.before.before.args in relies_refusal a.plan.now a.list a.router a.other ≡ 0
-given c = sym (c.before.relies-refusal.ensures _ c.before.before.check.ensures) ∙ c.if1.false
+given : (c : tie.Else-refused-ne0) → let a = c.args in relies_refusal a.plan.now a.list a.router a.other ≡ 0
+given c = sym (c.relies_refusal-refused.ensures _ c.check-checked.ensures) ∙ c.if-refused-ne0.false
 
-asked : (c : tie.Else1) → let a = c.before.before.before.before.args in ReliesAsked a.plan.now a.list a.router a.other
+asked : (c : tie.Else-refused-ne0) → let a = c.args in ReliesAsked a.plan.now a.list a.router a.other
 asked c = relies-asked _ _ _ _ (given c)
 
 explained-requires : tie.Need-explained-requires
 explained-requires c κs =
     let d = c.before in
-    let o = opened-over d.before.open-plan.ensures d.part.ensures.bytes in
+    let o = opened-over d.open_plan-net.ensures d.part-distances.ensures.bytes in
     let q = asked d.before.before.before in
     (o.formed, omega arith, omega arith)
 
 -- the explanation found is that of the plan's network
-returns-2 : tie.Need-returns-2
+returns-2 : tie.Need-returns
 returns-2 c =
     let d = c.before.before in
-    let o = opened-over d.before.open-plan.ensures d.part.ensures.bytes in
+    let o = opened-over d.open_plan-net.ensures d.part-distances.ensures.bytes in
     explains-given _ _ _ _ (given d.before.before.before) _ (rw o.same at c.explained.ensures)
 
-pub explain-spec : {M : Type 1} → statement M
-explain-spec =
+pub explain_spec : {M : Type 1} → statement M
+explain_spec =
     tie.close
     (tie.spec
     (λ c κs. search rules)
     (λ c κs. search rules)
-    (λ c. explains-refused _ _ _ _ _ (c.before.relies-refusal.ensures _ c.before.before.check.ensures) c.if1.true)
-    (λ c κs. let d = c.before in let q = asked d in (d.before.before.check.ensures.accepted q.plan_ok, q.list, refl))
-    (λ c κs. let d = c.before.before in (d.before.before.check.ensures.accepted (asked d).plan_ok, lit< tt))
+    (λ c. explains-refused _ _ _ _ _ (c.relies_refusal-refused.ensures _ c.check-checked.ensures) c.if-refused-ne0.true)
+    (λ c κs. let d = c.before in let q = asked d in (d.check-checked.ensures.accepted q.plan_ok, q.list, refl))
+    (λ c κs. let d = c.before.before in (d.check-checked.ensures.accepted (asked d).plan_ok, lit< tt))
     explained-requires
     returns-2)
