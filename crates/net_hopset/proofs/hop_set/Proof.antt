@@ -8,17 +8,17 @@ use Rattle.net_hopset.proofs.hop_set.Tie as tie
 
 search-requires : tie.Need-search-requires
 search-requires c κs =
-    let d = c.before.before in
-    rw (d.number.ensures, c.how-many.ensures) (d.before.before.before.requires, number-below (bit_n _) 64 (bit_at _))
+    let d = c in
+    rw (d.number-all.ensures, c.how_many.ensures) (d.requires, number-below (bit_n _) 64 (bit_at _))
 
 returns : tie.Need-returns
 returns c = λ I closed small g.
-    let d = c.before.before.before in
-    rw (d.number.ensures, c.before.how-many.ensures) at c.search.ensures I
-    (places-are I _ closed _ small g _ d.before.place-rows.ensures)
+    let d = c in
+    rw (d.number-all.ensures, c.how_many.ensures) at c.search.ensures I
+    (places-are I _ closed _ small g _ d.place_rows.ensures)
 
-pub hop-set-spec : {M : Type 1} → statement M
-hop-set-spec =
+pub hop_set_spec : {M : Type 1} → statement M
+hop_set_spec =
     tie.close
     (tie.spec
     (λ c κs. search rules)

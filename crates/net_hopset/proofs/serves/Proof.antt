@@ -7,39 +7,39 @@ use Rattle.net_hopset.proofs.Serving.{left_below, number_small, with-place, free
 use Rattle.net_hopset.proofs.serves.Statement.{statement}
 use Rattle.net_hopset.proofs.serves.Tie as tie
 
-has-number-requires : tie.Need-has-number-requires
+has-number-requires : tie.Need-has_number-requires
 has-number-requires c κs =
-    let d = c.before.before.before.before.before in
-    rw c.with-bit.ensures (number_small _ _ d.requires.0 (with-place _ _ _ d.requires.1 c.before.if2.false))
+    let d = c in
+    rw c.with_bit.ensures (number_small _ _ d.requires.0 (with-place _ _ _ d.requires.1 c.if-k-i.false))
 
-free-place-requires : tie.Need-free-place-requires
+free-place-requires : tie.Need-free_place-i-requires
 free-place-requires c κs =
-    let d = c.before.before in
-    (d.requires.0, left_below _ _ _ _ d.requires.2 c.before.without.ensures)
+    let d = c in
+    (d.requires.0, left_below _ _ _ _ d.requires.2 c.without-left.ensures)
 
-returns : tie.Need-returns
-returns c = λ I p t. sym (none-left I _ _ _ p _ _ c.before.without.ensures c.if1.true)
+returns : tie.Need-returns-then-left-eq0
+returns c = λ I p t. sym (none-left I _ _ _ p _ _ c.without-left.ensures c.if-left-eq0.true)
 
-returns-2 : tie.Need-returns-2
+returns-2 : tie.Need-returns-then-k-i
 returns-2 c = λ I p t.
-    let e = c.before.before in
-    let rows = e.before.before.args.rows.now in
-    sym (stuck I _ _ _ p _ _ e.before.without.ensures (free-none rows _ _ _ c.before.free-place.ensures c.if2.true) (omega arith) e.if1.false)
+    let e = c in
+    let rows = e.args.rows.now in
+    sym (stuck I _ _ _ p _ _ e.without-left.ensures (free-none rows _ _ _ c.free_place-i.ensures c.if-k-i.true) (omega arith) e.if-left-eq0.false)
 
-returns-3 : tie.Need-returns-3
+returns-3 : tie.Need-returns
 returns-3 c = λ I p t.
     let d = c.before.before in
-    let e = d.before.before in
-    let a = e.before.before.args in
-    c.has-number.ensures
-    ∙ ap (in_set a.served.now) c.before.with-bit.ensures
-    ∙ freed-tried I _ _ _ p _ _ e.before.without.ensures _ d.if2.false
-    (free-found a.rows.now _ _ _ d.before.free-place.ensures d.if2.false)
+    let e = d in
+    let a = e.args in
+    c.has_number.ensures
+    ∙ ap (in_set a.served.now) c.with_bit.ensures
+    ∙ freed-tried I _ _ _ p _ _ e.without-left.ensures _ d.if-k-i.false
+    (free-found a.rows.now _ _ _ d.free_place-i.ensures d.if-k-i.false)
     a.served.now
-    e.before.before.requires.1 t
+    e.requires.1 t
 
-pub serves-spec : {M : Type 1} → statement M
-serves-spec =
+pub serves_spec : {M : Type 1} → statement M
+serves_spec =
     tie.close
     (tie.spec
     (λ c κs. search rules)

@@ -5,31 +5,31 @@ use Rattle.net_hopset.proofs.Searching.{tried-no, tried-yes, best-no, best-yes}
 use Rattle.net_hopset.proofs.try_number.Statement.{statement}
 use Rattle.net_hopset.proofs.try_number.Tie as tie
 
-returns : tie.Need-returns
+returns : tie.Need-returns-then-not-serves
 returns c = (
-  c.before.before.before.requires.3,
+  c.requires.3,
   λ I p t b.
-      let e = denied _ (c.before.serves.ensures I p t) c.if1.true in
+      let e = denied _ (c.serves.ensures I p t) c.if-not-serves.true in
       (tried-no I _ _ _ t e, best-no I _ _ _ b e),
 )
 
 mark-requires : tie.Need-mark-requires
 mark-requires c κs =
-    let q = c.before.before.before.before.requires in
+    let q = c.requires in
     (number_small _ _ q.0 q.1, q.3)
 
-returns-2 : tie.Need-returns-2
+returns-2 : tie.Need-returns
 returns-2 c =
-    let d = c.before.before.before.before in
-    let q = d.before.before.requires in
-    let marked = c.before.mark.ensures in (
+    let d = c in
+    let q = d.requires in
+    let marked = c.mark.ensures in (
       marked.1,
       λ I p t b.
-          let e = granted _ (d.serves.ensures I p t) c.before.before.before.if1.false in
+          let e = granted _ (d.serves.ensures I p t) c.if-not-serves.false in
           rw c.smaller.ensures (tried-yes I _ _ _ _ marked.0 t e, best-yes I _ p.counted _ _ q.1 b e),
     )
 
-pub try-number-spec : {M : Type 1} → statement M
-try-number-spec =
+pub try_number_spec : {M : Type 1} → statement M
+try_number_spec =
     tie.close
     (tie.spec (λ c κs. search rules) returns mark-requires (λ c κs. search rules) returns-2)

@@ -55,7 +55,7 @@ ranks-requires c κs =
 settle-requires : tie.Need-settle-requires
 settle-requires c κs =
     let ranked = c.before.before.before.before in
-    let t = ranked.before.before.before.before in
+    let t = ranked.before.before.before in
     let p = (entry t).requires in
     let h = (rows t).reliance_rows.ensures in
     let s : is_stable (network t) ≡ true = sym (tested t) ∙ ranked.if-is_stable.true in
@@ -85,7 +85,7 @@ cycle-requires c κs =
     cycle-asked (network t) _ _ (rows t).reliance_rows.ensures (closing t).close.new.rows (closing t).close.ensures
     (sym (tested t) ∙ c.if-is_stable.false) _ p.0.count (omega (arith, p.2, p.4))
 
-returns-2 : tie.Need-returns
+returns-2 : tie.Need-returns-then-is_stable
 returns-2 c =
     let t = c.before.before.before.before.before.before.before in
     let k = c.cycle.ensures in
@@ -110,4 +110,4 @@ assess_spec =
     cycle-requires
     (λ c. search rules)
     (λ c. search rules)
-    returns-2)
+    (λ c. search rules))

@@ -3,10 +3,10 @@ use Rattle.text_margin.proofs.answer_line.Statement.{statement}
 use Rattle.text_margin.proofs.answer_line.Tie as tie
 
 returns : tie.Need-returns-in-Refused
-returns c = rw c.answer.given.1 c.refused_line.ensures
+returns c = rw c.in-Refused.is c.refused_line.ensures
 
 returns-2 : tie.Need-returns-in-Compared
-returns-2 c = rw c.answer2.given.1 c.given_line.ensures
+returns-2 c = rw c.in-Compared.is c.given_line.ensures
 
 pub answer_line_spec : {M : Type 1} → statement M
 answer_line_spec =

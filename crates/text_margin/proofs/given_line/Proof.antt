@@ -9,12 +9,12 @@ use Rattle.text_margin.proofs.given_line.Statement.{statement}
 use Rattle.text_margin.proofs.given_line.Tie as tie
 
 returns : tie.Need-returns-in-Absent
-returns c = rw c.enum_told.given.1 c.none_line.ensures
+returns c = rw c.in-Absent.is c.none_line.ensures
 
 returns-2 : tie.Need-returns-in-Of
 returns-2 c =
     let told = c in
-    rw told.margin.given.1
+    rw told.in-Of.is
     (put_as c.margin_line.ensures (ap margin_line (to_z-of_z w64 _ (search rules))) (omega arith))
 
 pub given_line_spec : {M : Type 1} → statement M

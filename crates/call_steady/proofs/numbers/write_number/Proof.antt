@@ -7,9 +7,9 @@ use Rattle.base.proofs.Joined.{two-set}
 use Rattle.call_steady.proofs.numbers.write_number.Statement.{statement}
 use Rattle.call_steady.proofs.numbers.write_number.Tie as tie
 
-pub write-number-spec : {M : Type 1} → statement M
+pub write_number_spec : {M : Type 1} → statement M
 unfolding written
-write-number-spec =
+write_number_spec =
     tie.close
     (tie.spec
     (λ c. search rules)

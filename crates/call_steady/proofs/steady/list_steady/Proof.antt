@@ -7,36 +7,36 @@ use Rattle.call_steady.proofs.steady.list_steady.Statement.{statement}
 use Rattle.call_steady.proofs.steady.list_steady.Tie as tie
 
 -- where the set was handed back, from where its count is known
-abbrev marked : tie.After-known-told → tie.After-steady-set
-marked c = c.before.before.before
+abbrev marked : tie.In-Marked → tie.After-steady_set-found
+marked c = c.before
 
-small : (c : tie.After-known-told) → c.before.found.given.0.0 ≤ 4096
-small c = set-small _ _ _ (marked c).steady-set.ensures _ c.before.found.given.1
+small : (c : tie.In-Marked) → c.found.given.0.0 ≤ 4096
+small c = set-small _ _ _ (marked c).steady_set-found.ensures _ c.in-Marked.is
 
-returns : tie.Need-returns
+returns : tie.Need-returns-in_default
 returns c =
-    steady-refused 15 _ _ _ (many-checks _ _ _ c.before.before.steady-set.ensures c.enum_told.given.1 _) (λ e. omega (arith, e))
+    steady-refused 15 _ _ _ (many-checks _ _ _ c.steady_set-found.ensures c.in_default.is _) (λ e. omega (arith, e))
 
-returns-2 : tie.Need-returns-2
+returns-2 : tie.Need-returns-then-out-count
 returns-2 c =
     let k = c.before in
-    steady-refused 9 _ _ _ (short-checks _ _ _ (marked k).steady-set.ensures _ k.before.found.given.1 _ c.if1.true) (λ e. omega (arith, e))
+    steady-refused 9 _ _ _ (short-checks _ _ _ (marked k).steady_set-found.ensures _ k.in-Marked.is _ c.if-out-count.true) (λ e. omega (arith, e))
 
-write-numbers-requires : tie.Need-write-numbers-requires
+write-numbers-requires : tie.Need-write_numbers-requires
 write-numbers-requires c κs =
     let e = c.before.before in
     let k = e.before in
-    (set-counted _ _ _ (marked k).steady-set.ensures _ k.before.found.given.1, e.if1.false)
+    (set-counted _ _ _ (marked k).steady_set-found.ensures _ k.in-Marked.is, e.if-out-count.false)
 
-returns-3 : tie.Need-returns-3
+returns-3 : tie.Need-returns
 returns-3 c =
     let w = c.before.before in
     let e = w.before.before.before in
     let k = e.before in
-    listed-given _ _ _ (marked k).steady-set.ensures _ k.before.found.given.1 _ e.if1.false w.write-numbers.ensures
+    listed-given _ _ _ (marked k).steady_set-found.ensures _ k.in-Marked.is _ e.if-out-count.false w.write_numbers.ensures
 
-pub list-steady-spec : {M : Type 1} → statement M
-list-steady-spec =
+pub list_steady_spec : {M : Type 1} → statement M
+list_steady_spec =
     tie.close
     (tie.spec
     (λ c κs. search rules)
