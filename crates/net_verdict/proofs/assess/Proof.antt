@@ -54,8 +54,8 @@ ranks-requires c κs =
 
 settle-requires : tie.Need-settle-requires
 settle-requires c κs =
-    let ranked = c.before.before.before.before in
-    let t = ranked.before.before.before in
+    let ranked = c in
+    let t = c.before.before.before.before.before.before.before in
     let p = (entry t).requires in
     let h = (rows t).reliance_rows.ensures in
     let s : is_stable (network t) ≡ true = sym (tested t) ∙ ranked.if-is_stable.true in
@@ -71,8 +71,8 @@ settle-requires c κs =
 
 returns : tie.Need-returns-then-is_stable
 returns c =
-    let ranked = c.before.before.before.before.before.before.before in
-    let t = ranked.before.before.before.before in
+    let ranked = c in
+    let t = c.before.before.before.before.before.before.before.before.before.before in
     let k = ranked.ranks-highest.ensures in
     stable-assessed (network t) _ _ (rows t).reliance_rows.ensures (closing t).close.new.rows (closing t).close.ensures _ _ _ _ _
     t.labels.ensures (sym (tested t) ∙ ranked.if-is_stable.true) k.0 k.1
@@ -85,7 +85,7 @@ cycle-requires c κs =
     cycle-asked (network t) _ _ (rows t).reliance_rows.ensures (closing t).close.new.rows (closing t).close.ensures
     (sym (tested t) ∙ c.if-is_stable.false) _ p.0.count (omega (arith, p.2, p.4))
 
-returns-2 : tie.Need-returns-then-is_stable
+returns-2 : tie.Need-returns
 returns-2 c =
     let t = c.before.before.before.before.before.before.before in
     let k = c.cycle.ensures in
@@ -110,4 +110,4 @@ assess_spec =
     cycle-requires
     (λ c. search rules)
     (λ c. search rules)
-    (λ c. search rules))
+    returns-2)

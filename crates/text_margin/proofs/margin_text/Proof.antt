@@ -8,11 +8,11 @@ use Rattle.text_margin.proofs.margin_text.Tie as tie
 returns : tie.Need-returns-then-input-lt3
 returns c = at_front c.refused_line.ensures (short-text _ c.if-input-lt3.true)
 
-returns-2 : tie.Need-returns-then-input-lt3
+returns-2 : tie.Need-returns
 returns-2 c =
     let compared = c.before.before.before.before in
     let third = compared.before.before in
-    let second = third.before in
+    let second = third.before.before in
     let first = second in
     let input = first.args.input.now in
     at_front c.answer_line.ensures

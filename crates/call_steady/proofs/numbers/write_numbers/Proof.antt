@@ -24,16 +24,16 @@ turn c = c.before.before.before.before.before.before
 
 loop-again : tie.Need-loop-i-preserved-then-has_number invariant-loop-i decreases-loop-i
 loop-again c =
-    let n = c.before.before in
-    let h = n in
+    let n = c in
+    let h = c in
     let u = turn c in
     writing_more _ _ _ _ _ _ u.loop-i.invariant u.loop-i-test.true _
     (sym h.has_number.ensures ∙ n.if-has_number.true) n.write_number.ensures
 
 loop-again-2 : tie.Need-loop-i-preserved invariant-loop-i decreases-loop-i
 loop-again-2 c =
-    let h = c.before in
-    let u = h in
+    let h = c in
+    let u = c in
     writing-skip _ _ _ _ _ _ u.loop-i.invariant u.loop-i-test.true (sym h.has_number.ensures ∙ c.if-has_number.false)
 
 pub write_numbers_spec : {M : Type 1} → statement M

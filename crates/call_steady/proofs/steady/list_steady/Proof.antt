@@ -24,15 +24,15 @@ returns-2 c =
 
 write-numbers-requires : tie.Need-write_numbers-requires
 write-numbers-requires c κs =
-    let e = c.before.before in
-    let k = e.before in
+    let e = c in
+    let k = c.before.before.before in
     (set-counted _ _ _ (marked k).steady_set-found.ensures _ k.in-Marked.is, e.if-out-count.false)
 
 returns-3 : tie.Need-returns
 returns-3 c =
-    let w = c.before.before in
-    let e = w.before.before.before in
-    let k = e.before in
+    let w = c in
+    let e = c in
+    let k = c.before.before.before.before.before.before in
     listed-given _ _ _ (marked k).steady_set-found.ensures _ k.in-Marked.is _ e.if-out-count.false w.write_numbers.ensures
 
 pub list_steady_spec : {M : Type 1} → statement M

@@ -25,8 +25,8 @@ asked c = list-asked _ _ (given c)
 
 returns-2 : tie.Need-returns
 returns-2 c =
-    let l = c.before.before in
-    let d = l.before.before.before in
+    let l = c in
+    let d = c.before.before.before.before.before in
     let o = opened-over d.open_plan-net.ensures d.part-distances.ensures.bytes in
     steady-asked _ _ _ _ (given d.before.before.before) (rw o.same at l.list_steady.ensures)
 
@@ -39,6 +39,6 @@ steady_spec =
     (λ c. steady-unasked _ _ _ _ (c.list_refusal-refused.ensures _ c.check-checked.ensures) c.if-refused-ne0.true)
     (λ c κs. let d = c.before in let q = asked d in ((read d).check-checked.ensures.accepted q.plan_ok, q.list, refl))
     (λ c κs. let d = c.before.before in ((read d).check-checked.ensures.accepted (asked d).plan_ok, lit< tt))
-    (λ c κs. let d = c in (opened-over d.open_plan-net.ensures d.part-distances.ensures.bytes).formed)
+    (λ c κs. let d = c.before.before in (opened-over d.open_plan-net.ensures d.part-distances.ensures.bytes).formed)
     (λ c. search rules)
     returns-2)
