@@ -10,117 +10,151 @@ use checker::grades::Grade;
 use checker::relies::ReliesAnswer;
 use checker::steady::SteadyAnswer;
 use checker::verdict::VerdictAnswer;
+use std::io;
 
-pub fn check(plan: &[u8]) {
-    text::number(wide(checker::check(plan)));
+pub fn check(rt: &impl Print, plan: &[u8]) -> io::Result<()> {
+    text::number(rt, wide(checker::check(plan)))
 }
 
 // The refusal number, how many numbers are handed back, and these.
-pub fn egress_list(plan: &[u8], list: usize) {
-    text::number(wide(checker::lists::egress_list_refusal(plan, list)));
+pub fn egress_list(rt: &impl Print, plan: &[u8], list: usize) -> io::Result<()> {
+    text::number(rt, wide(checker::lists::egress_list_refusal(plan, list)))?;
     let numbers = checker::lists::egress_list(plan, list);
-    text::number(numbers.len());
-    text::numbers(numbers);
+    text::number(rt, numbers.len())?;
+    text::numbers(rt, numbers)
 }
 
-fn better(preferred: Preferred) {
+fn better(rt: &impl Print, preferred: Preferred) -> io::Result<()> {
     match preferred {
-        Preferred::First => text::word(b"first"),
-        Preferred::Second => text::word(b"second"),
-        Preferred::Neither => text::word(b"neither"),
+        Preferred::First => text::word(rt, b"first"),
+        Preferred::Second => text::word(rt, b"second"),
+        Preferred::Neither => text::word(rt, b"neither"),
     }
 }
 
-fn apart(margin: Margin) {
+fn apart(rt: &impl Print, margin: Margin) -> io::Result<()> {
     match margin {
-        Margin::Absent => text::word(b"none"),
-        Margin::Of(difference) => text::signed(difference),
+        Margin::Absent => text::word(rt, b"none"),
+        Margin::Of(difference) => text::signed(rt, difference),
     }
 }
 
 // Which is better, then the word `margin` and the margin.
-fn compared(preferred: Preferred, margin: Margin) {
-    better(preferred);
-    text::word(b"margin");
-    apart(margin);
+fn compared(rt: &impl Print, preferred: Preferred, margin: Margin) -> io::Result<()> {
+    better(rt, preferred)?;
+    text::word(rt, b"margin")?;
+    apart(rt, margin)
 }
 
 // The flags count as yes if they are not 0.
 pub fn compare(
+    rt: &impl Print,
     plan: &[u8],
     router: usize,
     first: usize,
     second: usize,
     first_direct: usize,
     second_direct: usize,
-) {
+) -> io::Result<()> {
     let first_told = first_direct != 0;
     let second_told = second_direct != 0;
     let answer = checker::compare::compare(plan, router, first, second, first_told, second_told);
     match answer {
-        CompareAnswer::Refused(number) => text::number(wide(number)),
-        CompareAnswer::Compared(preferred, margin) => compared(preferred, margin),
+        CompareAnswer::Refused(number) => text::number(rt, wide(number)),
+        CompareAnswer::Compared(preferred, margin) => compared(rt, preferred, margin),
     }
 }
 
-pub fn relies(plan: &[u8], list: usize, router: usize, other: usize) {
+pub fn relies(
+    rt: &impl Print,
+    plan: &[u8],
+    list: usize,
+    router: usize,
+    other: usize,
+) -> io::Result<()> {
     let answer = checker::relies::relies(plan, list, router, other);
     match answer {
-        ReliesAnswer::Refused(number) => text::number(wide(number)),
-        ReliesAnswer::Yes => text::word(b"yes"),
-        ReliesAnswer::No => text::word(b"no"),
+        ReliesAnswer::Refused(number) => text::number(rt, wide(number)),
+        ReliesAnswer::Yes => text::word(rt, b"yes"),
+        ReliesAnswer::No => text::word(rt, b"no"),
     }
 }
 
-pub fn activate(plan: &[u8], list: usize, router: usize, table: &mut [u8]) {
-    text::number(wide(checker::activate::activate(plan, list, router, table)));
-    text::word(b"table");
-    text::numbers(table);
+pub fn activate(
+    rt: &impl Print,
+    plan: &[u8],
+    list: usize,
+    router: usize,
+    table: &mut [u8],
+) -> io::Result<()> {
+    text::number(
+        rt,
+        wide(checker::activate::activate(plan, list, router, table)),
+    )?;
+    text::word(rt, b"table")?;
+    text::numbers(rt, table)
 }
 
 // The refusal number, the acts applied, the rounds, and whether the sequence is longer than the limit.
-pub fn run(plan: &[u8], list: usize, sequence: &[u8], limit: usize, table: &mut [u8]) {
+pub fn run(
+    rt: &impl Print,
+    plan: &[u8],
+    list: usize,
+    sequence: &[u8],
+    limit: usize,
+    table: &mut [u8],
+) -> io::Result<()> {
     let answer = checker::run::run(plan, list, sequence, limit, table);
-    text::number(wide(answer.refused));
-    text::number(answer.applied);
-    text::number(answer.rounds);
-    text::truth(answer.exhausted);
-    text::word(b"table");
-    text::numbers(table);
+    text::number(rt, wide(answer.refused))?;
+    text::number(rt, answer.applied)?;
+    text::number(rt, answer.rounds)?;
+    text::truth(rt, answer.exhausted)?;
+    text::word(rt, b"table")?;
+    text::numbers(rt, table)
 }
 
-fn verdict_answer(answer: VerdictAnswer) {
+fn verdict_answer(rt: &impl Print, answer: VerdictAnswer) -> io::Result<()> {
     match answer {
-        VerdictAnswer::Refused(number) => text::number(wide(number)),
-        VerdictAnswer::Stable(highest) => text::named_number(b"stable", highest),
-        VerdictAnswer::Suspect(length) => text::named_number(b"suspect", length),
+        VerdictAnswer::Refused(number) => text::number(rt, wide(number)),
+        VerdictAnswer::Stable(highest) => text::named_number(rt, b"stable", highest),
+        VerdictAnswer::Suspect(length) => text::named_number(rt, b"suspect", length),
     }
 }
 
 // A buffer's name and its bytes.
-fn left(name: &[u8], bytes: &[u8]) {
-    text::word(name);
-    text::numbers(bytes);
+fn left(rt: &impl Print, name: &[u8], bytes: &[u8]) -> io::Result<()> {
+    text::word(rt, name)?;
+    text::numbers(rt, bytes)
 }
 
-fn buffers(labels: &[u8], ranks: &[u8], table: &[u8], cycle: &[u8]) {
-    left(b"labels", labels);
-    left(b"ranks", ranks);
-    left(b"table", table);
-    left(b"cycle", cycle);
+fn buffers(
+    rt: &impl Print,
+    labels: &[u8],
+    ranks: &[u8],
+    table: &[u8],
+    cycle: &[u8],
+) -> io::Result<()> {
+    left(rt, b"labels", labels)?;
+    left(rt, b"ranks", ranks)?;
+    left(rt, b"table", table)?;
+    left(rt, b"cycle", cycle)
 }
 
 // The verdict, and what it left in the four buffers.
 fn verdict_in(
+    rt: &impl Print,
     plan: &[u8],
     list: usize,
     labels: &mut [u8],
     ranks: &mut [u8],
     table: &mut [u8],
     cycle: &mut [u8],
-) {
-    verdict_answer(checker::verdict::verdict(plan, list, labels, ranks, table, cycle));
-    buffers(labels, ranks, table, cycle);
+) -> io::Result<()> {
+    verdict_answer(
+        rt,
+        checker::verdict::verdict(plan, list, labels, ranks, table, cycle),
+    )?;
+    buffers(rt, labels, ranks, table, cycle)
 }
 
 fn at_most_10(x: usize) -> usize
@@ -133,38 +167,47 @@ fn at_most_10(x: usize) -> usize
 }
 
 // The same with buffers of these lengths, at most 10, each byte 7 before.
-pub fn verdict(plan: &[u8], list: usize, labels: usize, ranks: usize, table: usize, cycle: usize) {
+pub fn verdict(
+    rt: &impl Print,
+    plan: &[u8],
+    list: usize,
+    labels: usize,
+    ranks: usize,
+    table: usize,
+    cycle: usize,
+) -> io::Result<()> {
     let first = at_most_10(labels);
     let second = at_most_10(ranks);
     let third = at_most_10(table);
     let fourth = at_most_10(cycle);
     verdict_in(
+        rt,
         plan,
         list,
         &mut [7u8; 10][0..first],
         &mut [7u8; 10][0..second],
         &mut [7u8; 10][0..third],
         &mut [7u8; 10][0..fourth],
-    );
+    )
 }
 
-fn steady_answer(answer: SteadyAnswer) {
+fn steady_answer(rt: &impl Print, answer: SteadyAnswer) -> io::Result<()> {
     match answer {
-        SteadyAnswer::Refused(number) => text::number(wide(number)),
-        SteadyAnswer::Listed(count) => text::named_number(b"listed", count),
+        SteadyAnswer::Refused(number) => text::number(rt, wide(number)),
+        SteadyAnswer::Listed(count) => text::named_number(rt, b"listed", count),
     }
 }
 
 // How many steady tables there are, and what the call left in the buffer.
-fn steady_in(plan: &[u8], list: usize, out: &mut [u8]) {
-    steady_answer(checker::steady::steady(plan, list, out));
-    left(b"numbers", out);
+fn steady_in(rt: &impl Print, plan: &[u8], list: usize, out: &mut [u8]) -> io::Result<()> {
+    steady_answer(rt, checker::steady::steady(plan, list, out))?;
+    left(rt, b"numbers", out)
 }
 
 // The same with a buffer of this length, at most 10, each byte 7 before.
-pub fn steady(plan: &[u8], list: usize, length: usize) {
+pub fn steady(rt: &impl Print, plan: &[u8], list: usize, length: usize) -> io::Result<()> {
     let size = at_most_10(length);
-    steady_in(plan, list, &mut [7u8; 10][0..size]);
+    steady_in(rt, plan, list, &mut [7u8; 10][0..size])
 }
 
 fn grade_number(grade: Grade) -> usize {
@@ -176,17 +219,17 @@ fn grade_number(grade: Grade) -> usize {
     }
 }
 
-fn grade_answer(answer: GradeAnswer) {
+fn grade_answer(rt: &impl Print, answer: GradeAnswer) -> io::Result<()> {
     match answer {
-        GradeAnswer::Refused(number) => text::number(wide(number)),
+        GradeAnswer::Refused(number) => text::number(rt, wide(number)),
         GradeAnswer::Graded(grade, rounds) => {
-            text::named_number(b"grade", grade_number(grade));
-            text::named_number(b"rounds", rounds);
+            text::named_number(rt, b"grade", grade_number(grade))?;
+            text::named_number(rt, b"rounds", rounds)
         }
     }
 }
 
 // The grade, and the rounds within which the routers come to rest.
-pub fn grade(plan: &[u8], list: usize) {
-    grade_answer(checker::grade::grade(plan, list));
+pub fn grade(rt: &impl Print, plan: &[u8], list: usize) -> io::Result<()> {
+    grade_answer(rt, checker::grade::grade(plan, list))
 }

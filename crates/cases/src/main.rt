@@ -11,10 +11,10 @@ mod plans;
 mod script;
 mod text;
 
-use libc::STDIN_FILENO;
+use std::io;
 
-fn main() {
+fn main(rt: HostRuntime) -> io::Result<()> {
     let mut input = [0u8; 65536];
-    let size = io::read_full(STDIN_FILENO, &mut input);
-    cases::all(&input[0..size]);
+    let size = text_input::read_full(&mut rt.stdin(), &mut input)?;
+    cases::all(&rt, &input[0..size])
 }

@@ -1,49 +1,46 @@
 // Writing what a case got: its name, then words and numbers with a space before each, then the line's end.
 
 use base::wide;
+use std::io;
 
-pub fn name(text: &[u8]) {
-    io::write_all(1, text);
+pub fn name(rt: &impl Print, text: &[u8]) -> io::Result<()> {
+    rt.write_all(text)
 }
 
-pub fn word(text: &[u8]) {
-    io::write_all(1, b" ");
-    io::write_all(1, text);
+pub fn word(rt: &impl Print, text: &[u8]) -> io::Result<()> {
+    rt.write_all(b" ")?;
+    rt.write_all(text)
 }
 
-pub fn number(x: usize) {
-    io::write_all(1, b" ");
-    io::print_decimal(1, x as u64);
+pub fn number(rt: &impl Print, x: usize) -> io::Result<()> {
+    print!(rt; " {x}")
 }
 
 // A number that may be below 0, with its sign.
-pub fn signed(x: i64) {
+pub fn signed(rt: &impl Print, x: i64) -> io::Result<()> {
     let mut digits = [0u8; 21];
     let size = text_fields::put_signed(&mut digits, 0, x);
-    word(&digits[0..size]);
+    word(rt, &digits[0..size])
 }
 
-pub fn line_end() {
-    io::write_all(1, b"\n");
+pub fn line_end(rt: &impl Print) -> io::Result<()> {
+    rt.write_all(b"\n")
 }
 
-pub fn numbers(bytes: &[u8]) {
+pub fn numbers(rt: &impl Print, bytes: &[u8]) -> io::Result<()> {
     let mut i = 0;
     while i < bytes.len() {
-        number(wide(bytes[i]));
+        number(rt, wide(bytes[i]))?;
         i += 1;
     }
+    Ok(())
 }
 
-pub fn named_number(text: &[u8], x: usize) {
-    word(text);
-    number(x);
+pub fn named_number(rt: &impl Print, text: &[u8], x: usize) -> io::Result<()> {
+    word(rt, text)?;
+    number(rt, x)
 }
 
-pub fn truth(b: bool) {
-    if b {
-        word(b"yes");
-    } else {
-        word(b"no");
-    }
+pub fn truth(rt: &impl Print, b: bool) -> io::Result<()> {
+    if b { word(rt, b"yes") } else { word(rt, b"no") }
 }

@@ -2,15 +2,15 @@
 
 #![tactic(auto)]
 
-use libc::{STDIN_FILENO, STDOUT_FILENO};
 use plan_contents::header::LARGEST_PLAN;
+use std::io;
 use text_lines::LINE_ROOM;
 
 // One byte more than the three and the largest plan is read, so that a longer input is seen to be too long.
-fn main() {
+fn main(rt: HostRuntime) -> io::Result<()> {
     let mut input = [0u8; 3 + LARGEST_PLAN + 1];
-    let size = io::read_full(STDIN_FILENO, &mut input);
+    let size = text_input::read_full(&mut rt.stdin(), &mut input)?;
     let mut line = [0u8; LINE_ROOM];
     let length = text_margin::margin_text(&input[0..size], &mut line);
-    io::write_all(STDOUT_FILENO, &line[0..length]);
+    rt.write_all(&line[0..length])
 }

@@ -2,15 +2,15 @@
 
 #![tactic(auto)]
 
-use libc::{STDIN_FILENO, STDOUT_FILENO};
 use plan_contents::header::LARGEST_PLAN;
+use std::io;
 use text_verdict::TEXT_ROOM;
 
 // One byte more than the largest plan is read, so that a longer input is seen to be too long.
-fn main() {
+fn main(rt: HostRuntime) -> io::Result<()> {
     let mut plan = [0u8; LARGEST_PLAN + 1];
-    let size = io::read_full(STDIN_FILENO, &mut plan);
+    let size = text_input::read_full(&mut rt.stdin(), &mut plan)?;
     let mut text = [0u8; TEXT_ROOM];
     let length = text_verdict::plan_text(&plan[0..size], &mut text);
-    io::write_all(STDOUT_FILENO, &text[0..length]);
+    rt.write_all(&text[0..length])
 }
