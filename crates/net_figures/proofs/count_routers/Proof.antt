@@ -7,48 +7,48 @@ use Rattle.net_figures.proofs.Counting.{Counting, counting-start, counting-room,
 use Rattle.net_figures.proofs.count_routers.Statement.{statement}
 use Rattle.net_figures.proofs.count_routers.Tie as tie
 
-abbrev invariant-loop : tie.invariant-loop
-invariant-loop word counts₀ left₀ counts left = Counting word counts₀ counts left
+abbrev invariant-loop-left : tie.invariant-loop-left
+invariant-loop-left word counts₀ left₀ counts left = Counting word counts₀ counts left
 
-abbrev decreases-loop : tie.decreases-loop
-decreases-loop word counts₀ left₀ counts left = left
+abbrev decreases-loop-left : tie.decreases-loop-left
+decreases-loop-left word counts₀ left₀ counts left = left
 
-loop-holds : tie.Need-loop-init invariant-loop decreases-loop
-loop-holds c = counting-start _ _ c.before.requires
+loop-holds : tie.Need-loop-left-init invariant-loop-left decreases-loop-left
+loop-holds c = counting-start _ _ c.requires
 
 -- the router that is counted
-module _ (c : tie.After-slice-known2 invariant-loop decreases-loop) where
-  abbrev start : tie.Start invariant-loop decreases-loop
+module _ (c : tie.After-slice_known-in-loop-left-1 invariant-loop-left decreases-loop-left) where
+  abbrev start : tie.Start invariant-loop-left decreases-loop-left
   start = c.before.before.before.before.before
 
-  room : c.before.lowest-bit.result < length c.before.before.before.loop.counts
-  room = counting-room _ _ start.pre _ _ c.before.before.before.loop.invariant _ c.before.lowest-bit.ensures.0
+  room : c.lowest_bit-w.result < length c.loop-left.counts
+  room = counting-room _ _ start.requires _ _ c.loop-left.invariant _ c.lowest_bit-w.ensures.0
 
-  low : get_or c.before.before.before.loop.counts c.before.lowest-bit.result 0 < 255
-  low = counting-low _ _ start.pre _ _ c.before.before.before.loop.invariant _ c.before.lowest-bit.ensures.0
+  low : get_or c.loop-left.counts c.lowest_bit-w.result 0 < 255
+  low = counting-low _ _ start.requires _ _ c.loop-left.invariant _ c.lowest_bit-w.ensures.0
 
-loop-again : tie.Need-loop-preserved invariant-loop decreases-loop
+loop-again : tie.Need-loop-left-preserved invariant-loop-left decreases-loop-left
 loop-again c =
     let k = c.before in
-    let v = k.before.lowest-bit.ensures.0 in
-    counting_more _ _ (start k).requires _ _ k.before.before.before.loop.invariant _ v _ _ refl (c.without-lowest.ensures.1 _ v)
+    let v = k.lowest_bit-w.ensures.0 in
+    counting_more _ _ (start k).requires _ _ k.loop-left.invariant _ v _ _ refl (c.without_lowest-left.ensures.1 _ v)
 
-returns : tie.Need-returns invariant-loop decreases-loop
-returns c = counting-done _ _ c.before.before.before.requires _ _ c.before.loop.invariant c.loop-test.false
+returns : tie.Need-returns invariant-loop-left decreases-loop-left
+returns c = counting-done _ _ c.requires _ _ c.loop-left.invariant c.loop-left-test.false
 
-pub count-routers-spec : {M : Type 1} → statement M
-count-routers-spec =
+pub count_routers_spec : {M : Type 1} → statement M
+count_routers_spec =
     tie.close
     (tie.spec
-    invariant-loop
-    decreases-loop
+    invariant-loop-left
+    decreases-loop-left
     loop-holds
     (λ c κs. search rules)
-    room
+    (λ c. counting-room _ _ c.requires _ _ c.loop-left.invariant _ c.lowest_bit-w.ensures.0)
     (λ c. omega (arith, low c))
     room
     (λ c κs. search rules)
-    (λ c. c.without-lowest.ensures.0)
+    (λ c. c.without_lowest-left.ensures.0)
     loop-again
-    (λ c. c.before.loop.invariant.size)
+    (λ c. c.loop-left.invariant.size)
     returns)

@@ -9,40 +9,40 @@ use Rattle.text_verdict.specs.Found.{Printable}
 use Rattle.text_verdict.proofs.found_line.Statement.{statement}
 use Rattle.text_verdict.proofs.found_line.Tie as tie
 
-stable-line-requires : tie.Need-stable-line-requires
+stable-line-requires : tie.Need-stable_line-requires
 stable-line-requires c κs =
-    let d = c.before.before.before.before.before.before in
-    let known = c.before.before.found.given in
-    let q : (d.args.list < 1000) × (known.0.0 < 1000) = rw known.1 at d.requires.1 in
+    let d = c in
+    let known = c.in-Stable in
+    let q : (d.args.list < 1000) × (known.highest < 1000) = rw known.is at d.requires.1 in
     omega (arith, d.requires.0, q.0, q.1)
 
 -- where the cycle is said
-module _ (c : tie.After-suspect-line-arg) where
+module _ (c : tie.After-suspect_line-arg-1) where
   abbrev start : tie.Start
-  start = c.before.before.before.before.before.before
+  start = c.before.before.before.before
 
   abbrev count : ℕ
-  count = c.before.before.found2.given.0.0
+  count = c.in-Suspect.count
 
   fits : (start.args.list < 1000) × (count ≤ length start.args.cycle.now) × (count ≤ 64)
-  fits = subst (λ r. Printable r start.args.list start.args.cycle.now) c.before.before.found2.given.1 start.pre.1
+  fits = subst (λ r. Printable r start.args.list start.args.cycle.now) c.in-Suspect.is start.requires.1
 
-suspect-line-requires : tie.Need-suspect-line-requires
+suspect-line-requires : tie.Need-suspect_line-requires
 suspect-line-requires c κs =
     let f = fits c.before in
-    omega (arith, (start c.before).pre.0, f.0, length-take-le (count c.before) (start c.before).args.cycle.now f.1, f.2)
+    omega (arith, (start c.before).requires.0, f.0, length-take-le (count c.before) (start c.before).args.cycle.now f.1, f.2)
 
-returns : tie.Need-returns
-returns c = rw c.before.before.before.before.before.found.given.1 c.before.before.stable-line.ensures
+returns : tie.Need-returns-in-Stable
+returns c = rw c.in-Stable.is c.stable_line.ensures
 
-returns-2 : tie.Need-returns-2
+returns-2 : tie.Need-returns-in-Suspect
 returns-2 c =
-    let known = c.before.before.before.before.before.before.found2.given in
-    let whole : known.0.0 ≡ known.0.0 - 0 = omega arith in
-    rw (known.1, whole) c.before.before.suspect-line.ensures
+    let known = c.in-Suspect in
+    let whole : known.count ≡ known.count - 0 = omega arith in
+    rw (known.is, whole) c.suspect_line.ensures
 
-pub found-line-spec : {M : Type 1} → statement M
-found-line-spec =
+pub found_line_spec : {M : Type 1} → statement M
+found_line_spec =
     tie.close
     (tie.spec
     (λ c. search rules)

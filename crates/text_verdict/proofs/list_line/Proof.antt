@@ -13,34 +13,34 @@ use Rattle.text_verdict.proofs.list_line.Statement.{statement}
 use Rattle.text_verdict.proofs.list_line.Tie as tie
 
 -- where the call starts, and where the plan was read, from before the assessment
-abbrev start : tie.After-cycle → tie.Start
+abbrev start : tie.After-cycle-1 → tie.Start
 start c = c.before.before.before.before.before.before.before.before.before.before
 
-abbrev read : tie.After-cycle → tie.After-part
+abbrev read : tie.After-cycle-1 → tie.After-part-distances
 read c = c.before.before.before.before.before
 
-assess-requires : tie.Need-assess-requires
+assess-requires : tie.Need-assess-found-requires
 assess-requires c κs =
-    let o = opened-over (read c).before.open-plan.ensures (read c).part.ensures.bytes in
+    let o = opened-over (read c).open_plan-net.ensures (read c).part-distances.ensures.bytes in
     let few = few-routers _ (start c).requires.1.ok in
     (o.formed, omega (arith, o.count), omega (arith, o.count), omega (arith, o.count), omega (arith, o.count))
 
-says : (c : tie.After-cycle3) →
+says : (c : tie.After-cycle-3-1) →
     let f = c.before.before.before.before.before.before in
     let a = (start f.before).args in
-    let cycle = f.assess.new.1.1.1.1.1.1.0 in
-    Printable f.assess.result a.list cycle × (found_line f.assess.result a.list cycle ≡ list_line a.plan.now a.list)
+    let cycle = f.assess-found.new.cycle in
+    Printable f.assess-found.result a.list cycle × (found_line f.assess-found.result a.list cycle ≡ list_line a.plan.now a.list)
 says c =
     let found = c.before.before.before.before.before.before in
     let asked = (start found.before).requires in
     let d = read found.before in
-    let cycle = found.assess.new.1.1.1.1.1.1.0 in
+    let cycle = found.assess-found.new.cycle in
     let long : length cycle ≡ 64 = search rules in
-    let assessed = rw (opened-over d.before.open-plan.ensures d.part.ensures.bytes).same at found.assess.ensures in
+    let assessed = rw (opened-over d.open_plan-net.ensures d.part-distances.ensures.bytes).same at found.assess-found.ensures in
     found-says _ asked.1.ok _ asked.2 _ cycle assessed.verdict assessed.cycled (omega arith)
 
-pub list-line-spec : {M : Type 1} → statement M
-list-line-spec =
+pub list_line_spec : {M : Type 1} → statement M
+list_line_spec =
     tie.close
     (tie.spec
     (λ c κs. search rules)
@@ -53,4 +53,4 @@ list-line-spec =
     (λ c. search rules)
     (λ c κs. ((start c.before.before.before.before.before.before.before).requires.0, (says c).0))
     (λ c. search rules)
-    (λ c. put_as c.before.before.found-line.ensures (says c.before.before.before).1 (omega arith)))
+    (λ c. put_as c.found_line.ensures (says c.before.before.before).1 (omega arith)))

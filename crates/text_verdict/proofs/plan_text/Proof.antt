@@ -8,27 +8,27 @@ use Rattle.text_verdict.proofs.plan_text.Statement.{statement}
 use Rattle.text_verdict.proofs.plan_text.Tie as tie
 
 -- the plan passes
-given : (c : tie.Else1) → let d = c.before in Accepted d.before.before.before.args.plan.now d.check.result
-given c = let r = c.before.check.ensures in r.accepted (sym r.number ∙ c.if1.false)
+given : (c : tie.Else-refused-ne0) → let d = c in Accepted d.args.plan.now d.check-checked.result
+given c = let r = c.check-checked.ensures in r.accepted (sym r.number ∙ c.if-refused-ne0.false)
 
-returns : tie.Need-returns
+returns : tie.Need-returns-then-refused-ne0
 returns c =
-    let e = c.before.before.before.before in
-    at_front c.before.before.refused-line.ensures (text-refused _ _ e.before.check.ensures.number e.if1.true)
+    let e = c in
+    at_front c.refused_line.ensures (text-refused _ _ e.check-checked.ensures.number e.if-refused-ne0.true)
 
-list-lines-requires : tie.Need-list-lines-requires
+list-lines-requires : tie.Need-list_lines-requires
 list-lines-requires c κs =
     let a = given c.before.before.before.before.before.before.before in
     let m = few a in
     (omega arith, a, omega arith)
 
-returns-2 : tie.Need-returns-2
+returns-2 : tie.Need-returns
 returns-2 c =
     let first = c.before.before.before.before.before.before in
-    at_front (put_then first.head-line.ensures c.before.before.list-lines.ensures) (text-given (given first.before.before.before.before))
+    at_front (put_then first.head_line-next.ensures c.list_lines.ensures) (text-given (given first.before.before.before.before))
 
-pub plan-text-spec : {M : Type 1} → statement M
-plan-text-spec =
+pub plan_text_spec : {M : Type 1} → statement M
+plan_text_spec =
     tie.close
     (tie.spec
     (λ c κs. search rules)

@@ -5,11 +5,11 @@ use Rattle.call_verdict.specs.Verdict.{answer_of}
 use Rattle.call_verdict.proofs.verdict.answer.Statement.{statement}
 use Rattle.call_verdict.proofs.verdict.answer.Tie as tie
 
-pub answer-spec : {M : Type 1} → statement M
-answer-spec =
+pub answer_spec : {M : Type 1} → statement M
+answer_spec =
     tie.close
     (tie.spec
     (λ c. search rules)
     (λ c. search rules)
-    (λ c. sym (ap answer_of c.before.found.given.1))
-    (λ c. sym (ap answer_of c.before.found2.given.1)))
+    (λ c. sym (ap answer_of c.in-Stable.is))
+    (λ c. sym (ap answer_of c.in-Suspect.is)))
