@@ -10,7 +10,7 @@ use Rattle.call_steady.proofs.steady.list_steady.Tie as tie
 abbrev marked : tie.In-Marked → tie.After-steady_set-found
 marked c = c.before
 
-small : (c : tie.In-Marked) → c.found.given.0.0 ≤ 4096
+small : (c : tie.In-Marked) → c.in-Marked.count ≤ 4096
 small c = set-small _ _ _ (marked c).steady_set-found.ensures _ c.in-Marked.is
 
 returns : tie.Need-returns-in_default
