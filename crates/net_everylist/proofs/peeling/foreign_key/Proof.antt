@@ -10,36 +10,36 @@ use Rattle.net_rules.specs.Decoded.{decoded}
 use Rattle.net_everylist.proofs.peeling.foreign_key.Statement.{statement}
 use Rattle.net_everylist.proofs.peeling.foreign_key.Tie as tie
 
-module _ (c : tie.After-without) where
+module _ (c : tie.After-without-heard) where
   abbrev start : tie.Start
-  start = c.before.before.before.before.before
+  start = c.before.before.before.before.before.before
 
-  below : WordBelow c.without.result start.args.net.n
+  below : WordBelow c.without-heard.result start.args.net.n
   below =
       let a = start.args in
-      heard-below a.net a.rows.now a.distances.now start.pre.0 a.w a.left.now start.pre.2 _ _ c.before.joined.ensures
-      c.without.ensures
+      heard-below a.net a.rows.now a.distances.now start.requires.0 a.w a.left.now start.requires.2 _ _ c.joined.ensures
+      c.without-heard.ensures
 
   foreign : let a = start.args in
-      (e : ℕ) → is_in c.without.result e ≡ foreign_among (decoded a.net a.rows.now a.distances.now) (pair_in a.left.now) a.w e
+      (e : ℕ) → is_in c.without-heard.result e ≡ foreign_among (decoded a.net a.rows.now a.distances.now) (pair_in a.left.now) a.w e
   foreign =
       let a = start.args in
-      heard-is a.net a.rows.now a.distances.now start.pre.0 a.w a.left.now start.pre.2 _ _ c.before.joined.ensures
-      c.without.ensures
+      heard-is a.net a.rows.now a.distances.now start.requires.0 a.w a.left.now start.requires.2 _ _ c.joined.ensures
+      c.without-heard.ensures
 
 returns : tie.Need-returns
 returns c =
     let k = c.before in
-    rw k.no_key.ensures.0 at (least-cong _ _ _ _ _ _ (foreign k.before) c.least-key.ensures)
+    rw k.no_key.ensures.0 at (least-cong _ _ _ _ _ _ (foreign k.before) c.least_key.ensures)
 
-pub foreign-key-spec : {M : Type 1} → statement M
-foreign-key-spec =
+pub foreign_key_spec : {M : Type 1} → statement M
+foreign_key_spec =
     tie.close
     (tie.spec
     (λ c. search rules)
     (λ c. search rules)
-    (λ c κs. let d = c.before.before.before in let a = d.args in (d.requires.0.count, near-below a.net a.rows.now a.distances.now d.requires.0 a.w))
+    (λ c κs. let d = c in let a = d.args in (d.requires.0.count, near-below a.net a.rows.now a.distances.now d.requires.0 a.w))
     (λ c κs. search rules)
-    (λ c κs. c.before.before.before.before.before.requires.0.pairs.bytes)
+    (λ c κs. c.requires.0.pairs.bytes)
     (λ c κs. let b = c.before in let p = (start b).requires in (p.1, p.0.count, p.0.pairs, below b))
     returns)

@@ -6,32 +6,32 @@ use Rattle.net_everylist.proofs.Words.{Joining, joining-start, joining-below, jo
 use Rattle.net_everylist.proofs.peeling.joined.Statement.{statement}
 use Rattle.net_everylist.proofs.peeling.joined.Tie as tie
 
-abbrev invariant-loop : tie.invariant-loop
-invariant-loop left n reflectors found₀ unseen₀ found unseen = Joining left reflectors n found unseen
+abbrev invariant-loop-unseen : tie.invariant-loop-unseen
+invariant-loop-unseen left n reflectors found₀ unseen₀ found unseen = Joining left reflectors n found unseen
 
-abbrev decreases-loop : tie.decreases-loop
-decreases-loop left n reflectors found₀ unseen₀ found unseen = unseen
+abbrev decreases-loop-unseen : tie.decreases-loop-unseen
+decreases-loop-unseen left n reflectors found₀ unseen₀ found unseen = unseen
 
-loop-again : tie.Need-loop-preserved invariant-loop decreases-loop
+loop-again : tie.Need-loop-unseen-preserved invariant-loop-unseen decreases-loop-unseen
 loop-again c =
-    let v = c.before.before in
-    let d = v.before.before.before in
-    let low = v.lowest-bit.ensures.0 in
-    joining-more d.args.left.now d.args.reflectors d.args.n d.requires.1 _ _ v.before.before.loop.invariant _ low _ (c.without-lowest.ensures.1 _ low)
+    let v = c in
+    let d = c in
+    let low = v.lowest_bit-v.ensures.0 in
+    joining-more d.args.left.now d.args.reflectors d.args.n d.requires.1 _ _ v.loop-unseen.invariant _ low _ (c.without_lowest-unseen.ensures.1 _ low)
 
-pub joined-spec : {M : Type 1} → statement M
-joined-spec =
+pub joined_spec : {M : Type 1} → statement M
+joined_spec =
     tie.close
     (tie.spec
-    invariant-loop
-    decreases-loop
+    invariant-loop-unseen
+    decreases-loop-unseen
     (λ c. joining-start c.args.left.now c.args.reflectors c.args.n)
     (λ c κs. search rules)
     (λ c. search rules)
     (λ c. search rules)
     (λ c κs. search rules)
-    (λ c. c.without-lowest.ensures.0)
+    (λ c. c.without_lowest-unseen.ensures.0)
     loop-again
     (λ c.
-    let d = c.before.before in
-    joining-done d.args.left.now d.args.reflectors d.args.n d.requires.1 _ _ c.before.loop.invariant c.loop-test.false))
+    let d = c in
+    joining-done d.args.left.now d.args.reflectors d.args.n d.requires.1 _ _ c.loop-unseen.invariant c.loop-unseen-test.false))

@@ -13,25 +13,25 @@ use Rattle.net_everylist.proofs.Words.{is_in}
 use Rattle.net_everylist.proofs.peeling.lost.Statement.{statement}
 use Rattle.net_everylist.proofs.peeling.lost.Tie as tie
 
-returns : tie.Need-returns
+returns : tie.Need-returns-then-row-eq0
 returns c e =
-    let a = c.before.before.before.args in
+    let a = c.args in
     let I = decoded a.net a.rows.now a.distances.now in
-    bit-none e ∙ sym (ap (λ b. b && not (leads_among I (pair_in a.left.now) a.w e)) (ap (λ x. is_in x e) c.if1.true ∙ bit-none e))
+    bit-none e ∙ sym (ap (λ b. b && not (leads_among I (pair_in a.left.now) a.w e)) (ap (λ x. is_in x e) c.if-row-eq0.true ∙ bit-none e))
 
-returns-2 : tie.Need-returns-2
+returns-2 : tie.Need-returns
 returns-2 c e =
-    let k = c.before in
-    let s = k.before.before.before in
-    let d = s.before in
+    let k = c in
+    let s = c in
+    let d = c in
     let a = d.args in
-    c.upto-key.ensures e
+    c.upto_key.ensures e
     ∙ row-lost (decoded a.net a.rows.now a.distances.now) a.left.now d.requires.2 d.requires.0.count a.net.width a.distances.now
-    (measured a.net a.rows.now a.distances.now) d.requires.0.pairs.bytes (λ i. omega (arith, s.shared-slice-known.given i)) a.w _
-    k.foreign-key.ensures e
+    (measured a.net a.rows.now a.distances.now) d.requires.0.pairs.bytes (λ i. omega (arith, s.shared_slice_known-1.given i)) a.w _
+    k.foreign_key-nearest.ensures e
 
-pub lost-spec : {M : Type 1} → statement M
-lost-spec =
+pub lost_spec : {M : Type 1} → statement M
+lost_spec =
     tie.close
     (tie.spec
     (λ c. search rules)
@@ -39,7 +39,7 @@ lost-spec =
     returns
     (λ c κs. search rules)
     (λ c κs.
-    let d = c.before.before.before.before in
+    let d = c in
     let p = d.requires in
     (p.1, p.0.count, p.0.pairs, λ e h. (p.2.pairs d.args.w e (eq-eqb _ 1 h)).1))
     returns-2)

@@ -5,10 +5,10 @@ use Rattle.plan_rules.proofs.Widths.{highest-above}
 use Rattle.net_everylist.proofs.peeling.no_key.Statement.{statement}
 use Rattle.net_everylist.proofs.peeling.no_key.Tie as tie
 
-pub no-key-spec : {M : Type 1} → statement M
-no-key-spec =
+pub no_key_spec : {M : Type 1} → statement M
+no_key_spec =
     tie.close
     (tie.spec
     (λ c κs. search rules)
     (λ c. search rules)
-    (λ c. let p = c.before.requires in (omega (arith, c.highest.ensures.0), omega (arith, c.highest.ensures.0, highest-above _ p))))
+    (λ c. let p = c.requires in (omega (arith, c.highest.ensures.0), omega (arith, c.highest.ensures.0, highest-above _ p))))

@@ -7,38 +7,38 @@ use Rattle.net_everylist.proofs.Rows.{own-none, clients-below, own_is}
 use Rattle.net_everylist.proofs.peeling.own_clients.Statement.{statement}
 use Rattle.net_everylist.proofs.peeling.own_clients.Tie as tie
 
-returns : tie.Need-returns
+returns : tie.Need-returns-then-not-has_bit
 returns c e =
-    let b = c.before in
-    let d = b.before.before.before in
+    let b = c in
+    let d = c in
     let a = d.args in
     bit-none e
-    ∙ sym (own-none a.net a.rows.now a.distances.now d.requires.0 a.w _ b.before.without.ensures (denied _ b.has-bit.ensures c.if1.true) e)
+    ∙ sym (own-none a.net a.rows.now a.distances.now d.requires.0 a.w _ b.without.ensures (denied _ b.has_bit.ensures c.if-not-has_bit.true) e)
 
-upto-key-requires : tie.Need-upto-key-requires
+upto-key-requires : tie.Need-upto_key-requires
 upto-key-requires c κs =
-    let t = c.before in
-    let b = t.before.before.before in
-    let d = b.before.before.before in
+    let t = c in
+    let b = c in
+    let d = c in
     let a = d.args in
     let p = d.requires in
-    (p.1, p.0.count, p.0.pairs, clients-below a.net a.rows.now a.distances.now p.0 a.w _ b.before.without.ensures _ t.without2.ensures)
+    (p.1, p.0.count, p.0.pairs, clients-below a.net a.rows.now a.distances.now p.0 a.w _ b.without.ensures _ t.without-clients.ensures)
 
-returns-2 : tie.Need-returns-2
+returns-2 : tie.Need-returns
 returns-2 c e =
-    let k = c.before in
-    let t = k.before in
-    let b = t.before.before.before in
-    let s = b.before.before in
-    let d = s.before in
+    let k = c in
+    let t = c in
+    let b = c in
+    let s = c in
+    let d = c in
     let a = d.args in
-    c.upto-key.ensures e
-    ∙ own_is a.net a.rows.now a.distances.now d.requires.0 a.w _ b.before.without.ensures _ t.without2.ensures
-    (λ i. omega (arith, s.shared-slice-known.given i)) (granted _ b.has-bit.ensures t.before.before.if1.false) _ (omega (arith, k.no_key.ensures.0))
+    c.upto_key.ensures e
+    ∙ own_is a.net a.rows.now a.distances.now d.requires.0 a.w _ b.without.ensures _ t.without-clients.ensures
+    (λ i. omega (arith, s.shared_slice_known-1.given i)) (granted _ b.has_bit.ensures t.if-not-has_bit.false) _ (omega (arith, k.no_key.ensures.0))
     (omega (arith, k.no_key.ensures)) e
 
-pub own-clients-spec : {M : Type 1} → statement M
-own-clients-spec =
+pub own_clients_spec : {M : Type 1} → statement M
+own_clients_spec =
     tie.close
     (tie.spec
     (λ c κs. search rules)

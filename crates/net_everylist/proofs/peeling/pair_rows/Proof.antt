@@ -8,18 +8,18 @@ use Rattle.net_everylist.proofs.Passes.{Filled, filled-start, filled_more, fille
 use Rattle.net_everylist.proofs.peeling.pair_rows.Statement.{statement}
 use Rattle.net_everylist.proofs.peeling.pair_rows.Tie as tie
 
-abbrev invariant-loop : tie.invariant-loop
-invariant-loop net rows distances left₀ n w₀ left w = Filled (decoded net rows distances) w left
+abbrev invariant-loop-w : tie.invariant-loop-w
+invariant-loop-w net rows distances left₀ n w₀ left w = Filled (decoded net rows distances) w left
 
-abbrev decreases-loop : tie.decreases-loop
-decreases-loop net rows distances left₀ n w₀ left w = n - w
+abbrev decreases-loop-w : tie.decreases-loop-w
+decreases-loop-w net rows distances left₀ n w₀ left w = n - w
 
-pub pair-rows-spec : {M : Type 1} → statement M
-pair-rows-spec =
+pub pair_rows_spec : {M : Type 1} → statement M
+pair_rows_spec =
     tie.close
     (tie.spec
-    invariant-loop
-    decreases-loop
+    invariant-loop-w
+    decreases-loop-w
     (λ c. let d = c.before in rw d.requires.1 (filled-start _))
     (λ c κs. search rules)
     (λ c. search rules)
@@ -28,7 +28,7 @@ pair-rows-spec =
     (λ c. search rules)
     (λ c.
     let d = c.before.before.before.before in
-    filled_more _ _ _ _ d.requires.0.count c.before.loop-test.true c.before.before.loop.invariant c.own-clients.ensures)
+    filled_more _ _ _ _ d.requires.0.count c.loop-w-test.true c.loop-w.invariant c.own_clients.ensures)
     (λ c.
     let d = c.before.before.before in
-    filled-done _ _ _ c.loop-test.false (λ w v h. d.requires.0.neighbours w v (eqb-true _ 1 h)) c.before.loop.invariant))
+    filled-done _ _ _ c.loop-w-test.false (λ w v h. d.requires.0.neighbours w v (eqb-true _ 1 h)) c.loop-w.invariant))

@@ -7,27 +7,27 @@ use Rattle.net_everylist.proofs.Passes.{Passing, passing-start, passing-more, pa
 use Rattle.net_everylist.proofs.peeling.pass.Statement.{statement}
 use Rattle.net_everylist.proofs.peeling.pass.Tie as tie
 
-abbrev invariant-loop : tie.invariant-loop
-invariant-loop net rows distances left₀ n taken₀ w₀ left taken w = Passing (decoded net rows distances) left₀ left taken w
+abbrev invariant-loop-w : tie.invariant-loop-w
+invariant-loop-w net rows distances left₀ n taken₀ w₀ left taken w = Passing (decoded net rows distances) left₀ left taken w
 
-abbrev decreases-loop : tie.decreases-loop
-decreases-loop net rows distances left₀ n taken₀ w₀ left taken w = n - w
+abbrev decreases-loop-w : tie.decreases-loop-w
+decreases-loop-w net rows distances left₀ n taken₀ w₀ left taken w = n - w
 
-loop-again : tie.Need-loop-preserved invariant-loop decreases-loop
+loop-again : tie.Need-loop-w-preserved invariant-loop-w decreases-loop-w
 loop-again c =
-    let l = c.before.before in
-    let t = l.before.before in
-    let d = t.before.before.before in
-    passing-more _ d.requires.0.count _ _ _ _ _ _ t.before.loop.invariant t.loop-test.true l.lost.ensures c.without.ensures
+    let l = c in
+    let t = c in
+    let d = c in
+    passing-more _ d.requires.0.count _ _ _ _ _ _ t.loop-w.invariant t.loop-w-test.true l.lost-gone.ensures c.without.ensures
 
 pub pass_spec : {M : Type 1} → statement M
 pass_spec =
     tie.close
     (tie.spec
-    invariant-loop
-    decreases-loop
+    invariant-loop-w
+    decreases-loop-w
     (λ c. let d = c.before in passing-start _ d.requires.0.count _ d.requires.1)
-    (λ c κs. let t = c.before in let d = t.before.before.before in (d.requires.0, t.loop-test.true, t.before.loop.invariant.within))
+    (λ c κs. let t = c in let d = c in (d.requires.0, t.loop-w-test.true, t.loop-w.invariant.within))
     (λ c. search rules)
     (λ c. search rules)
     (λ c κs. search rules)
@@ -38,4 +38,4 @@ pass_spec =
     loop-again
     (λ c.
     let d = c.before.before.before in
-    passing-done _ d.requires.0.count _ _ _ _ c.before.loop.invariant d.requires.1 c.loop-test.false))
+    passing-done _ d.requires.0.count _ _ _ _ c.loop-w.invariant d.requires.1 c.loop-w-test.false))

@@ -8,23 +8,23 @@ use Rattle.net_everylist.proofs.Passes.{Peeled, peeled-start, peeled-more, peele
 use Rattle.net_everylist.proofs.peeling.peel.Statement.{statement}
 use Rattle.net_everylist.proofs.peeling.peel.Tie as tie
 
-abbrev invariant-loop : tie.invariant-loop
-invariant-loop net rows distances left₀ left = Peeled (decoded net rows distances) left
+abbrev invariant-loop-net : tie.invariant-loop-net
+invariant-loop-net net rows distances left₀ left = Peeled (decoded net rows distances) left
 
-abbrev decreases-loop : tie.decreases-loop
-decreases-loop net rows distances left₀ left = pairs_in (pair_in left) 64 64
+abbrev decreases-loop-net : tie.decreases-loop-net
+decreases-loop-net net rows distances left₀ left = pairs_in (pair_in left) 64 64
 
-pub peel-spec : {M : Type 1} → statement M
-peel-spec =
+pub peel_spec : {M : Type 1} → statement M
+peel_spec =
     tie.close
     (tie.spec
-    invariant-loop
-    decreases-loop
-    (λ c. peeled-start _ _ c.before.requires.1)
-    (λ c κs. (c.before.before.before.requires.0, c.before.loop.invariant.within))
+    invariant-loop-net
+    decreases-loop-net
+    (λ c. peeled-start _ _ c.requires.1)
+    (λ c κs. (c.requires.0, c.loop-net.invariant.within))
     (λ c.
     let p = c.before in
-    let o = p.pass.ensures in
-    peeled-done _ _ (peeled-more _ _ _ _ p.before.before.loop.invariant o) (o.still c.if1.true))
-    (λ c. c.before.pass.ensures.fewer (omega (arith, c.if1.false)))
-    (λ c. let p = c.before in peeled-more _ _ _ _ p.before.before.loop.invariant p.pass.ensures))
+    let o = p.pass-taken.ensures in
+    peeled-done _ _ (peeled-more _ _ _ _ p.loop-net.invariant o) (o.still c.if-taken-eq0.true))
+    (λ c. c.pass-taken.ensures.fewer (omega (arith, c.if-taken-eq0.false)))
+    (λ c. let p = c.before in peeled-more _ _ _ _ p.loop-net.invariant p.pass-taken.ensures))

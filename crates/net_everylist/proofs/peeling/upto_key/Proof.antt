@@ -9,44 +9,44 @@ use Rattle.net_everylist.proofs.Words.{Picking, picking-start, picking-below, pi
 use Rattle.net_everylist.proofs.peeling.upto_key.Statement.{statement}
 use Rattle.net_everylist.proofs.peeling.upto_key.Tie as tie
 
-abbrev invariant-loop : tie.invariant-loop
-invariant-loop distances width n w word bound found₀ left₀ found left = Picking (key_at width distances n w) word bound n found left
+abbrev invariant-loop-left : tie.invariant-loop-left
+invariant-loop-left distances width n w word bound found₀ left₀ found left = Picking (key_at width distances n w) word bound n found left
 
-abbrev decreases-loop : tie.decreases-loop
-decreases-loop distances width n w word bound found₀ left₀ found left = left
+abbrev decreases-loop-left : tie.decreases-loop-left
+decreases-loop-left distances width n w word bound found₀ left₀ found left = left
 
-below : (c : tie.After-lowest-bit invariant-loop decreases-loop) → c.lowest-bit.result < c.before.before.before.before.args.n
+below : (c : tie.After-lowest_bit-e invariant-loop-left decreases-loop-left) → c.lowest_bit-e.result < c.args.n
 below c =
-    let d = c.before.before.before.before in
+    let d = c in
     let a = d.args in
-    picking-below (key_at a.width a.distances.now a.n a.w) a.word a.bound a.n d.requires.3 _ _ c.before.before.loop.invariant _ c.lowest-bit.ensures.0
+    picking-below (key_at a.width a.distances.now a.n a.w) a.word a.bound a.n d.requires.3 _ _ c.loop-left.invariant _ c.lowest_bit-e.ensures.0
 
-loop-again : tie.Need-loop-preserved invariant-loop decreases-loop
+loop-again : tie.Need-loop-left-preserved invariant-loop-left decreases-loop-left
 loop-again c =
-    let b = c.before in
-    let k = b.before in
-    let v = k.before in
-    let d = v.before.before.before.before in
-    let low = v.lowest-bit.ensures.0 in
+    let b = c in
+    let k = c in
+    let v = c in
+    let d = c in
+    let low = v.lowest_bit-e.ensures.0 in
     let a = d.args in
-    rw b.with-bit-if.ensures
-    (picking-more (key_at a.width a.distances.now a.n a.w) a.word a.bound a.n d.requires.3 _ _ v.before.before.loop.invariant _ low _ (c.without-lowest.ensures.1 _ low) _
-    (ap (λ x. leb x a.bound) k.client-key.ensures))
+    rw b.with_bit_if-found.ensures
+    (picking-more (key_at a.width a.distances.now a.n a.w) a.word a.bound a.n d.requires.3 _ _ v.loop-left.invariant _ low _ (c.without_lowest-left.ensures.1 _ low) _
+    (ap (λ x. leb x a.bound) k.client_key.ensures))
 
-pub upto-key-spec : {M : Type 1} → statement M
-upto-key-spec =
+pub upto_key_spec : {M : Type 1} → statement M
+upto_key_spec =
     tie.close
     (tie.spec
-    invariant-loop
-    decreases-loop
-    (λ c. let a = c.before.args in picking-start (key_at a.width a.distances.now a.n a.w) a.word a.bound a.n)
+    invariant-loop-left
+    decreases-loop-left
+    (λ c. let a = c.args in picking-start (key_at a.width a.distances.now a.n a.w) a.word a.bound a.n)
     (λ c κs. search rules)
-    (λ c κs. let p = c.before.before.before.before.requires in (p.0, below c, p.1, p.2))
-    (λ c κs. omega (arith, below c.before, c.before.before.before.before.before.requires.1))
+    (λ c κs. let p = c.requires in (p.0, below c, p.1, p.2))
+    (λ c κs. omega (arith, below c.before, c.requires.1))
     (λ c κs. search rules)
-    (λ c. c.without-lowest.ensures.0)
+    (λ c. c.without_lowest-left.ensures.0)
     loop-again
     (λ c.
-    let d = c.before.before.before in
+    let d = c in
     let a = d.args in
-    picking-done (key_at a.width a.distances.now a.n a.w) a.word a.bound a.n d.requires.3 _ _ c.before.loop.invariant c.loop-test.false))
+    picking-done (key_at a.width a.distances.now a.n a.w) a.word a.bound a.n d.requires.3 _ _ c.loop-left.invariant c.loop-left-test.false))

@@ -17,54 +17,54 @@ use Rattle.net_everylist.proofs.walking.first_with.Tie as tie
 abbrev asked : List ℕ → (reflectors e v : ℕ) → ℕ
 asked left reflectors e v = flag (is_in reflectors v && pair_in left v e)
 
-abbrev invariant-loop : tie.invariant-loop
-invariant-loop left n reflectors e unseen₀ unseen = Seeking (asked left reflectors e) reflectors n unseen
+abbrev invariant-loop-unseen : tie.invariant-loop-unseen
+invariant-loop-unseen left n reflectors e unseen₀ unseen = Seeking (asked left reflectors e) reflectors n unseen
 
-abbrev decreases-loop : tie.decreases-loop
-decreases-loop left n reflectors e unseen₀ unseen = unseen
+abbrev decreases-loop-unseen : tie.decreases-loop-unseen
+decreases-loop-unseen left n reflectors e unseen₀ unseen = unseen
 
-module _ (c : tie.After-lowest-bit invariant-loop decreases-loop) where
-  abbrev start : tie.Start invariant-loop decreases-loop
+module _ (c : tie.After-lowest_bit-v invariant-loop-unseen decreases-loop-unseen) where
+  abbrev start : tie.Start invariant-loop-unseen decreases-loop-unseen
   start = c.before.before.before
 
   off : let a = start.args in (v : ℕ) → bit_n a.reflectors v ≡ 0 → asked a.left.now a.reflectors a.e v ≡ 0
   off = with-off start.args.left.now start.args.reflectors start.args.e
 
-  below : c.lowest-bit.result < start.args.n
-  below = seeking-below _ _ _ off _ c.before.before.loop.invariant start.pre.2 _ c.lowest-bit.ensures.0
+  below : c.lowest_bit-v.result < start.args.n
+  below = seeking-below _ _ _ off _ c.loop-unseen.invariant start.requires.2 _ c.lowest_bit-v.ensures.0
 
-  visited : bit_n start.args.reflectors c.lowest-bit.result ≡ 1
-  visited = seeking-set _ _ _ off _ c.before.before.loop.invariant start.pre.2 _ c.lowest-bit.ensures.0
+  visited : bit_n start.args.reflectors c.lowest_bit-v.result ≡ 1
+  visited = seeking-set _ _ _ off _ c.loop-unseen.invariant start.requires.2 _ c.lowest_bit-v.ensures.0
 
-returns : tie.Need-returns invariant-loop decreases-loop
+returns : tie.Need-returns-then-has_bit invariant-loop-unseen decreases-loop-unseen
 returns c =
     let v = c.before.before.before in
-    seeking-hit _ _ _ (off v) _ v.before.before.loop.invariant (start v).requires.2 _ v.lowest-bit.ensures.0
-    (with-hit (start v).args.left.now (start v).args.reflectors (start v).args.e v.lowest-bit.result (visited v) (sym c.before.has-bit.ensures ∙ c.if1.true))
+    seeking-hit _ _ _ (off v.before) _ v.loop-unseen.invariant (start v.before).requires.2 _ v.lowest_bit-v.ensures.0
+    (with-hit (start v.before).args.left.now (start v.before).args.reflectors (start v.before).args.e v.lowest_bit-v.result (visited v.before) (sym c.has_bit.ensures ∙ c.if-has_bit.true))
 
-loop-again : tie.Need-loop-preserved invariant-loop decreases-loop
+loop-again : tie.Need-loop-unseen-preserved invariant-loop-unseen decreases-loop-unseen
 loop-again c =
-    let b = c.before.before in
-    let v = b.before.before in
-    let low = v.lowest-bit.ensures.0 in
-    seeking-more _ _ _ (off v) _ v.before.before.loop.invariant (start v).requires.2 _ low _ (c.without-lowest.ensures.1 _ low)
-    (with-miss (start v).args.left.now (start v).args.reflectors (start v).args.e v.lowest-bit.result (sym b.has-bit.ensures ∙ c.before.if1.false))
+    let b = c in
+    let v = c.before.before.before.before in
+    let low = v.lowest_bit-v.ensures.0 in
+    seeking-more _ _ _ (off v.before) _ v.loop-unseen.invariant (start v.before).requires.2 _ low _ (c.without_lowest-unseen.ensures.1 _ low)
+    (with-miss (start v.before).args.left.now (start v.before).args.reflectors (start v.before).args.e v.lowest_bit-v.result (sym b.has_bit.ensures ∙ c.if-has_bit.false))
 
-pub first-with-spec : {M : Type 1} → statement M
-first-with-spec =
+pub first_with_spec : {M : Type 1} → statement M
+first_with_spec =
     tie.close
     (tie.spec
-    invariant-loop
-    decreases-loop
+    invariant-loop-unseen
+    decreases-loop-unseen
     (λ c. seeking-start _ _ _)
     (λ c κs. search rules)
     (λ c. omega (arith, below c))
-    (λ c. omega (arith, below c))
+    (λ c. omega (arith, below c.before))
     (λ c κs. search rules)
     returns
     (λ c κs. search rules)
-    (λ c. c.without-lowest.ensures.0)
+    (λ c. c.without_lowest-unseen.ensures.0)
     loop-again
     (λ c.
-    let d = c.before.before in
-    seeking-miss _ _ _ (with-off d.args.left.now d.args.reflectors d.args.e) _ c.before.loop.invariant c.loop-test.false))
+    let d = c in
+    seeking-miss _ _ _ (with-off d.args.left.now d.args.reflectors d.args.e) _ c.loop-unseen.invariant c.loop-unseen-test.false))

@@ -21,22 +21,22 @@ some_left c = walk-some (network c) (omega (arith, c.requires.2, c.requires.3))
 returns : tie.Need-returns
 unfolding found
 returns c =
-    let k = c.before.before.before in
-    let s = k.before.before in
-    let d = s.before.before.before.before in
+    let k = c in
+    let s = c in
+    let d = c.before.before.before.before.before.before.before.before.before in
     let I : Instance = network d in
-    c.named.ensures I I.n s.steps.ensures (some_left d) (k.walked.ensures.1 I _ 0 s.steps.ensures (some_left d) d.requires.3 ∙ ap (walk I) (zero-add I.n))
+    c.named.ensures I I.n s.steps.ensures (some_left d) (k.walked-start.ensures.1 I _ 0 s.steps.ensures (some_left d) d.requires.3 ∙ ap (walk I) (zero-add I.n))
 
-pub found-list-spec : {M : Type 1} → statement M
-found-list-spec =
+pub found_list_spec : {M : Type 1} → statement M
+found_list_spec =
     tie.close
     (tie.spec
     (λ c κs. let d = c.before.before.before in (d.requires.0, d.requires.1, refl, refl))
     (λ c κs.
     let d = c.before.before.before.before.before in
-    (omega (arith, d.requires.2, d.requires.0.count), c.before.steps.ensures.small_nexts))
+    (omega (arith, d.requires.2, d.requires.0.count), c.steps.ensures.small_nexts))
     (λ c κs.
-    let k = c.before.before in
-    let s = k.before.before in
-    (k.walked.ensures.0, s.steps.ensures.small_clients, s.steps.ensures.small_nexts))
+    let k = c in
+    let s = c in
+    (k.walked-start.ensures.0, s.steps.ensures.small_clients, s.steps.ensures.small_nexts))
     returns)

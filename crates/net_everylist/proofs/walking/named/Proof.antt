@@ -21,16 +21,16 @@ record Named (I : Instance) (k i w word : ℕ) : Type 0 where
   at : w ≡ walk I (k + i)
   clients : (e : ℕ) → is_in word e ≡ any_below (λ j. is_router e (nearest_foreign I (walk I (k + j)))) i
 
-abbrev invariant-loop : tie.invariant-loop
-invariant-loop clients nexts start count word₀ w₀ i₀ word w i =
+abbrev invariant-loop-i : tie.invariant-loop-i
+invariant-loop-i clients nexts start count word₀ w₀ i₀ word w i =
     (i ≤ count)
     × (w < 64)
     × ((I : Instance) (k : ℕ) → Steps I clients nexts → any_below (has_left I) I.n ≡ true → start ≡ walk I k → Named I k i w word)
 
-abbrev decreases-loop : tie.decreases-loop
-decreases-loop clients nexts start count word₀ w₀ i₀ word w i = count - i
+abbrev decreases-loop-i : tie.decreases-loop-i
+decreases-loop-i clients nexts start count word₀ w₀ i₀ word w i = count - i
 
-loop-holds : tie.Need-loop-init invariant-loop decreases-loop
+loop-holds : tie.Need-loop-i-init invariant-loop-i decreases-loop-i
 loop-holds c = (
   omega arith,
   c.requires.0,
@@ -39,40 +39,40 @@ loop-holds c = (
       record { at = e ∙ sym (ap (walk I) z); clients = λ e. bit-none e ∙ sym (any_none (λ j. is_router e (nearest_foreign I (walk I (k + j))))) },
 )
 
-loop-again : tie.Need-loop-preserved invariant-loop decreases-loop
+loop-again : tie.Need-loop-i-preserved invariant-loop-i decreases-loop-i
 loop-again c =
-    let b = c.before.before in
-    let v = b.before in
-    let t = v.before.before in
-    let l = t.before in
-    let d = l.before in (
-      omega (arith, t.loop-test.true),
-      omega (arith, c.wide2.ensures.0, d.requires.2 l.loop.w),
+    let b = c in
+    let v = c in
+    let t = c in
+    let l = c in
+    let d = c in (
+      omega (arith, t.loop-i-test.true),
+      omega (arith, c.wide-w.ensures.0, d.requires.2 l.loop-i.w),
       λ I k s y e.
-          let so = l.loop.invariant.2 I k s y e in
+          let so = l.loop-i.invariant.2 I k s y e in
           record {
-            at = c.wide2.ensures.0 ∙ walk-next I _ _ s y _ k l.loop.i so.at;
-            clients = rw (b.with-bit.ensures, v.wide.ensures.0) (named_more I _ _ s y _ _ k l.loop.i so.at so.clients);
+            at = c.wide-w.ensures.0 ∙ walk-next I _ _ s y _ k l.loop-i.i so.at;
+            clients = rw (b.with_bit-word.ensures, v.wide.ensures.0) (named_more I _ _ s y _ _ k l.loop-i.i so.at so.clients);
           },
     )
 
-returns : tie.Need-returns invariant-loop decreases-loop
+returns : tie.Need-returns invariant-loop-i decreases-loop-i
 returns c I k s y at e =
-    let inv = c.before.loop.invariant in
-    let d = c.before.before in
-    let z : c.before.loop.i ≡ d.args.count = omega (arith, inv.0, c.loop-test.false) in
+    let inv = c.loop-i.invariant in
+    let d = c in
+    let z : c.loop-i.i ≡ d.args.count = omega (arith, inv.0, c.loop-i-test.false) in
     (inv.2 I k s y at).clients e ∙ ap (any_below (λ j. is_router e (nearest_foreign I (walk I (k + j))))) z
 
-pub named-spec : {M : Type 1} → statement M
-named-spec =
+pub named_spec : {M : Type 1} → statement M
+named_spec =
     tie.close
     (tie.spec
-    invariant-loop
-    decreases-loop
+    invariant-loop-i
+    decreases-loop-i
     loop-holds
     (λ c. search rules)
     (λ c κs. search rules)
-    (λ c κs. let l = c.before.before.before in omega (arith, c.wide.ensures.0, l.before.requires.1 l.loop.w))
+    (λ c κs. let l = c in omega (arith, c.wide.ensures.0, l.requires.1 l.loop-i.w))
     (λ c. search rules)
     (λ c κs. search rules)
     (λ c. search rules)

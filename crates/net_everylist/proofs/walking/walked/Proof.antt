@@ -13,43 +13,43 @@ use Rattle.net_everylist.proofs.Stepping.{walk-next}
 use Rattle.net_everylist.proofs.walking.walked.Statement.{statement}
 use Rattle.net_everylist.proofs.walking.walked.Tie as tie
 
-abbrev invariant-loop : tie.invariant-loop
-invariant-loop nexts start count w₀ i₀ w i =
+abbrev invariant-loop-i : tie.invariant-loop-i
+invariant-loop-i nexts start count w₀ i₀ w i =
     (i ≤ count)
     × (w < 64)
     × ((I : Instance) (clients : List ℕ) (k : ℕ) → Steps I clients nexts → any_below (has_left I) I.n ≡ true → start ≡ walk I k → w ≡ walk I (k + i))
 
-abbrev decreases-loop : tie.decreases-loop
-decreases-loop nexts start count w₀ i₀ w i = count - i
+abbrev decreases-loop-i : tie.decreases-loop-i
+decreases-loop-i nexts start count w₀ i₀ w i = count - i
 
-loop-holds : tie.Need-loop-init invariant-loop decreases-loop
+loop-holds : tie.Need-loop-i-init invariant-loop-i decreases-loop-i
 loop-holds c = (
   omega arith,
   c.requires.0,
   λ I clients k s y e. let z : k + 0 ≡ k = omega arith in e ∙ sym (ap (walk I) z),
 )
 
-loop-again : tie.Need-loop-preserved invariant-loop decreases-loop
+loop-again : tie.Need-loop-i-preserved invariant-loop-i decreases-loop-i
 loop-again c =
-    let t = c.before.before in
-    let inv = t.before.loop.invariant in
-    let d = t.before.before in (
-      omega (arith, t.loop-test.true),
-      omega (arith, c.wide.ensures.0, d.requires.1 t.before.loop.w),
-      λ I clients k s y e. c.wide.ensures.0 ∙ walk-next I clients _ s y _ k t.before.loop.i (inv.2 I clients k s y e),
+    let t = c in
+    let inv = t.loop-i.invariant in
+    let d = c in (
+      omega (arith, t.loop-i-test.true),
+      omega (arith, c.wide-w.ensures.0, d.requires.1 t.loop-i.w),
+      λ I clients k s y e. c.wide-w.ensures.0 ∙ walk-next I clients _ s y _ k t.loop-i.i (inv.2 I clients k s y e),
     )
 
-returns : tie.Need-returns invariant-loop decreases-loop
+returns : tie.Need-returns invariant-loop-i decreases-loop-i
 returns c =
-    let inv = c.before.loop.invariant in
-    let d = c.before.before in (
+    let inv = c.loop-i.invariant in
+    let d = c in (
       inv.1,
       λ I clients k s y e.
-          let z : c.before.loop.i ≡ d.args.count = omega (arith, inv.0, c.loop-test.false) in
+          let z : c.loop-i.i ≡ d.args.count = omega (arith, inv.0, c.loop-i-test.false) in
           inv.2 I clients k s y e ∙ ap (λ x. walk I (k + x)) z,
     )
 
-pub walked-spec : {M : Type 1} → statement M
-walked-spec =
+pub walked_spec : {M : Type 1} → statement M
+walked_spec =
     tie.close
-    (tie.spec invariant-loop decreases-loop loop-holds (λ c. search rules) (λ c κs. search rules) (λ c. search rules) (λ c. search rules) loop-again returns)
+    (tie.spec invariant-loop-i decreases-loop-i loop-holds (λ c. search rules) (λ c κs. search rules) (λ c. search rules) (λ c. search rules) loop-again returns)
