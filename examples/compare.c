@@ -1,7 +1,7 @@
 /* Compares the routes of two egress routers of a plan file at a router: compare FILE ROUTER FIRST SECOND FIRST_DIRECT SECOND_DIRECT.
  * The last two are 1 if that egress router itself tells its route, and 0 if a reflector passes it on.
  * Prints which is better, "first", "second" or "neither", and the distance to the first minus that to the second, or "none".
- * Build, at the root of the repository and after `rt staticlib rrp`:
+ * Build, at the root of the repository and after `./build library`:
  * gcc -O2 -Iinclude examples/compare.c -Ltarget/staticlib -lrrp -o target/compare */
 #include <inttypes.h>
 

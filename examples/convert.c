@@ -1,6 +1,6 @@
 /* Turns an RRP1 plan file into an RRP2 plan, or an RRP2 plan file into an RRP1 plan: convert FILE OUT.
  * Prints the mark and the length of what it wrote, or the refusal.
- * Build, at the root of the repository and after `rt staticlib rrp`:
+ * Build, at the root of the repository and after `./build library`:
  * gcc -O2 -Iinclude examples/convert.c -Ltarget/staticlib -lrrp -o target/convert */
 #include <string.h>
 

@@ -1,7 +1,7 @@
 /* Works out the distances of a plan from links: distances N [FILE].
  * Reads a link a line, FROM TO WEIGHT, from the file or from standard input, in the order that the library asks for: rising by FROM
  * and then by TO. Prints a line a router: its distance to each router, or "none" where it has no way.
- * Build, at the root of the repository and after `rt staticlib rrp`:
+ * Build, at the root of the repository and after `./build library`:
  * gcc -O2 -Iinclude examples/distances.c -Ltarget/staticlib -lrrp -o target/distances */
 #include "read_plan.h"
 

@@ -1,6 +1,6 @@
 /* Prints whether a plan file is stable for every egress list, whatever its own: every_list FILE.
  * If it is not, the router numbers of a list for which it is suspect, rising. Or the refusal.
- * Build, at the root of the repository and after `rt staticlib rrp`:
+ * Build, at the root of the repository and after `./build library`:
  * gcc -O2 -Iinclude examples/every_list.c -Ltarget/staticlib -lrrp -o target/every_list */
 #include "read_plan.h"
 

@@ -1,7 +1,7 @@
 /* Prints the figures over all lists of a plan file: figures FILE.
  * First how many lists are stable, how many suspect, and the highest rank among the stable ones; then how many stable lists had each
  * rank as their highest, and in how many lists each router was in a group of two or more, where that is not 0. Or the refusal.
- * Build, at the root of the repository and after `rt staticlib rrp`:
+ * Build, at the root of the repository and after `./build library`:
  * gcc -O2 -Iinclude examples/figures.c -Ltarget/staticlib -lrrp -o target/figures */
 #include "read_plan.h"
 

@@ -2,7 +2,7 @@
  * The list GONE names nobody. The routers hold what they settled on for the list BEFORE, but for its routers' own routes, and are
  * activated in the order of their numbers. Prints how many routes they hold after each round of those promised, the highest rank plus
  * two; or the refusal.
- * Build, at the root of the repository and after `rt staticlib rrp`:
+ * Build, at the root of the repository and after `./build library`:
  * gcc -O2 -Iinclude examples/flush.c -Ltarget/staticlib -lrrp -o target/flush */
 #include <string.h>
 

@@ -1,6 +1,6 @@
 /* Says whether the routers of a plan come to rest for a list, whatever the order in which they are activated: grade FILE LIST.
  * Prints the grade, in words and with the rounds for one that always rests; or the refusal.
- * Build, at the root of the repository and after `rt staticlib rrp`:
+ * Build, at the root of the repository and after `./build library`:
  * gcc -O2 -Iinclude examples/grade.c -Ltarget/staticlib -lrrp -o target/grade */
 #include "rrp.h"
 #include "read_plan.h"

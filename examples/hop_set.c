@@ -1,6 +1,6 @@
 /* Names a smallest set of routers that makes a plan stable for a list once they have the hop step: hop_set FILE LIST.
  * Prints the routers, `none` for a list that is stable; then the verdict of the plan in which they have it; or the refusal.
- * Build, at the root of the repository and after `rt staticlib rrp`:
+ * Build, at the root of the repository and after `./build library`:
  * gcc -O2 -Iinclude examples/hop_set.c -Ltarget/staticlib -lrrp -o target/hop_set */
 #include "grouped.h"
 #include "read_plan.h"

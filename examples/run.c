@@ -1,7 +1,7 @@
 /* Activates routers of a plan file one by one for a list, from a table of nothing: run FILE LIST LIMIT ROUTER..
  * Prints how many activations were applied, how many rounds ended among them and whether the sequence is longer than the limit, then
  * a line a router: the egress that it holds and from whom, or "nothing".
- * Build, at the root of the repository and after `rt staticlib rrp`:
+ * Build, at the root of the repository and after `./build library`:
  * gcc -O2 -Iinclude examples/run.c -Ltarget/staticlib -lrrp -o target/run */
 #include <inttypes.h>
 #include <string.h>

@@ -1,7 +1,7 @@
 /* Lists the tables of a plan for a list that no activation changes: steady FILE LIST.
  * Prints a line a table: its number and, of each router in a group of two or more, whether it holds its best client's own route (own)
  * or another (other). A stable list has one table, number 0, and no such router. Prints `none` if there is no such table; or the refusal.
- * Build, at the root of the repository and after `rt staticlib rrp`:
+ * Build, at the root of the repository and after `./build library`:
  * gcc -O2 -Iinclude examples/steady.c -Ltarget/staticlib -lrrp -o target/steady */
 #include "grouped.h"
 #include "read_plan.h"

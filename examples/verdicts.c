@@ -1,5 +1,5 @@
 /* Prints the verdicts of a plan file: verdicts FILE.
- * Build, at the root of the repository and after `rt staticlib rrp`:
+ * Build, at the root of the repository and after `./build library`:
  * gcc -O2 -Iinclude examples/verdicts.c -Ltarget/staticlib -lrrp -o target/verdicts */
 #include "read_plan.h"
 

@@ -1,5 +1,5 @@
 /* Says why one router relies on another for a list of a plan file, or does not: why FILE LIST ROUTER OTHER.
- * Build, at the root of the repository and after `rt staticlib rrp`:
+ * Build, at the root of the repository and after `./build library`:
  * gcc -O2 -Iinclude examples/why.c -Ltarget/staticlib -lrrp -o target/why */
 #include <inttypes.h>
 

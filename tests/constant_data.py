@@ -131,7 +131,8 @@ def long_arrays(sources):
 def product_sources(root):
     """The sources of the product's crates under the root of a repository."""
     lines = (line.split('#')[0] for line in (root / 'crates.txt').read_text().splitlines())
-    crates = {line.split(':')[0].strip() for line in lines if ':' in line} - TEST_PROGRAMS
+    # a static library has that word after its name
+    crates = {line.split(':')[0].split()[0] for line in lines if ':' in line} - TEST_PROGRAMS
     paths = (path for crate in sorted(crates) for path in sorted((root / 'crates' / crate / 'src').glob('**/*.rt')))
     return {str(path.relative_to(root)): path.read_text() for path in paths}
 

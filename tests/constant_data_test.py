@@ -87,8 +87,8 @@ def repository_cases():
     long = CASES['a const of 17'][0]
     with tempfile.TemporaryDirectory() as folder:
         root = Path(folder)
-        (root / 'crates.txt').write_text('# crates\nroles: base\ncases: roles\n')
-        for crate, text in (('roles', 'fn f() {}'), ('cases', long)):
+        (root / 'crates.txt').write_text('# crates\nroles: base\nfor_c staticlib: roles\ncases: roles\n')
+        for crate, text in (('roles', 'fn f() {}'), ('for_c', 'fn f() {}'), ('cases', long)):
             (root / 'crates' / crate / 'src').mkdir(parents=True)
             (root / 'crates' / crate / 'src' / 'lib.rt').write_text(text)
         yield 'a test program', constant_data.long_arrays(constant_data.product_sources(root)) == []
@@ -97,6 +97,10 @@ def repository_cases():
         found = constant_data.long_arrays(constant_data.product_sources(root))
         place = ('crates/roles/src/deep/table.rt', 2)
         yield 'a file of a module, with its line', [item[:2] for item in found] == [place]
+        (root / 'crates/roles/src/deep/table.rt').write_text('')
+        (root / 'crates/for_c/src/lib.rt').write_text(long)
+        found = constant_data.long_arrays(constant_data.product_sources(root))
+        yield 'a static library', [item[:2] for item in found] == [('crates/for_c/src/lib.rt', 1)]
 
 
 def main():

@@ -2,9 +2,9 @@
 """Finds the public functions with a `requires` that a caller reaches through the crates `checker` and `rrp`.
 
 The calls take any bytes and numbers, so none may have a precondition. Reached is what is public in src/lib.rt of the
-two crates: functions, methods, modules with all that is public in them, and what a `pub use` passes on, which is a
-function, a type with its methods, a module or a crate. Prints how many functions these are; if they are few, some are
-not found.
+two crates: functions, methods, modules with all that is public in them, and what a `pub use` passes on, alone or in a
+list, which is a function, a type with its methods, a module or a crate. Prints how many functions these are; if they are
+few, some are not found.
 """
 import re
 import sys
@@ -19,6 +19,7 @@ TYPE = re.compile(r'\bpub\s+(?:struct|enum|type|const)\s+(\w+)')
 MODULE = re.compile(r'\bpub\s+mod\s+(\w+)\s*;')
 USE = re.compile(r'\bpub\s+use\s+([^;]*);')
 PATH = re.compile(r'(\w+(?:::\w+)*)(?:\s+as\s+(\w+))?')
+LIST = re.compile(r'\s*((?:\w+::)+)\{([^{}]*)\}\s*')
 
 
 class NotFound(Exception):
@@ -41,8 +42,14 @@ def module_file(file, name):
     return folder / f'{name}.rt'
 
 
+def listed(use):
+    """The paths that a `pub use` names: of a list each, else the one."""
+    read = LIST.fullmatch(use)
+    return [read[1] + name.strip() for name in read[2].split(',') if name.strip()] if read else [use]
+
+
 def passed_on(crates, file, use):
-    """What a `pub use` in a file passes on: the name it gets, its file, and its name there, none for a crate."""
+    """What a path of a `pub use` in a file passes on: the name it gets, its file, and its name there, none for a crate."""
     read = PATH.fullmatch(use.strip())
     if not read:
         raise NotFound(f'pub use {use}')
@@ -61,7 +68,7 @@ def reached(crates, path, file, name=None):
         raise NotFound(path)
     text = COMMENT_OR_STRING.sub('', file.read_text())
     types, modules = TYPE.findall(text), MODULE.findall(text)
-    uses = [passed_on(crates, file, use) for use in USE.findall(text)]
+    uses = [passed_on(crates, file, path) for use in USE.findall(text) for path in listed(use)]
     free = {function for function, is_method, _ in functions(text) if not is_method}
     if name and name not in (*types, *modules, *free, *(known_as for known_as, _, _ in uses)):
         raise NotFound(path)

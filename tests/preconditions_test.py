@@ -10,8 +10,7 @@ import preconditions
 FILES = {
     'checker/src/lib.rt': '''
 // Every call. None has a `requires`.
-pub use query::check;
-pub use query::Answer;
+pub use query::{Answer, check};
 pub use tables as routing;
 pub use tables::rounds::count;
 pub mod extra;
@@ -24,20 +23,20 @@ impl Answer {
     pub fn is_yes(self) -> bool { true }
 
     fn kept(self) -> bool
-        requires { ⌜ self .entry ⌝ }
+        requires { IsTrue self.kept }
     { true }
 }
 
 pub fn check(plan: &[u8]) -> u8
-    ensures { λ r. ⌜ r ≡ 0 ⌝ }
+    ensures { result ≡ 0 }
 { helped(b'{', b"{") }
 
 fn helped(open: u8, close: &[u8]) -> u8
-    requires { ⌜ open < 9 ⌝ }
+    requires { open < 9 }
 { 0 }
 
 pub fn not_passed_on(x: u8) -> u8
-    requires { ⌜ x < 9 ⌝ }
+    requires { x < 9 }
 { x }
 ''',
     'tables/src/lib.rt': '''
@@ -55,30 +54,30 @@ pub fn run(x: u8) -> u8 { x }
 pub fn settle(x: u8) -> u8 { x }
 
 pub fn unseen(x: u8) -> u8
-    requires { ⌜ x < 9 ⌝ }
+    requires { x < 9 }
 { x }
 ''',
     'rrp/src/lib.rt': '''
-#[no_mangle]
+#[unsafe(no_mangle)]
 pub extern "C" fn rrp_check(plan: &[u8]) -> u8 { checker::check(plan) }
 
-#[no_mangle] pub extern "C" fn rrp_act(x: u8) -> u8 { x }
+#[unsafe(no_mangle)] pub extern "C" fn rrp_act(x: u8) -> u8 { x }
 
 pub(crate) fn own(x: u8) -> u8
-    requires { ⌜ x < 9 ⌝ }
+    requires { x < 9 }
 { x }
 ''',
 }
 REACHED = ['checker::Answer::is_yes', 'checker::check', 'checker::count', 'checker::extra::limit',
            'checker::routing::act', 'checker::routing::rounds::count', 'checker::routing::run',
            'checker::routing::settle', 'rrp::rrp_act', 'rrp::rrp_check']
-REQUIRES = '\n    requires { ⌜ true ⌝ }\n{'
+REQUIRES = '\n    requires { IsTrue true }\n{'
 
 # (what is wrong, the file, what is replaced in it, by what, what is said of it)
 CASES = [
     ('a requires of a function passed on', 'query/src/lib.rt', '\n{ helped(', REQUIRES + ' helped(',
      'checker::check has a requires (crates/query/src/lib.rt)'),
-    ('a requires before the ensures', 'query/src/lib.rt', '\n    ensures', '\n    requires {⌜ true ⌝}\n    ensures',
+    ('a requires before the ensures', 'query/src/lib.rt', '\n    ensures', '\n    requires {IsTrue true}\n    ensures',
      'checker::check has a requires (crates/query/src/lib.rt)'),
     ('a requires of the first function of a module passed on', 'tables/src/lib.rt', 'act(x: u8) -> u8 {',
      'act(x: u8) -> u8' + REQUIRES, 'checker::routing::act has a requires (crates/tables/src/lib.rt)'),
@@ -104,11 +103,13 @@ CASES = [
     ('a module that is not there', 'checker/src/lib.rt', 'mod extra', 'mod more', 'checker::more is not found'),
     ('a module on the way that is not there', 'checker/src/lib.rt', 'tables::rounds', 'tables::turns',
      'checker::count is not found'),
-    ('a list of names, which is not read', 'checker/src/lib.rt', 'query::check', 'query::{check, Answer}',
-     'pub use query::{check, Answer} is not found'),
-    ('all names, which are not read', 'checker/src/lib.rt', 'query::check', 'query::*',
+    ('a name of a list that is not there', 'checker/src/lib.rt', '{Answer, check}', '{Answer, check, lists}',
+     'checker::lists is not found'),
+    ('a list in a list, which is not read', 'checker/src/lib.rt', '{Answer, check}', '{Answer, calls::{check}}',
+     'pub use query::{Answer, calls::{check}} is not found'),
+    ('all names, which are not read', 'checker/src/lib.rt', 'query::{Answer, check}', 'query::*',
      'pub use query::* is not found'),
-    ('a function too few', 'rrp/src/lib.rt', '#[no_mangle] pub', '#[no_mangle]', 'only 9 public functions are found'),
+    ('a function too few', 'rrp/src/lib.rt', '#[unsafe(no_mangle)] pub', '#[unsafe(no_mangle)]', 'only 9 public functions are found'),
 ]
 
 

@@ -299,7 +299,7 @@ own_tests() {
 
 mkdir -p "$out"
 rm -f "$out/verdicts" "$out/compare" "$out/why" "$out/run" "$out/distances" "$out/convert" "$out/flush" "$out/steady" "$out/hop_set" "$out/grade" "$out/figures" "$out/every_list" "$out/stack"
-try "the library" rt staticlib rrp
+try "the library" ./build library
 try "the header as C99" gcc -std=c99 -pedantic -Wall -Wextra -Werror -Iinclude -fsyntax-only -x c include/rrp.h
 try "the header as C++" g++ -std=c++11 -pedantic -Wall -Wextra -Werror -Iinclude -fsyntax-only -x c++ include/rrp.h
 try "the C example" example verdicts
@@ -343,10 +343,10 @@ try "the stack of each call on the deepest plan" measures_deepest deepest
 try "the stack of each call on the deepest plan of RRP2" measures_deepest deepest-rrp2
 
 try "the stored texts of the verdict program from the second checker" stored_texts verdict
-try "the verdict program" rt check verdict
+try "the verdict program" ./build verdict
 try "the verdict program against the second checker" agrees verdict write
 try "the stored texts of the margin program from the second checker" stored_texts margin
-try "the margin program" rt check margin
+try "the margin program" ./build margin
 try "the margin program against the second checker" agrees margin ask
 try "the programs on inputs that come in parts" reads_in_parts
 

@@ -20,7 +20,7 @@ writes_expected() {
     "target/bin/$program" <"${inputs[0]}" | cmp - "$1.expected"
 }
 
-rt check "$program" || exit 1
+./build "$program" || exit 1
 files=("tests/$program"/*)
 for name in $(printf '%s\n' "${files[@]%.*}" | sort -u); do
     try "$(basename "$name")" writes_expected "$name"

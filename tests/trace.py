@@ -119,7 +119,7 @@ def rattle_contracts(text):
         at = closing(text, match.end() - 1)
         ensures = False
         # clauses, each a word, perhaps a name, and a block; the first block with no such word is the body
-        while clause := re.compile(r'(?:(requires|ensures)(?:\s+\w+)?)?\s*\{').search(text, at):
+        while clause := re.compile(r'(?:(requires|ensures)\*?(?:\s+\w+)?)?\s*\{').search(text, at):
             if clause[1] is None:
                 break
             ensures = ensures or clause[1] == 'ensures'

@@ -77,8 +77,8 @@ all-hold = refl
     'crates/code/src/step.rt': '''
 // fn wished() ensures { stands in this comment alone }
 pub fn step(x: u8) -> u8
-    requires { ⌜ x < 9 ⌝ }
-    ensures next { λ r. ⌜ Follows x r ⌝ }
+    requires { x < 9 }
+    ensures next { Follows x result }
 {
     x + 1
 }
@@ -89,7 +89,7 @@ fn bare(x: u8) -> u8 {
 
 impl Counter {
     pub fn up(self) -> Self
-        ensures { λ r. ⌜ r .n ≡ next (self .n) ⌝ }
+        ensures { result.n ≡ next self.n }
     {
         self
     }

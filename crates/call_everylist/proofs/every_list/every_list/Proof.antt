@@ -13,44 +13,44 @@ use Rattle.call_everylist.proofs.every_list.every_list.Statement.{statement}
 use Rattle.call_everylist.proofs.every_list.every_list.Tie as tie
 
 -- where the plan was checked and where the call starts, from the refusal
-abbrev read : tie.After-every-list-refusal → tie.After-check
-read c = c.before.before
+abbrev read : tie.After-every_list_refusal-refused → tie.After-check-checked
+read c = c.before
 
-abbrev entry : tie.Else1 → tie.Start
+abbrev entry : tie.Else-refused-ne0 → tie.Start
 entry c = (read c.before).before.before.before
 
 -- nothing is refused
-module _ (c : tie.Else1) where
+module _ (c : tie.Else-refused-ne0) where
   given : let a = (entry c).args in every_list_refusal a.plan.now a.list.now ≡ 0
-  given = sym (c.before.every-list-refusal.ensures _ (read c.before).check.ensures) ∙ c.if1.false
+  given = sym (c.every_list_refusal-refused.ensures _ (read c.before).check-checked.ensures) ∙ c.if-refused-ne0.false
 
   asked : let a = (entry c).args in EveryListAsked a.plan.now a.list.now
   asked = every-list-asked _ _ given
 
-  accepted : Accepted (entry c).args.plan.now (read c.before).check.result
-  accepted = (read c.before).check.ensures.accepted asked.plan_ok
+  accepted : Accepted (entry c).args.plan.now (read c.before).check-checked.result
+  accepted = (read c.before).check-checked.ensures.accepted asked.plan_ok
 
-every-list-requires : tie.Need-every-list-requires
+every-list-requires : tie.Need-every_list-requires
 every-list-requires c κs =
     let d = c.before.before in
-    let o = opened-over d.before.open-plan.ensures d.part.ensures.bytes in
+    let o = opened-over d.open_plan-net.ensures d.part-distances.ensures.bytes in
     (o.formed, rw o.count (asked d.before.before.before).long)
 
-returns-2 : tie.Need-returns-2
+returns-2 : tie.Need-returns
 returns-2 c =
-    let found = c.before.before.before in
-    let d = found.before.before.before in
-    let o = opened-over d.before.open-plan.ensures d.part.ensures.bytes in
-    every_given _ _ _ _ (given d.before.before.before) c.answer.ensures (rw o.same at found.every-list.ensures)
+    let found = c in
+    let d = c.before.before.before.before.before.before in
+    let o = opened-over d.open_plan-net.ensures d.part-distances.ensures.bytes in
+    every_given _ _ _ _ (given d.before.before.before) c.answer.ensures (rw o.same at found.every_list.ensures)
 
-pub every-list-spec : {M : Type 1} → statement M
-every-list-spec =
+pub every_list_spec : {M : Type 1} → statement M
+every_list_spec =
     tie.close
     (tie.spec
     (λ c κs. search rules)
     (λ c κs. search rules)
     (λ c. search rules)
-    (λ c. every-refused _ _ _ (c.before.every-list-refusal.ensures _ (read c.before).check.ensures) c.if1.true)
+    (λ c. every-refused _ _ _ (c.every_list_refusal-refused.ensures _ (read c.before).check-checked.ensures) c.if-refused-ne0.true)
     (λ c κs. let p = accepted c.before in (p, omega (arith, (passed _ p.ok).lists.some), refl))
     (λ c κs. (accepted c.before.before, lit< tt))
     every-list-requires
