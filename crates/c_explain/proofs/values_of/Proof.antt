@@ -6,8 +6,8 @@ use Rattle.c_explain.proofs.values_of.Statement.{statement}
 use Rattle.c_explain.proofs.values_of.Tie as tie
 
 -- an arm knows the answer that it matched
-pub values-of-spec : {M : Type 1} → statement M
-values-of-spec =
+pub values_of_spec : {M : Type 1} → statement M
+values_of_spec =
     tie.close
     (tie.spec
     (λ c. search rules)
@@ -17,7 +17,7 @@ values-of-spec =
     (λ c. search rules)
     (λ c κs. search rules)
     (λ c κs. search rules)
-    (λ c. c.bare.ensures ∙ sym (ap values_of c.before.enum_told.given.1))
-    (λ c. c.values-of-rule.ensures ∙ sym (ap values_of c.before.before.answer.given.1))
+    (λ c. c.bare.ensures ∙ sym (ap values_of c.in-Refused.is))
+    (λ c. c.values_of_rule.ensures ∙ sym (ap values_of c.in-Yes.is))
     (λ c.
-    c.bare2.ensures ∙ ap (bare false) c.before.place.ensures ∙ sym (ap values_of c.before.before.before.answer2.given.1)))
+    c.bare-in-No.ensures ∙ ap (bare false) c.place.ensures ∙ sym (ap values_of c.in-No.is)))

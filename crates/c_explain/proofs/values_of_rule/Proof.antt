@@ -7,14 +7,14 @@ use Rattle.route_explain_rules.specs.declared.explanation.Rule.TheVariants.{Bett
 use Rattle.c_explain.proofs.values_of_rule.Statement.{statement}
 use Rattle.c_explain.proofs.values_of_rule.Tie as tie
 
-returns-5 : tie.Need-returns-5
+returns-5 : tie.Need-returns-in-BetterOffer
 returns-5 c =
-    let told = c.before.rule2.given in
-    ap (λ m. values_of_rule (BetterOffer told.0.0 told.0.1.0 m)) (to_z-of_z w64 _ (search rules)) ∙ sym (ap values_of_rule told.1)
+    let told = c.in-BetterOffer in
+    ap (λ m. values_of_rule (BetterOffer told.offer told.own m)) (to_z-of_z w64 _ (search rules)) ∙ sym (ap values_of_rule told.is)
 
 -- an arm knows the rule that it matched
-pub values-of-rule-spec : {M : Type 1} → statement M
-values-of-rule-spec =
+pub values_of_rule_spec : {M : Type 1} → statement M
+values_of_rule_spec =
     tie.close
     (tie.spec
     (λ c. search rules)
@@ -25,8 +25,8 @@ values-of-rule-spec =
     (λ c κs. search rules)
     (λ c. search rules)
     (λ c. search rules)
-    (λ c. c.bare.ensures ∙ sym (ap values_of_rule c.before.enum_told.given.1))
-    (λ c. c.bare2.ensures ∙ sym (ap values_of_rule c.before.enum-told2.given.1))
-    (λ c. c.bare3.ensures ∙ sym (ap values_of_rule c.before.enum-told3.given.1))
-    (λ c. sym (ap values_of_rule c.before.rule.given.1))
+    (λ c. c.bare.ensures ∙ sym (ap values_of_rule c.in-Parent.is))
+    (λ c. c.bare-in-PeerClient.ensures ∙ sym (ap values_of_rule c.in-PeerClient.is))
+    (λ c. c.bare-in-OwnBestClient.ensures ∙ sym (ap values_of_rule c.in-OwnBestClient.is))
+    (λ c. sym (ap values_of_rule c.in-AnyOffer.is))
     returns-5)

@@ -7,11 +7,11 @@ use Rattle.c_query.proofs.margin_value.Statement.{statement}
 use Rattle.c_query.proofs.margin_value.Tie as tie
 
 -- an arm knows the margin that it matched
-pub margin-value-spec : {M : Type 1} → statement M
-margin-value-spec =
+pub margin_value_spec : {M : Type 1} → statement M
+margin_value_spec =
     tie.close
     (tie.spec
     (λ c. search rules)
     (λ c. search rules)
-    (λ c. sym (ap margin_value c.enum_told.given.1))
-    (λ c. to_z-of_z w64 _ (search rules) ∙ sym (ap margin_value c.before.margin.given.1)))
+    (λ c. sym (ap margin_value c.in-Absent.is))
+    (λ c. to_z-of_z w64 _ (search rules) ∙ sym (ap margin_value c.in-Of.is)))

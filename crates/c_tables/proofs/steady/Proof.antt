@@ -3,18 +3,18 @@ use Rattle.c_tables.proofs.Given.{steady-refused, steady-given}
 use Rattle.c_tables.proofs.steady.Statement.{statement}
 use Rattle.c_tables.proofs.steady.Tie as tie
 
-returns : tie.Need-returns
+returns : tie.Need-returns-in-Refused
 returns c =
-    let d = c.before.before.before.before.before in
-    steady-refused _ _ _ _ d.steady.ensures _ _ c.before.answer.given.1
+    let d = c in
+    steady-refused _ _ _ _ d.steady-answer.ensures _ _ c.in-Refused.is
 
-returns-2 : tie.Need-returns-2
+returns-2 : tie.Need-returns-in-Listed
 returns-2 c =
-    let d = c.before.before.before.before.before in
-    steady-given _ _ _ _ d.steady.ensures _ _ c.before.answer2.given.1
+    let d = c in
+    steady-given _ _ _ _ d.steady-answer.ensures _ _ c.in-Listed.is
 
-pub steady-spec : {M : Type 1} → statement M
-steady-spec =
+pub steady_spec : {M : Type 1} → statement M
+steady_spec =
     tie.close
     (tie.spec
     (λ c κs. search rules)

@@ -6,25 +6,25 @@ use Rattle.c_tables.proofs.Given.{verdict-refused, verdict-given}
 use Rattle.c_tables.proofs.verdict.Statement.{statement}
 use Rattle.c_tables.proofs.verdict.Tie as tie
 
-returns : tie.Need-returns
+returns : tie.Need-returns-in-Refused
 returns c =
-    let d = c.before.before.before.before.before.before.before.before.before.before.before in
-    verdict-refused _ _ _ _ _ _ _ d.verdict.ensures _ _ _ c.before.answer.given.1
+    let d = c in
+    verdict-refused _ _ _ _ _ _ _ d.verdict-answer.ensures _ _ _ c.in-Refused.is
 
-returns-2 : tie.Need-returns-2
+returns-2 : tie.Need-returns-in-Stable
 returns-2 c =
-    let d = c.before.before.before.before.before.before.before.before.before.before.before in
-    let is = c.before.answer2.given.1 in
-    verdict-given _ _ _ _ _ _ _ d.verdict.ensures _ _ true _ (ap verdict_number is) (ap verdict_is_stable is) (ap verdict_size is)
+    let d = c in
+    let is = c.in-Stable.is in
+    verdict-given _ _ _ _ _ _ _ d.verdict-answer.ensures _ _ true _ (ap verdict_number is) (ap verdict_is_stable is) (ap verdict_size is)
 
-returns-3 : tie.Need-returns-3
+returns-3 : tie.Need-returns-in-Suspect
 returns-3 c =
-    let d = c.before.before.before.before.before.before.before.before.before.before.before in
-    let is = c.before.answer3.given.1 in
-    verdict-given _ _ _ _ _ _ _ d.verdict.ensures _ _ false _ (ap verdict_number is) (ap verdict_is_stable is) (ap verdict_size is)
+    let d = c in
+    let is = c.in-Suspect.is in
+    verdict-given _ _ _ _ _ _ _ d.verdict-answer.ensures _ _ false _ (ap verdict_number is) (ap verdict_is_stable is) (ap verdict_size is)
 
-pub verdict-spec : {M : Type 1} → statement M
-verdict-spec =
+pub verdict_spec : {M : Type 1} → statement M
+verdict_spec =
     tie.close
     (tie.spec
     (λ c κs. search rules)
