@@ -3,5 +3,5 @@ use Rattle.c_convert.proofs.Given.{put}
 use Rattle.c_convert.proofs.narrow.Statement.{statement}
 use Rattle.c_convert.proofs.narrow.Tie as tie
 
-pub narrow-spec : {M : Type 1} → statement M
-narrow-spec = tie.close (tie.spec (λ c κs. search rules) (λ c κs. search rules) (λ c. search rules) (λ c. put c.before.before.before.before.narrow.ensures c.put-length.ensures))
+pub narrow_spec : {M : Type 1} → statement M
+narrow_spec = tie.close (tie.spec (λ c κs. search rules) (λ c κs. search rules) (λ c. search rules) (λ c. put c.narrow.ensures c.put_length.ensures))

@@ -6,28 +6,28 @@ use Rattle.c_everylist.proofs.Given.{every-refused, every_given}
 use Rattle.c_everylist.proofs.every_list.Statement.{statement}
 use Rattle.c_everylist.proofs.every_list.Tie as tie
 
-returns : tie.Need-returns
+returns : tie.Need-returns-in-Refused
 returns c =
-    let d = c.before.before.before.before.before in
-    every-refused _ _ _ d.every-list.ensures _ _ _ c.before.given.given.1
+    let d = c in
+    every-refused _ _ _ d.every_list-given.ensures _ _ _ c.in-Refused.is
 
-returns-2 : tie.Need-returns-2
+returns-2 : tie.Need-returns-in-Yes
 returns-2 c =
-    let d = c.before.before.before.before in
-    every_given _ _ _ d.every-list.ensures _ _ Yes c.enum_told.given.1 refl
+    let d = c in
+    every_given _ _ _ d.every_list-given.ensures _ _ Yes c.in-Yes.is refl
 
-returns-3 : tie.Need-returns-3
+returns-3 : tie.Need-returns-in-No
 returns-3 c =
-    let d = c.before.before.before.before.before in
-    every_given _ _ _ d.every-list.ensures _ _ (No _) c.before.given2.given.1 refl
+    let d = c in
+    every_given _ _ _ d.every_list-given.ensures _ _ (No _) c.in-No.is refl
 
-returns-4 : tie.Need-returns-4
+returns-4 : tie.Need-returns-in-Undecided
 returns-4 c =
-    let d = c.before.before.before.before in
-    every_given _ _ _ d.every-list.ensures _ _ Undecided c.enum-told2.given.1 refl
+    let d = c in
+    every_given _ _ _ d.every_list-given.ensures _ _ Undecided c.in-Undecided.is refl
 
-pub every-list-spec : {M : Type 1} → statement M
-every-list-spec =
+pub every_list_spec : {M : Type 1} → statement M
+every_list_spec =
     tie.close
     (tie.spec
     (λ c κs. search rules)

@@ -3,20 +3,20 @@ use Rattle.c_figures.proofs.Given.{figures-refused, figures-given}
 use Rattle.c_figures.proofs.figures.Statement.{statement}
 use Rattle.c_figures.proofs.figures.Tie as tie
 
-returns : tie.Need-returns
+returns : tie.Need-returns-in-Refused
 returns c =
-    let d = c.before.before.before.before.before.before.before in
-    figures-refused _ _ _ _ d.figures.ensures _ _ _ _ _ c.before.answer.given.1
+    let d = c in
+    figures-refused _ _ _ _ d.figures-answer.ensures _ _ _ _ _ c.in-Refused.is
 
-returns-2 : tie.Need-returns-2
+returns-2 : tie.Need-returns-in-Counted
 returns-2 c =
-    let matched = c.before.before.before in
-    let d = matched.before.before.before.before.before.before in
-    figures-given _ _ _ _ d.figures.ensures _ _ _ _ _ _ _ matched.answer2.given.1 c.before.highest-flag.ensures
-    c.highest-rank.ensures
+    let matched = c in
+    let d = c in
+    figures-given _ _ _ _ d.figures-answer.ensures _ _ _ _ _ _ _ matched.in-Counted.is c.highest_flag.ensures
+    c.highest_rank.ensures
 
-pub figures-spec : {M : Type 1} → statement M
-figures-spec =
+pub figures_spec : {M : Type 1} → statement M
+figures_spec =
     tie.close
     (tie.spec
     (λ c κs. search rules)

@@ -6,11 +6,11 @@ use Rattle.c_figures.proofs.highest_flag.Statement.{statement}
 use Rattle.c_figures.proofs.highest_flag.Tie as tie
 
 -- an arm knows the variant that it matched
-pub highest-flag-spec : {M : Type 1} → statement M
-highest-flag-spec =
+pub highest_flag_spec : {M : Type 1} → statement M
+highest_flag_spec =
     tie.close
     (tie.spec
     (λ c. search rules)
     (λ c. search rules)
-    (λ c. sym (ap (λ h. flag (has_rank h)) c.enum_told.given.1))
-    (λ c. sym (ap (λ h. flag (has_rank h)) c.enum-told2.given.1)))
+    (λ c. sym (ap (λ h. flag (has_rank h)) c.in-Absent.is))
+    (λ c. sym (ap (λ h. flag (has_rank h)) c.in-Of.is)))

@@ -4,15 +4,15 @@ use Rattle.c_grade.proofs.grade.Statement.{statement}
 use Rattle.c_grade.proofs.grade.Tie as tie
 
 -- an arm knows the answer that it matched
-pub grade-spec : {M : Type 1} → statement M
-grade-spec =
+pub grade_spec : {M : Type 1} → statement M
+grade_spec =
     tie.close
     (tie.spec
     (λ c κs. search rules)
     (λ c. search rules)
-    (λ c. grade-refused _ _ _ c.before.before.before.grade.ensures _ _ _ c.before.answer.given.1)
+    (λ c. grade-refused _ _ _ c.grade-answer.ensures _ _ _ c.in-Refused.is)
     (λ c. search rules)
     (λ c κs. search rules)
     (λ c.
-    grade-given _ _ _ c.before.before.before.before.grade.ensures _ _ _ _ _ c.before.before.answer2.given.1
-    c.grade-number.ensures))
+    grade-given _ _ _ c.grade-answer.ensures _ _ _ _ _ c.in-Graded.is
+    c.grade_number.ensures))
