@@ -1,6 +1,6 @@
 -- Rule 3 on an offer as the tests come one after the other.
 use Prim.Native.Nat.{ℕ}
-use mathlib.Core.Path.{◌≡◌, refl}
+use mathlib.Core.Path.{◌≡◌, refl, ◌∙◌}
 use mathlib.Core.Bool.{Bool, true, false, not, ◌&&◌}
 use mathlib.Core.Option.{Option, none, some, get_or}
 use lib.IntN.{pos, ◌-ℤ◌}
@@ -44,6 +44,14 @@ module _ (I : Instance) (w : ℕ) (d : Bool) where
       go true p true h = prefers-alike I w e c true
       go true p false h = not-both true refl h
       go false p d h = prefers-without I w p e d c true
+
+  -- .. and what is not nearer is not preferred in either case
+  pub farther-not-preferred : (e c : ℕ) → nearer I w e c ≡ false → prefers I w e d c true ≡ false
+  farther-not-preferred e c h = go (has_step I w && not d) refl
+    where
+      go : (b : Bool) → (has_step I w && not d) ≡ b → prefers I w e d c true ≡ false
+      go true p = not-preferred e c p
+      go false p = preferred-nearer e c p ∙ h
 
   pub offer-none : (own : Option ℕ) → by_offer I w d none own ≡ No NoOffer
   unfolding by_offer

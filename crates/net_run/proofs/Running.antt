@@ -81,3 +81,7 @@ module _ (I : Instance) (acts start : List ℕ) where
       ⊎_elim (λ (l : limit < length acts). let h : i ≡ limit = omega arith in ap (λ k. take k acts) h)
       (λ (l : length acts ≤ limit). take_all i acts (omega arith) ∙ sym (take_all limit acts l))
       (lt-or-le limit (length acts))
+
+  -- a run within its limit applies the whole sequence
+  pub take_within : (i limit : ℕ) → length acts ≤ i → i ≤ limit → take i acts ≡ take limit acts
+  take_within i limit h l = take_all i acts h ∙ sym (take_all limit acts (omega arith))

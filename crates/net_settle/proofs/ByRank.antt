@@ -1,4 +1,4 @@
--- The settled table is reached from the first entries by one act of every router of rank 1 or more, in the order of its rank.
+-- The settled table is reached by one act of every router, in the order of its rank.
 use Prim.Native.Nat.{ℕ, ◌+◌, ◌*◌, ◌≤◌, ◌<◌}
 use native.Mathlib.Omega.{arith}
 use mathlib.Core.Path.{◌≡◌, refl, ◌∙◌, sym, ap, ap₂}
@@ -17,7 +17,6 @@ use Rattle.route_rules.specs.Activation.{held, entry_ok, table_ok}
 use Rattle.route_theorems.specs.Settled.{settled_table}
 use Rattle.route_theorems.specs.Claims.{Ranked}
 use Rattle.route_theorems.proofs.Clean.{CleanEntry, choose-clean}
-use Rattle.route_theorems.proofs.RelyingOnNone.{rank-0-settled}
 use Rattle.route_theorems.proofs.Existence.{steady-holds, settled-length, settled-legal, settled-steady, chooses-settled}
 use Rattle.net_tables.specs.TableBytes.{route_at, put_route, table_of, table_bytes, activate_bytes}
 use Rattle.net_tables.proofs.TableBytes.{Written, read-nothing, read-via, put-own, put_other, put_rest, table-length, table-held, table-bytes, act-own, act-other, act-rest}
@@ -61,6 +60,11 @@ module _ (I : Instance) (small : I.n ≤ 64) (start : List ℕ) where
   pub started-done : (k : ℕ) (buffer : List ℕ) → k ≤ I.n → I.n ≤ k → Started I k start buffer → Started I I.n start buffer
   started-done k buffer l h s = let e : k ≡ I.n = omega arith in rw e at s
 
+  -- no rank is below 0
+  pub below-start : (ranks buffer : List ℕ) → Started I I.n start buffer → SettledBelow I ranks 0 start buffer
+  below-start ranks buffer s =
+      record { either = λ v l. inl (s.first v l); below = λ v l h. absurd (omega arith); rest = s.rest }
+
 -- the turn of rank k, when the routers below w have been asked
 pub record Turn (I : Instance) (ranks : List ℕ) (k : ℕ) (start : List ℕ) (w : ℕ) (buffer : List ℕ) : Type 0 where
   pub on : SettledBelow I ranks k start buffer
@@ -69,15 +73,6 @@ pub record Turn (I : Instance) (ranks : List ℕ) (k : ℕ) (start : List ℕ) (
 module _ (I : Instance) (ranks : List ℕ) (r : Ranked I (entry ranks) (highest_in ranks I.n)) where
   abbrev R : ℕ
   R = highest_in ranks I.n
-
-  -- of rank 0 the first entries are settled
-  pub below-start : (start buffer : List ℕ) → Started I I.n start buffer → SettledBelow I ranks 1 start buffer
-  below-start start buffer s =
-      record {
-        either = λ v l. inl (s.first v l);
-        below = λ v l h. s.first v l ∙ sym (rank-0-settled I (entry ranks) R r v l (omega arith));
-        rest = s.rest;
-      }
 
   -- a first entry and a settled one are clean and obey the rule of a table
   first-clean : (v : ℕ) → CleanEntry I v (first_route I v)

@@ -1,5 +1,5 @@
--- What the workers that write the settled table ask of their callers, and what they leave: every router of rank 1 or more acts once, in
--- the order of its rank.
+-- What the workers that write the settled table ask of their callers, and what they leave: every router acts once, in the order of
+-- its rank.
 use Rattle.std.specs.Prelude.{ℕ, ◌*◌, ◌≤◌, ◌<◌, ◌≡◌, cond, List, ◌⊎◌, length, drop}
 use Rattle.base.specs.Seek.{highest}
 use Rattle.graph_ranks.specs.Rank.{entry}

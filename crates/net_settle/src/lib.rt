@@ -1,4 +1,4 @@
-// The settled table: a router of rank 0 has its entry from the start, and every other is activated once, in the order of its rank.
+// The settled table, by activating every router once, in the order of its rank.
 
 #![tactic(auto)]
 
@@ -72,8 +72,7 @@ fn settle_rank(
     }
 }
 
-// Writes the settled table to the first 2n bytes, where the first n bytes of `ranks` are ranks and `highest` is the highest of them. Who
-// has rank 0 relies on no one, and is not activated: its first entry is its settled one.
+// Writes the settled table to the first 2n bytes, where the first n bytes of `ranks` are ranks and `highest` is the highest of them.
 pub fn settle(
     net: Network,
     rows: &[u64; 64],
@@ -87,7 +86,7 @@ pub fn settle(
         ++ drop (2 * net.n) table.old }
 {
     start(net, table);
-    let mut r = 1;
+    let mut r = 0;
     while r <= highest {
         settle_rank(net, rows, distances, ranks, r, table);
         r += 1;

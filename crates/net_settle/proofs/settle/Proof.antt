@@ -32,7 +32,7 @@ loop-holds c =
     let s = c.before.before in
     let d = s in
     let I = decoded d.args.net d.args.rows.now d.args.distances.now in
-    (search rules, search rules, below-here I _ d.requires.0.falls 1 _ _ (below-start I _ d.requires.0.falls _ _ (s.start.ensures d.args.rows.now d.args.distances.now)))
+    (search rules, search rules, below-here I _ d.requires.0.falls 0 _ _ (below-start I d.requires.0.formed.count _ _ _ (s.start.ensures d.args.rows.now d.args.distances.now)))
 
 settle-rank-requires : tie.Need-settle_rank-requires invariant-loop-r decreases-loop-r
 settle-rank-requires c κs =
@@ -74,7 +74,7 @@ returns c =
     let d = s in
     let I = decoded d.args.net d.args.rows.now d.args.distances.now in
     below-done I _ d.requires.0.falls l.loop-r.r _ l.loop-r.table
-    (below-onward I _ d.requires.0.falls 1 _ _ (below-start I _ d.requires.0.falls _ _ (s.start.ensures d.args.rows.now d.args.distances.now)) l.loop-r.r l.loop-r.table
+    (below-onward I _ d.requires.0.falls 0 _ _ (below-start I d.requires.0.formed.count _ _ _ (s.start.ensures d.args.rows.now d.args.distances.now)) l.loop-r.r l.loop-r.table
     l.loop-r.invariant.2)
     (omega (arith, d.requires.0.long, l.loop-r.invariant.1, s.start.auto.table))
     (omega (arith, c.loop-r-test.false, d.requires.1))
