@@ -3,7 +3,8 @@
 
 usage: python3 tests/archive.py        (right after `rt ci`, at the top of the repository)
 `rt lib` makes the same archive, crates/rrp/out/librrp.a, but proves each library for itself, which takes long where no
-check on this machine kept it. Fails where a library was built by another command, and then `rt lib` is the way.
+check on this machine kept it. Fails where a library was built by another command or has changed since it was built, and
+then `rt lib` is the way.
 """
 import importlib.machinery
 import importlib.util
@@ -26,12 +27,19 @@ def kit_library():
     return made
 
 
+def newest(folder):
+    """When a file of a crate that is proved or built from last changed."""
+    return max((os.path.getmtime(os.path.join(at, name)) for part in ('src', 'specs', 'proofs')
+                for at, _, names in os.walk(f'{folder}/{part}') for name in names), default=0)
+
+
 def main():
     rtlib = kit_library()
     crate = next(crate for crate in rtlib.crates_below(os.getcwd()) if crate.name == NAME)
     for library in crate.below():
-        built = os.path.isfile(f'{library.rlib}/format')
-        if not built or os.path.isfile(f'{library.folder}/out/rlib/stamp'):
+        built = f'{library.rlib}/format'
+        if (not os.path.isfile(built) or os.path.getmtime(built) < newest(library.folder)
+                or os.path.isfile(f'{library.folder}/out/rlib/stamp')):
             sys.exit(f'archive: crates/{library.name} is not as rt ci leaves it')
     words = crate.words(['--jobs', '2'], keeps=False)
     os.makedirs(f'{crate.folder}/out', exist_ok=True)
