@@ -34,13 +34,13 @@ fn all_fit(s: &[u8], width: usize, count: usize, to: usize) -> bool
     requires { TwoOrFour width × (width * count ≤ length s.now) × TwoOrFour to }
     ensures { result ≡ all_below (λ i. distance_fits to (placed width s.now i)) count }
 {
-    let mut all = true;
+    let mut fitting = 0;
     let mut i = 0;
     while i < count {
-        all = all & distance_fits(distance_at(s, width, i), to);
+        fitting = fitting + distance_fits(distance_at(s, width, i), to) as usize;
         i += 1;
     }
-    all
+    fitting == count
 }
 
 // Whether every distance of the plan can stand in `to` bytes.
