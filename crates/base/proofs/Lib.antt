@@ -6,6 +6,7 @@ pub mod Buffer
 pub mod Best
 pub mod Seek
 pub mod Tab
+pub mod Library
 pub mod Elimination
 pub mod Joined
 pub mod BitLaws

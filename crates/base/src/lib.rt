@@ -20,9 +20,7 @@ pub fn read2(s: &[u8], at: usize) -> usize
     requires { at + 2 ≤ length s.now }
     ensures { (result ≡ little_endian 2 s.now at) × (result < 65536) }
 {
-    let low = wide(s[at]);
-    let high = wide(s[at + 1]);
-    low + 256 * high
+    u16::from_le_bytes([s[at], s[at + 1]]) as usize
 }
 
 // The four-byte number at `at`.
@@ -30,10 +28,7 @@ pub fn read4(s: &[u8], at: usize) -> usize
     requires { at + 4 ≤ length s.now }
     ensures { (result ≡ little_endian 4 s.now at) × (result < 4294967296) }
 {
-    let second = at + 1;
-    let third = second + 1;
-    let fourth = third + 1;
-    wide(s[at]) + 256 * (wide(s[second]) + 256 * (wide(s[third]) + 256 * wide(s[fourth])))
+    u32::from_le_bytes([s[at], s[at + 1], s[at + 2], s[at + 3]]) as usize
 }
 
 // Writes bytes from `at` on.
@@ -41,9 +36,5 @@ pub fn write_bytes(out: &mut [u8], at: usize, bytes: &[u8])
     requires { at + length bytes.now ≤ length out.old }
     ensures { out.new ≡ written out.old at bytes.now }
 {
-    let mut i = 0;
-    while i < bytes.len() {
-        out[at + i] = bytes[i];
-        i += 1;
-    }
+    out[at..at + bytes.len()].copy_from_slice(bytes);
 }
