@@ -44,23 +44,14 @@ pub fn read_contents(plan: &[u8]) -> [Entry; 4]
     ]
 }
 
+#[tactic(auto, unfolding(crate::specs::Contents::kinds_ok))]
 fn kinds_ok(table: [Entry; 4]) -> bool
     ensures { result ≡ kinds_ok table }
 {
-    let routers = table[ROUTERS];
-    if routers.kind != 1 {
-        return false;
-    }
-    let sessions = table[SESSIONS];
-    if sessions.kind != 2 {
-        return false;
-    }
-    let distances = table[DISTANCES];
-    if distances.kind != 3 {
-        return false;
-    }
-    let lists = table[LISTS];
-    lists.kind == 4
+    table[ROUTERS].kind == 1
+        && table[SESSIONS].kind == 2
+        && table[DISTANCES].kind == 3
+        && table[LISTS].kind == 4
 }
 
 // Whether a body starts where the one before it ends.
@@ -70,55 +61,34 @@ fn follows(before: Entry, after: Entry) -> bool
     after.offset as usize == before.offset as usize + before.size as usize
 }
 
+#[tactic(auto, unfolding(crate::specs::Contents::places_ok))]
 fn places_ok(table: [Entry; 4], plan_length: usize) -> bool
     ensures { result ≡ places_ok table plan_length }
 {
-    let routers = table[ROUTERS];
-    if routers.offset != 26 {
-        return false;
-    }
-    let sessions = table[SESSIONS];
-    if !follows(routers, sessions) {
-        return false;
-    }
-    let distances = table[DISTANCES];
-    if !follows(sessions, distances) {
-        return false;
-    }
     let lists = table[LISTS];
-    if !follows(distances, lists) {
-        return false;
-    }
-    lists.offset as usize + lists.size as usize == plan_length
+    table[ROUTERS].offset == 26
+        && follows(table[ROUTERS], table[SESSIONS])
+        && follows(table[SESSIONS], table[DISTANCES])
+        && follows(table[DISTANCES], lists)
+        && lists.offset as usize + lists.size as usize == plan_length
 }
 
+#[tactic(auto, unfolding(crate::specs::Contents::sizes_ok))]
 fn sizes_ok(table: [Entry; 4], width: usize, n: usize) -> bool
     requires { (width ≤ 4) × (n ≤ 64) }
     ensures { result ≡ sizes_ok table width n }
 {
-    let routers = table[ROUTERS];
-    if routers.size as usize != 5 * n {
-        return false;
-    }
-    let sessions = table[SESSIONS];
-    if sessions.size % 2 != 0 {
-        return false;
-    }
-    let distances = table[DISTANCES];
-    distances.size as usize == width * (n * n)
+    table[ROUTERS].size as usize == 5 * n
+        && table[SESSIONS].size.is_multiple_of(2)
+        && table[DISTANCES].size as usize == width * (n * n)
 }
 
+#[tactic(auto, unfolding(crate::specs::Contents::contents_ok))]
 pub fn contents_ok(table: [Entry; 4], width: usize, n: usize, plan_length: usize) -> bool
     requires { (width ≤ 4) × (n ≤ 64) }
     ensures { result ≡ contents_ok table width n plan_length }
 {
-    if !kinds_ok(table) {
-        return false;
-    }
-    if !places_ok(table, plan_length) {
-        return false;
-    }
-    sizes_ok(table, width, n)
+    kinds_ok(table) && places_ok(table, plan_length) && sizes_ok(table, width, n)
 }
 
 // An entry's body, as a part of the plan itself.

@@ -21,54 +21,34 @@ pub const LARGEST_NARROW: usize = 16731;
 pub const LARGEST_PLAN: usize = 24923;
 
 // Whether a plan with this mark may be so long.
+#[tactic(auto, unfolding(crate::specs::Header::mark_ok))]
 fn mark_ok(mark: u8, plan_length: usize) -> bool
     ensures { result ≡ mark_ok mark plan_length }
 {
-    if mark == NARROW {
-        return plan_length <= LARGEST_NARROW;
+    match mark {
+        NARROW => plan_length <= LARGEST_NARROW,
+        WIDE => plan_length <= LARGEST_PLAN,
+        _ => false,
     }
-    if mark == WIDE {
-        return plan_length <= LARGEST_PLAN;
-    }
-    false
 }
 
+#[tactic(auto, unfolding(crate::specs::Header::header_ok))]
 pub fn header_ok(plan: &[u8]) -> bool
     ensures { result ≡ header_ok plan.now }
 {
-    if plan.len() < 26 {
-        return false;
-    }
-    if plan[0] != b'R' {
-        return false;
-    }
-    if plan[1] != b'R' {
-        return false;
-    }
-    if plan[2] != b'P' {
-        return false;
-    }
-    if !mark_ok(plan[MARK], plan.len()) {
-        return false;
-    }
-    plan[5] == 4
+    26 <= plan.len() && plan.starts_with(b"RRP") && mark_ok(plan[MARK], plan.len()) && plan[5] == 4
 }
 
 // How many bytes a distance has in a plan with this mark.
 pub fn width_of(mark: u8) -> u8
     ensures { result ≡ width_of mark }
 {
-    if mark == WIDE {
-        return 4;
-    }
-    2
+    if mark == WIDE { 4 } else { 2 }
 }
 
+#[tactic(auto, unfolding(crate::specs::Header::router_count_ok))]
 pub fn router_count_ok(n: u8) -> bool
     ensures { result ≡ router_count_ok n }
 {
-    if n < 1 {
-        return false;
-    }
-    n <= 64
+    (1..=64).contains(&n)
 }

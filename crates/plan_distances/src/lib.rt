@@ -99,12 +99,5 @@ pub fn distances_ok(s: &[u8], width: usize, n: usize) -> bool
     requires { DistanceTable width s.now n }
     ensures { result ≡ distances_ok width s.now n }
 {
-    let mut u = 0;
-    while u < n {
-        if !diagonal_ok(s, width, n, u) {
-            return false;
-        }
-        u += 1;
-    }
-    true
+    (0..n).all(|u| diagonal_ok(s, width, n, u))
 }

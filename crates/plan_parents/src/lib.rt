@@ -2,7 +2,7 @@
 
 #![tactic(auto)]
 
-ghost use Rattle.std.specs.Prelude.{◌≡◌, not, List, ℕ, ◌+◌, ◌*◌, ◌≤◌, ◌<◌, max, eqb, length, get_or};
+ghost use Rattle.std.specs.Prelude.{◌≡◌, not, List, ℕ, ◌+◌, ◌*◌, ◌≤◌, ◌<◌, eqb, length, get_or};
 ghost use Rattle.base.specs.Below.{all_below};
 ghost use Rattle.base.specs.Seek.{highest};
 ghost use Rattle.plan_rules.specs.Routers.{role};
@@ -37,24 +37,13 @@ pub fn note(routers: &[u8], reflector: bool, v: usize, w: usize, counts: &mut [u
     }
 }
 
-fn greater(a: u8, b: u8) -> u8
-    ensures { result ≡ max a b }
-{
-    if a < b {
-        return b;
-    }
-    a
-}
-
 // The highest count.
 fn greatest(counts: &[u8; 64]) -> u8
     ensures { result ≡ highest (λ u. get_or counts.now u 0) 64 }
 {
     let mut most = 0;
-    let mut u = 0;
-    while u < 64 {
-        most = greater(most, counts[u]);
-        u += 1;
+    for count in counts {
+        most = most.max(*count);
     }
     most
 }
@@ -64,10 +53,7 @@ fn few_of(routers: &[u8], v: usize, counts: &[u8; 64]) -> bool
     requires { (v < 64) × (5 * v < length routers.now) }
     ensures { result ≡ few_counted routers.now counts.now v }
 {
-    if counts[v] <= MOST {
-        return true;
-    }
-    plan_routers::is_reflector(routers, v)
+    counts[v] <= MOST || plan_routers::is_reflector(routers, v)
 }
 
 // Whether so it is with every router before `end`.
@@ -75,14 +61,7 @@ fn few_before(routers: &[u8], end: usize, counts: &[u8; 64]) -> bool
     requires { (end ≤ 64) × (5 * end ≤ length routers.now) }
     ensures { result ≡ all_below (few_counted routers.now counts.now) end }
 {
-    let mut v = 0;
-    while v < end {
-        if !few_of(routers, v, counts) {
-            return false;
-        }
-        v += 1;
-    }
-    true
+    (0..end).all(|v| few_of(routers, v, counts))
 }
 
 // Row 13, by the counts after sessions whose first routers are before `past`. None has five parents if there are but four routers. If

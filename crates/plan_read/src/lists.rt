@@ -15,10 +15,8 @@ fn list_place(s: &[u8], list: usize) -> usize
     ensures { result ≡ list_place s.now list }
 {
     let mut place = 1;
-    let mut k = 0;
-    while k < list {
+    for _ in 0..list {
         place = place + 1 + base::wide(s[place]);
-        k += 1;
     }
     place
 }

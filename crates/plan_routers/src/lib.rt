@@ -37,33 +37,18 @@ pub fn is_reflector(s: &[u8], v: usize) -> bool
     s[5 * v] != CLIENT
 }
 
+#[tactic(auto, unfolding(plan_rules::specs::Routers::router_ok))]
 fn router_ok(s: &[u8], v: usize) -> bool
     requires { 5 * v + 5 ≤ length s.now }
     ensures { result ≡ router_ok s.now v }
 {
-    let role = s[5 * v];
-    if role < 1 {
-        return false;
-    }
-    if 5 < role {
-        return false;
-    }
-    if v == 0 {
-        return true;
-    }
-    base::read4(s, 5 * (v - 1) + 1) < base::read4(s, 5 * v + 1)
+    (1..=5).contains(&s[5 * v])
+        && (v == 0 || base::read4(s, 5 * (v - 1) + 1) < base::read4(s, 5 * v + 1))
 }
 
 pub fn routers_ok(s: &[u8], n: usize) -> bool
     requires { 5 * n ≤ length s.now }
     ensures { result ≡ routers_ok s.now n }
 {
-    let mut v = 0;
-    while v < n {
-        if !router_ok(s, v) {
-            return false;
-        }
-        v += 1;
-    }
-    true
+    (0..n).all(|v| router_ok(s, v))
 }

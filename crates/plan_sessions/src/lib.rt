@@ -12,14 +12,8 @@ fn goes_on(s: &[u8], n: usize, v: usize, last: usize, j: usize) -> bool
     requires { 2 * j + 2 ≤ length s.now }
     ensures { result ≡ goes_on s.now n v last j }
 {
-    if base::wide(s[2 * j]) != v {
-        return false;
-    }
     let second = base::wide(s[2 * j + 1]);
-    if second <= last {
-        return false;
-    }
-    second < n
+    base::wide(s[2 * j]) == v && last < second && second < n
 }
 
 // Reads the sessions of router v, from session `from` on, and gives the session after them.
@@ -40,16 +34,14 @@ fn sessions_of(
     let reflector = plan_routers::is_reflector(routers, v);
     plan_parents::forget(reflector, v, counts);
     let mut last = v;
-    let mut j = from;
-    while j < count {
+    for j in from..count {
         if !goes_on(s, n, v, last, j) {
             return j;
         }
         last = base::wide(s[2 * j + 1]);
         plan_parents::note(routers, reflector, v, last, counts);
-        j += 1;
     }
-    j
+    count
 }
 
 // Whether all sessions are in order, and a router that is past the first one of each, if they are.
@@ -59,7 +51,7 @@ struct Walk {
     past: usize,
 }
 
-// Reads all sessions; the counts are lent as zeros.
+// Reads all sessions; the counts are lent as zeros. A `while`, since what moves on is the session, and by as many as a router has.
 fn walk_all(routers: &[u8], s: &[u8], n: usize, counts: &mut [u8; 64]) -> Walk
     requires { (n ≤ 64) × (5 * n ≤ length routers.now) × (counts.old ≡ replicate 64 0) }
     ensures { Walked routers.now s.now n result.ordered result.past counts.new }
