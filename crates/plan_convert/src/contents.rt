@@ -53,11 +53,9 @@ fn write_entry(out: &mut [u8], at: usize, e: Entry)
     requires { at + 5 ≤ length out.old }
     ensures { out.new ≡ written out.old at (entry_bytes e) }
 {
-    out[at] = e.kind;
-    out[at + 1] = (e.offset % 256) as u8;
-    out[at + 2] = (e.offset / 256 % 256) as u8;
-    out[at + 3] = (e.size % 256) as u8;
-    out[at + 4] = (e.size / 256 % 256) as u8;
+    let offset = e.offset.to_le_bytes();
+    let size = e.size.to_le_bytes();
+    base::write_bytes(out, at, &[e.kind, offset[0], offset[1], size[0], size[1]]);
 }
 
 // Writes bytes 6 to 25.
@@ -65,10 +63,8 @@ fn write_contents(out: &mut [u8], table: [Entry; 4])
     requires { 26 ≤ length out.old }
     ensures { out.new ≡ written out.old 6 (joined (λ k. entry_bytes (get_or table k no_entry)) 4) }
 {
-    let mut which = 0;
-    while which < 4 {
-        write_entry(out, 6 + 5 * which, table[which]);
-        which += 1;
+    for (which, entry) in table.iter().enumerate() {
+        write_entry(out, 6 + 5 * which, *entry);
     }
 }
 

@@ -35,10 +35,8 @@ fn all_fit(s: &[u8], width: usize, count: usize, to: usize) -> bool
     ensures { result ≡ all_below (λ i. distance_fits to (placed width s.now i)) count }
 {
     let mut fitting = 0;
-    let mut i = 0;
-    while i < count {
-        fitting = fitting + distance_fits(distance_at(s, width, i), to) as usize;
-        i += 1;
+    for i in 0..count {
+        fitting += distance_fits(distance_at(s, width, i), to) as usize;
     }
     fitting == count
 }
@@ -58,8 +56,7 @@ fn write2(out: &mut [u8], at: usize, number: usize)
     requires { at + 2 ≤ length out.old }
     ensures { out.new ≡ written out.old at (bytes_of 2 number) }
 {
-    out[at] = (number % 256) as u8;
-    out[at + 1] = (number / 256 % 256) as u8;
+    base::write_bytes(out, at, &((number % 0x1_0000) as u16).to_le_bytes());
 }
 
 // Writes a distance in four bytes, low byte first.
@@ -67,10 +64,7 @@ fn write4(out: &mut [u8], at: usize, distance: usize)
     requires { at + 4 ≤ length out.old }
     ensures { out.new ≡ written out.old at (bytes_of 4 distance) }
 {
-    out[at] = (distance % 256) as u8;
-    out[at + 1] = (distance / 256 % 256) as u8;
-    out[at + 2] = (distance / 256 / 256 % 256) as u8;
-    out[at + 3] = (distance / 256 / 256 / 256 % 256) as u8;
+    base::write_bytes(out, at, &((distance % 0x1_0000_0000) as u32).to_le_bytes());
 }
 
 // Writes a distance at place i of a body that starts at `at`. No way has 255 in each byte, whatever the width.
@@ -90,10 +84,8 @@ fn write_distances(s: &[u8], width: usize, count: usize, out: &mut [u8], at: usi
     requires { TwoOrFour width × (width * count ≤ length s.now) × TwoOrFour to × (at + to * count ≤ length out.old) }
     ensures { out.new ≡ written out.old at (joined (λ i. bytes_of to (placed width s.now i)) count) }
 {
-    let mut i = 0;
-    while i < count {
+    for i in 0..count {
         write_distance(out, at, to, i, distance_at(s, width, i));
-        i += 1;
     }
 }
 

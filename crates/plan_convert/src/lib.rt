@@ -5,7 +5,8 @@
 mod contents;
 mod distances;
 
-ghost use Rattle.std.specs.Prelude.{◌≡◌, ◌++◌, ◌≤◌, length, drop};
+ghost use Rattle.std.specs.Prelude.{◌≡◌, ◌++◌, ◌+◌, ◌≤◌, length, drop};
+ghost use Rattle.base.specs.Buffer.{written};
 ghost use Rattle.plan_rules.specs.Distances.{TwoOrFour};
 ghost use Rattle.plan_rules.specs.Converted.{converted};
 ghost use Rattle.plan_read.specs.Checked.{Accepted};
@@ -25,6 +26,17 @@ pub fn converted_length(plan: &[u8], checked: CheckedPlan, to: usize) -> usize
     plan.len() + to * pairs - base::wide(checked.width) * pairs
 }
 
+// Copies bytes to the buffer from `at` on. It is a loop, as that becomes a call of memcpy: `base::write_bytes`, by the library's
+// `copy_from_slice`, becomes one of memmove, which the library for C must not need.
+fn copy_bytes(out: &mut [u8], at: usize, bytes: &[u8])
+    requires { at + length bytes.now ≤ length out.old }
+    ensures { out.new ≡ written out.old at bytes.now }
+{
+    for i in 0..bytes.len() {
+        out[at + i] = bytes[i];
+    }
+}
+
 // Writes the result. Routers and sessions lie beside each other and are copied at once.
 pub fn convert(plan: &[u8], checked: CheckedPlan, to: usize, out: &mut [u8])
     requires { Accepted plan.now checked × TwoOrFour to × (length (converted to plan.now) ≤ length out.old) }
@@ -35,9 +47,9 @@ pub fn convert(plan: &[u8], checked: CheckedPlan, to: usize, out: &mut [u8])
     contents::write_front(out, to, checked.n, table);
     let distances_entry = table[DISTANCES];
     let start = distances_entry.offset as usize;
-    base::write_bytes(out, 26, &plan[26..start]);
+    copy_bytes(out, 26, &plan[26..start]);
     distances::write_body(plan, checked, to, out, start);
     let lists = parts::part(plan, checked, LISTS);
     let lists_entry = table[LISTS];
-    base::write_bytes(out, lists_entry.offset as usize, lists);
+    copy_bytes(out, lists_entry.offset as usize, lists);
 }

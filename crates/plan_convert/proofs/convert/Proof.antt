@@ -20,10 +20,10 @@ start c = c.before.before.before
 abbrev made : tie.After-write_front → tie.After-result_contents-table
 made c = c.before.before
 
-abbrev fronted : tie.After-write_bytes → tie.After-write_front
+abbrev fronted : tie.After-copy_bytes → tie.After-write_front
 fronted c = c.before.before.before.before.before.before.before
 
-abbrev copied : tie.After-write_body → tie.After-write_bytes
+abbrev copied : tie.After-write_body → tie.After-copy_bytes
 copied c = c.before.before.before.before
 
 passes : (c : tie.Start) → Passed c.args.plan.now
@@ -41,8 +41,8 @@ lie c = let s = start c in parts-lie _ _ s.requires.1 (passes s) (table_is c) s.
 long₁ : (c : tie.After-write_front) → length c.write_front.new.out ≡ length (start (made c)).args.out.now
 long₁ c = c.write_front.auto.out
 
-long₂ : (c : tie.After-write_bytes) → length c.write_bytes.new.out ≡ length (start (made (fronted c))).args.out.now
-long₂ c = c.write_bytes.auto.out ∙ long₁ (fronted c)
+long₂ : (c : tie.After-copy_bytes) → length c.copy_bytes.new.out ≡ length (start (made (fronted c))).args.out.now
+long₂ c = c.copy_bytes.auto.out ∙ long₁ (fronted c)
 
 long₃ : (c : tie.After-write_body) → length c.write_body.new.out ≡ length (start (made (fronted (copied c)))).args.out.now
 long₃ c = c.write_body.auto.out ∙ long₂ (copied c)
@@ -79,4 +79,4 @@ convert_spec =
     let f = fronted b in
     let s = start (made f) in
     all-written _ _ s.requires.1 (passes s) (table_is (made f)) s.requires.0.routers _ s.requires.2 f.write_front.ensures
-    b.write_bytes.ensures w.write_body.ensures part.ensures.bytes q.write_bytes-2.ensures))
+    b.copy_bytes.ensures w.write_body.ensures part.ensures.bytes q.copy_bytes-2.ensures))

@@ -32,12 +32,11 @@ one-more fitting i true x l e = (
 one-more fitting i false x l e = (omega arith, ne_eqb (fitting + 0) (i + 1) (λ h. omega arith) ∙ sym (neither x))
 
 pub loop-i-init : goal.loop-i-init
-loop-i-init c = (omega arith, omega arith, sym (all_none _))
+loop-i-init c = (omega arith, sym (all_none _))
 
 pub loop-i-preserved : goal.loop-i-preserved
 loop-i-preserved c =
-    let more = one-more c.loop-i.fitting c.loop-i.i c.distance_fits.result _ c.loop-i.invariant.1 c.loop-i.invariant.2 in (
-      omega arith,
+    let more = one-more c.loop-i.fitting c.loop-i.i c.distance_fits.result _ c.loop-i.invariant.0 c.loop-i.invariant.1 in (
       more.0,
       more.1
           ∙ ap₂ ◌&&◌ refl (c.distance_fits.ensures ∙ ap (distance_fits c.args.to) c.distance_at.ensures.0)

@@ -1,0 +1,7 @@
+-- `plan_convert::copy_bytes`: the first i bytes are written.
+use Rattle.std.proofs.Common.{◌≡◌}
+use lib.Seq.{paste}
+use Rattle.plan_convert.proofs.copy_bytes.Given as goal
+
+abbrev pub invariant-loop-i : goal.invariant-loop-i
+invariant-loop-i l = l.out ≡ paste l.fn.out l.at l.bytes l.i
