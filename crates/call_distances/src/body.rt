@@ -10,12 +10,9 @@ fn write_row(words: &[u16], n: usize, u: usize, out: &mut [u8], at: usize)
     ensures { out.new ≡ take at out.old ++ row_of 2 (word_at words.now u) n
         ++ drop (at + 2 * n) out.old }
 {
-    let mut e = 0;
-    while e < n {
-        let word = words[64 * u + e];
-        out[at + 2 * e] = (word % 256) as u8;
-        out[at + 2 * e + 1] = (word / 256 % 256) as u8;
-        e += 1;
+    for e in 0..n {
+        let start = at + 2 * e;
+        out[start..start + 2].copy_from_slice(&words[64 * u + e].to_le_bytes());
     }
 }
 
@@ -24,9 +21,7 @@ pub fn write_body(words: &[u16], n: usize, out: &mut [u8])
     requires { (n ≤ 64) × (64 * n ≤ length words.now) × (2 * (n * n) ≤ length out.old) }
     ensures { out.new ≡ body_of 2 (word_at words.now) n ++ drop (2 * (n * n)) out.old }
 {
-    let mut row = 0;
-    while row < n {
+    for row in 0..n {
         write_row(words, n, row, out, 2 * n * row);
-        row += 1;
     }
 }

@@ -16,14 +16,7 @@ fn row_fits(words: &[u16], n: usize, u: usize) -> bool
     requires { (n ≤ 64) × (u < n) × (64 * n ≤ length words.now) }
     ensures { result ≡ row_fits words.now n u }
 {
-    let mut e = 0;
-    while e < n {
-        if 65534 < words[64 * u + e] {
-            return false;
-        }
-        e += 1;
-    }
-    true
+    words[64 * u..64 * u + n].iter().all(|word| *word <= 65534)
 }
 
 // Whether every word is at most 65,534.
@@ -31,14 +24,7 @@ fn words_fit(words: &[u16], n: usize) -> bool
     requires { (n ≤ 64) × (64 * n ≤ length words.now) }
     ensures { result ≡ words_fit words.now n }
 {
-    let mut u = 0;
-    while u < n {
-        if !row_fits(words, n, u) {
-            return false;
-        }
-        u += 1;
-    }
-    true
+    (0..n).all(|u| row_fits(words, n, u))
 }
 
 // The routers with a word of at most 65,534 to e, a bit each.
@@ -47,10 +33,8 @@ fn near_to(words: &[u16], n: usize, e: usize) -> u64
     ensures { result ≡ near_to words.now n e }
 {
     let mut found = 0;
-    let mut u = 0;
-    while u < n {
+    for u in 0..n {
         found = with_bit_if(found, u, words[64 * u + e] <= 65534);
-        u += 1;
     }
     found
 }
@@ -60,10 +44,8 @@ fn near_to_each(words: &[u16], n: usize, found: &mut [u64; 64])
     requires { (n ≤ 64) × (64 * n ≤ length words.now) × (length found.old ≡ 64) }
     ensures { found.new ≡ tab (near_to words.now n) n ++ drop n found.old }
 {
-    let mut e = 0;
-    while e < n {
+    for e in 0..n {
         found[e] = near_to(words, n, e);
-        e += 1;
     }
 }
 
@@ -78,18 +60,10 @@ fn links_within(links: &[u8], near: &[u64; 64]) -> bool
     requires { (k : ℕ) → k < link_count links.now → (link_from links.now k < 64) × (link_to links.now k < 64) }
     ensures { result ≡ links_within links.now near.now }
 {
-    let count = links.len() / 4;
-    let mut k = 0;
-    while k < count {
+    (0..links.len() / 4).all(|k| {
         let link = links_read::link_at(links, k);
-        let from = link.from;
-        let to = link.to;
-        if !is_within(near[from], near[to]) {
-            return false;
-        }
-        k += 1;
-    }
-    true
+        is_within(near[link.from], near[link.to])
+    })
 }
 
 // Whether every least sum is at most 65,534. A walk between two routers with a word of 65,535 goes along some link that starts at a

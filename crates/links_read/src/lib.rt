@@ -7,6 +7,9 @@ ghost use Rattle.plan_rules.specs.Rising.{rises_at};
 ghost use Rattle.links_rules.specs.Sheet.{link_before, link_ok, sheet_ok};
 ghost use Rattle.links_read.specs.Link.{LinkIs};
 
+// The most links of a sheet.
+const LINKS_MOST: usize = 512;
+
 // A link: where it leads from and to, and its weight.
 #[derive(Clone, Copy)]
 pub struct Link {
@@ -32,52 +35,20 @@ fn rises(s: &[u8], k: usize) -> bool
     requires { 4 * k + 4 ≤ length s.now }
     ensures { result ≡ rises_at (link_before s.now) k }
 {
-    if k == 0 {
-        return true;
-    }
-    let previous = s[4 * (k - 1)];
-    let from = s[4 * k];
-    if previous < from {
-        return true;
-    }
-    if previous != from {
-        return false;
-    }
-    s[4 * (k - 1) + 1] < s[4 * k + 1]
+    k == 0 || (s[4 * (k - 1)], s[4 * (k - 1) + 1]) < (s[4 * k], s[4 * k + 1])
 }
 
+#[tactic(auto, unfolding(links_rules::specs::Sheet::link_ok))]
 fn link_ok(s: &[u8], n: u8, k: usize) -> bool
     requires { 4 * k + 4 ≤ length s.now }
     ensures { result ≡ link_ok s.now n k }
 {
-    if n <= s[4 * k] {
-        return false;
-    }
-    if n <= s[4 * k + 1] {
-        return false;
-    }
-    if base::read2(s, 4 * k + 2) < 1 {
-        return false;
-    }
-    rises(s, k)
+    s[4 * k] < n && s[4 * k + 1] < n && 1 <= base::read2(s, 4 * k + 2) && rises(s, k)
 }
 
 pub fn sheet_ok(s: &[u8], n: u8) -> bool
     ensures { result ≡ sheet_ok s.now n }
 {
-    if s.len() % 4 != 0 {
-        return false;
-    }
     let count = s.len() / 4;
-    if 512 < count {
-        return false;
-    }
-    let mut k = 0;
-    while k < count {
-        if !link_ok(s, n, k) {
-            return false;
-        }
-        k += 1;
-    }
-    true
+    s.len() % 4 == 0 && count <= LINKS_MOST && (0..count).all(|k| link_ok(s, n, k))
 }

@@ -14,10 +14,8 @@ fn stay(words: &mut [u16], n: usize)
     requires { (n ≤ 64) × HoldsSums nowhere n words.old }
     ensures { HoldsSums staying n words.new }
 {
-    let mut u = 0;
-    while u < n {
+    for u in 0..n {
         lower(words, u, u, 0);
-        u += 1;
     }
 }
 
@@ -26,12 +24,9 @@ fn add_links(links: &[u8], n: usize, words: &mut [u16])
     requires { (n ≤ 64) × (sheet_ok links.now n ≡ true) × HoldsSums staying n words.old }
     ensures { HoldsSums (direct links.now (link_count links.now)) n words.new }
 {
-    let count = links.len() / 4;
-    let mut k = 0;
-    while k < count {
+    for k in 0..links.len() / 4 {
         let link = links_read::link_at(links, k);
         lower(words, link.from, link.to, link.weight);
-        k += 1;
     }
 }
 
@@ -42,9 +37,7 @@ pub fn least_sums(links: &[u8], n: usize, words: &mut [u16])
 {
     stay(words, n);
     add_links(links, n, words);
-    let mut via = 0;
-    while via < n {
+    for via in 0..n {
         pass_through(words, n, via);
-        via += 1;
     }
 }
