@@ -2,8 +2,7 @@
 
 #![tactic(auto)]
 
-ghost use Rattle.std.specs.Prelude.{◌≡◌, ◌++◌, ◌+◌, ◌≤◌, ◌<◌, eqb, length, get_or, drop};
-ghost use Rattle.base.specs.Tab.{tab};
+ghost use Rattle.std.specs.Prelude.{◌≡◌, ◌++◌, ◌≤◌, ◌<◌, MatchOption, eqb, length, get_or, drop};
 ghost use Rattle.base.specs.Seek.{flag, seek};
 ghost use Rattle.base.specs.Bits.{bits};
 ghost use Rattle.graph_groups.specs.Closure.{Within};
@@ -14,19 +13,13 @@ use base::bits::{bit, lowest_bit, without_lowest};
 use base::wide;
 use graph_groups::groups::share;
 
-// The lowest router in a group of two or more, n if there is none: those are the routers that reach themselves.
+// The lowest router in a group of two or more, n if there is none: those are the routers that reach themselves. Here and in `next_router`
+// no Option stands for none: the walk always has a next router, so that its caller would test for nothing.
 fn first_grouped(closed: &[u64; 64], n: usize) -> usize
     requires { (n ≤ 64) × LoopsGrouped (bits closed.now) n }
     ensures { result ≡ start (bits closed.now) n }
 {
-    let mut i = 0;
-    while i < n {
-        if bit(closed[i], i) == 1 {
-            return i;
-        }
-        i += 1;
-    }
-    n
+    (0..n).find(|i| bit(closed[*i], *i) == 1).unwrap_or(n)
 }
 
 // The lowest router that w is related to in its group, n if there is none.
@@ -45,19 +38,13 @@ fn next_router(rows: &[u64; 64], closed: &[u64; 64], n: usize, w: usize) -> usiz
     n
 }
 
-// The first place below k of router w on a path, k if there is none.
-fn place(path: &[u8; 64], k: usize, w: usize) -> usize
+// The first place below k of router w on a path.
+fn place(path: &[u8; 64], k: usize, w: usize) -> Option<usize>
     requires { k ≤ 64 }
-    ensures { result ≡ seek (λ i. flag (eqb (get_or path.now i 0) w)) k }
+    ensures { let first = seek (λ i. flag (eqb (get_or path.now i 0) w)) k in
+        MatchOption result (k ≡ first) (λ place. (place < k) × (place ≡ first)) }
 {
-    let mut i = 0;
-    while i < k {
-        if wide(path[i]) == w {
-            return i;
-        }
-        i += 1;
-    }
-    k
+    path[..k].iter().position(|v| wide(*v) == w)
 }
 
 // A part of a path: from a place up to before another.
@@ -74,25 +61,13 @@ fn follow(rows: &[u64; 64], closed: &[u64; 64], n: usize, path: &mut [u8; 64]) -
 {
     let mut w = first_grouped(closed, n);
     let mut k = 0;
-    let mut met = 0;
-    while met == k {
+    loop {
         path[k] = w as u8;
         w = next_router(rows, closed, n, w);
         k += 1;
-        met = place(path, k, w);
-    }
-    Repeated { from: met, upto: k }
-}
-
-// Copies `count` bytes of a path to the front of `out`.
-fn copy_part(path: &[u8; 64], from: usize, count: usize, out: &mut [u8])
-    requires { (from + count ≤ 64) × (count ≤ length out.old) }
-    ensures { out.new ≡ tab (λ d. get_or path.now (from + d) 0) count ++ drop count out.old }
-{
-    let mut d = 0;
-    while d < count {
-        out[d] = path[from + d];
-        d += 1;
+        if let Some(met) = place(path, k, w) {
+            return Repeated { from: met, upto: k };
+        }
     }
 }
 
@@ -104,8 +79,8 @@ pub fn cycle(rows: &[u64; 64], closed: &[u64; 64], n: usize, out: &mut [u8]) -> 
 {
     let mut path = [0u8; 64];
     let found = follow(rows, closed, n, &mut path);
-    let from = found.from;
-    let count = found.upto - from;
-    copy_part(&path, from, count, out);
+    let count = found.upto - found.from;
+    let part = &path[found.from..found.upto];
+    out[..count].copy_from_slice(part);
     count
 }

@@ -4,11 +4,13 @@ use native.Mathlib.Numerals.{add-one}
 use native.Mathlib.Omega.{arith}
 use native.Mathlib.Nat.{zero-div}
 use mathlib.Core.Path.{◌≡◌, refl, ◌∙◌, sym, ap, ap₂}
-use mathlib.Core.List.{List}
+use mathlib.Core.List.{List, ◌++◌}
 use mathlib.Core.Logic.{⊎_elim}
 use lib.Bits.{bit_or}
 use lib.ListN.{length, get_or, set, length-set, get_or-eq_default}
 use lib.Seq.{get_or-set_same, get_or-set_other}
+use lib.ListN.{take, get_or-append}
+use Rattle.std.proofs.lemmas.List.{get_or-take, length-take-le}
 use Rattle.base.specs.Bits.{bit_n, bits}
 use Rattle.base.proofs.BitLaws.{bit-or, bit_in}
 use Rattle.base.proofs.Numbers.{eq-or-ne, lt-or-le}
@@ -104,3 +106,13 @@ module _ (R : Relation) (n : ℕ) where
 
   pub closing-done : (C : Relation) (k : ℕ) → k ≤ n → n ≤ k → Agree C (cell 0 (closing R n k)) n → Agree C (closure R n) n
   closing-done C k u l g = let e : k ≡ n = omega arith in rw e at g
+
+-- the first n rows, passed through k: the rest of the rows say nothing
+pub passed-front : (n k : ℕ) (rows front rest : List ℕ) (i : ℕ) → k < n → n ≤ length rows → length front ≡ length (take n rows) → n ≤ i
+    → Passed n k (take n rows) front i → Agree (bits (front ++ rest)) (through reaches (bits rows) k) n
+passed-front n k rows front rest i o long same l w d j m q =
+    let at : (e : ℕ) → e < n → get_or (take n rows) e 0 ≡ get_or rows e 0 = λ e t. get_or-take n rows e 0 t in
+    let room : d < length front = omega (arith, same, length-take-le n rows long) in
+    ap (λ y. bit_n y j) (get_or-append front rest 0 d room)
+    ∙ passed-done n k (take n rows) front i l w d j m q
+    ∙ ap₂ (λ x y. max (bit_n x j) (min (bit_n x k) (bit_n y j))) (at d m) (at k o)

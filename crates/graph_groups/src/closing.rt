@@ -27,10 +27,8 @@ fn pass_through(rows: &mut [u64; 64], n: usize, k: usize)
     if beyond == 0 {
         return;
     }
-    let mut i = 0;
-    while i < n {
-        rows[i] = joined(rows[i], beyond, k);
-        i += 1;
+    for row in &mut rows[..n] {
+        *row = joined(*row, beyond, k);
     }
 }
 
@@ -40,10 +38,8 @@ fn related_to(rows: &[u64; 64], n: usize) -> u64
     ensures { Spans rows.now result n }
 {
     let mut any = 0;
-    let mut w = 0;
-    while w < n {
-        any = any | rows[w];
-        w += 1;
+    for row in &rows[..n] {
+        any |= *row;
     }
     any
 }
@@ -55,13 +51,9 @@ pub fn close(rows: &mut [u64; 64], n: usize)
     ensures { Agree (bits rows.new) (closure (bits rows.old) n) n }
 {
     let inner = related_to(rows, n);
-    let mut k = 0;
-    while k < n {
-        if bit(inner, k) == 0 {
-            k += 1;
-        } else {
+    for k in 0..n {
+        if bit(inner, k) != 0 {
             pass_through(rows, n, k);
-            k += 1;
         }
     }
 }

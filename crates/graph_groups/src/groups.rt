@@ -30,14 +30,7 @@ fn label_of(closed: &[u64; 64], i: usize) -> usize
     if bit(closed[i], i) == 0 {
         return i;
     }
-    let mut j = 0;
-    while j < i {
-        if 0 < share(closed, i, j) {
-            return j;
-        }
-        j += 1;
-    }
-    i
+    (0..i).find(|j| 0 < share(closed, i, *j)).unwrap_or(i)
 }
 
 // Writes the label of each router to the first n bytes of `out`.
@@ -45,10 +38,8 @@ pub fn labels(closed: &[u64; 64], n: usize, out: &mut [u8])
     requires { (n ≤ 64) × (n ≤ length out.old) × AllReturn (bits closed.now) n }
     ensures { out.new ≡ tab (label (bits closed.now)) n ++ drop n out.old }
 {
-    let mut i = 0;
-    while i < n {
+    for i in 0..n {
         out[i] = label_of(closed, i) as u8;
-        i += 1;
     }
 }
 
@@ -57,12 +48,5 @@ pub fn is_stable(closed: &[u64; 64], n: usize) -> bool
     requires { (n ≤ 64) × AllReturn (bits closed.now) n }
     ensures { result ≡ stable (bits closed.now) n }
 {
-    let mut i = 0;
-    while i < n {
-        if label_of(closed, i) != i {
-            return false;
-        }
-        i += 1;
-    }
-    true
+    (0..n).all(|i| label_of(closed, i) == i)
 }

@@ -2,7 +2,7 @@
 
 #![tactic(auto)]
 
-ghost use Rattle.std.specs.Prelude.{◌≡◌, ◌++◌, ◌≤◌, max, length, drop};
+ghost use Rattle.std.specs.Prelude.{◌≡◌, ◌++◌, ◌≤◌, length, drop};
 ghost use Rattle.base.specs.Tab.{tab};
 ghost use Rattle.base.specs.Bits.{bits};
 ghost use Rattle.graph_groups.specs.Closure.{Within, Acyclic};
@@ -14,12 +14,6 @@ use base::wide;
 
 // The mark of a rank that is not known yet. No rank is as high.
 const UNKNOWN: u8 = 255;
-
-fn higher(a: usize, b: usize) -> usize
-    ensures { result ≡ max a b }
-{
-    if a < b { b } else { a }
-}
 
 // The rank of w, by recursion along the relation. `left` is more than the routers left on the chains from w.
 // `known` keeps each rank once it is found.
@@ -36,7 +30,7 @@ fn rank_of(rows: &[u64; 64], n: usize, w: usize, left: usize, known: &mut [u8]) 
     while ahead != 0 {
         let v = lowest_bit(ahead);
         let r = rank_of(rows, n, v, left - 1, known);
-        high = higher(high, r + 1);
+        high = high.max(r + 1);
         ahead = without_lowest(ahead);
     }
     known[w] = high as u8;
@@ -48,11 +42,7 @@ fn forget(out: &mut [u8], n: usize)
     requires { n ≤ length out.old }
     ensures { out.new ≡ tab (λ v. 255) n ++ drop n out.old }
 {
-    let mut v = 0;
-    while v < n {
-        out[v] = UNKNOWN;
-        v += 1;
-    }
+    out[..n].fill(UNKNOWN);
 }
 
 // Writes the rank of each router to the first n bytes of `out`, and returns the highest.
@@ -63,11 +53,9 @@ pub fn ranks(rows: &[u64; 64], n: usize, out: &mut [u8]) -> usize
 {
     forget(out, n);
     let mut high = 0;
-    let mut w = 0;
-    while w < n {
+    for w in 0..n {
         let r = rank_of(rows, n, w, n, out);
-        high = higher(high, r);
-        w += 1;
+        high = high.max(r);
     }
     high
 }
