@@ -2,7 +2,7 @@
 // number that orders routes by distance, then by egress, then by sender; the best has the least. A router with the hop step
 // first makes a pass over those that tell their own route.
 
-ghost use Rattle.std.specs.Prelude.{◌≡◌, false, cond, List, ℕ, ◌+◌, ◌*◌, ◌≤◌, ◌<◌, min, max, length};
+ghost use Rattle.std.specs.Prelude.{◌≡◌, false, cond, List, ℕ, ◌+◌, ◌*◌, ◌≤◌, ◌<◌, max, length};
 ghost use Rattle.std.proofs.Math.Option.{none, some};
 ghost use Rattle.base.specs.Bits.{bit_n};
 ghost use Rattle.plan_rules.specs.Distances.{highest, number_at, TwoOrFour, DistanceTable};
@@ -63,10 +63,7 @@ fn key_route(key: usize, none: usize) -> RouteBytes
     ensures { (N : Numbers) → none ≡ no_key N → route_of result ≡ key_route N key }
 {
     if none <= key {
-        return RouteBytes {
-            egress: NO_ROUTER,
-            sender: NO_ROUTER,
-        };
+        return RouteBytes::none();
     }
     let egress = (key / EGRESS_PLACE % 256) as u8;
     let mark = key % EGRESS_PLACE;
@@ -143,15 +140,6 @@ fn advertised(
     reflected(net, distances, w, v, route, none)
 }
 
-fn lesser(a: usize, b: usize) -> usize
-    ensures { result ≡ min a b }
-{
-    if b < a {
-        return b;
-    }
-    a
-}
-
 // The least key advertised to w, `none` if nothing is: of its neighbours only listed routers and reflectors advertise any.
 fn best_heard(
     net: Network,
@@ -170,10 +158,8 @@ fn best_heard(
     let mut left = rows[w] & (net.listed | net.reflectors);
     while left != 0 {
         let v = base::bits::lowest_bit(left);
-        least = lesser(
-            least,
-            advertised(net, distances, w, v, net_tables::route_at(table, v), none),
-        );
+        let held = net_tables::route_at(table, v);
+        least = least.min(advertised(net, distances, w, v, held, none));
         left = base::bits::without_lowest(left);
     }
     least
@@ -186,10 +172,7 @@ fn own_route(v: usize, route: RouteBytes) -> RouteBytes
     if base::wide(route.egress) == v {
         return route;
     }
-    RouteBytes {
-        egress: NO_ROUTER,
-        sender: NO_ROUTER,
-    }
+    RouteBytes::none()
 }
 
 // The least key of the routes that their own egress advertises to w, `none` if there is none: by a listed neighbour, or by a reflector
@@ -212,7 +195,7 @@ fn best_direct(
     while left != 0 {
         let v = base::bits::lowest_bit(left);
         let route = own_route(v, net_tables::route_at(table, v));
-        least = lesser(least, advertised(net, distances, w, v, route, none));
+        least = least.min(advertised(net, distances, w, v, route, none));
         left = base::bits::without_lowest(left);
     }
     least
@@ -254,11 +237,7 @@ fn put_own(table: &mut [u8], w: usize)
     requires { (w < 64) × (2 * w + 2 ≤ length table.old) }
     ensures { table.new ≡ put_route table.old w (via w w) }
 {
-    let own = RouteBytes {
-        egress: w as u8,
-        sender: w as u8,
-    };
-    net_tables::put_route(table, w, own);
+    net_tables::put_route(table, w, RouteBytes::own(w));
 }
 
 // Writes the route of a key, where `none` is that of nothing.

@@ -17,10 +17,8 @@ fn looping(closed: &[u64; 64], n: usize) -> u64
     ensures { result ≡ marked (λ w. eqb (bits closed.now w w) 1) n }
 {
     let mut found = 0;
-    let mut w = 0;
-    while w < n {
+    for w in 0..n {
         found = base::bits::with_bit_if(found, w, base::bits::has_bit(closed[w], w));
-        w += 1;
     }
     found
 }

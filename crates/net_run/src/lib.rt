@@ -4,7 +4,7 @@
 
 pub mod tally;
 
-ghost use Rattle.std.specs.Prelude.{◌≡◌, ◌<◌, min};
+ghost use Rattle.std.specs.Prelude.{◌<◌};
 ghost use Rattle.route_rules.specs.Rounds.{ActsBelow};
 ghost use Rattle.net_rules.specs.Decoded.{instance};
 ghost use Rattle.net_rules.specs.WellFormed.{WellFormed};
@@ -23,16 +23,6 @@ pub struct Applied {
     pub exhausted: bool,
 }
 
-// The acts applied of a sequence of so many: all of them, or as many as the limit.
-fn within(limit: usize, count: usize) -> usize
-    ensures { result ≡ min limit count }
-{
-    if limit < count {
-        return limit;
-    }
-    count
-}
-
 // Applies a sequence, at most `limit` acts of it.
 pub fn apply(
     net: Network,
@@ -48,18 +38,16 @@ pub fn apply(
         table.old result table.new }
 {
     let n = net.n;
-    let acts = within(limit, sequence.len());
+    let acts = limit.min(sequence.len());
     let mut tally = RoundTally::new(n);
-    let mut i = 0;
-    while i < acts {
-        let router = base::wide(sequence[i]);
+    for act in &sequence[..acts] {
+        let router = base::wide(*act);
         if takes_step(net, router) {
             activate(net, rows, distances, router, table);
         } else {
             activate_in_one_pass(net, rows, distances, router, table);
         }
         tally = tally.act(n, router);
-        i += 1;
     }
     Applied {
         acts,

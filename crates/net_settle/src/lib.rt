@@ -9,7 +9,7 @@ ghost use Rattle.net_rules.specs.Decoded.{decoded, instance};
 ghost use Rattle.net_settle.specs.ByRank.{first_route, Started, SettleAsked, highest_in, SettledBelow};
 
 use net_activate::activations::{activate, activate_in_one_pass, takes_step};
-use net_rules::{NO_ROUTER, Network};
+use net_rules::Network;
 use net_tables::RouteBytes;
 
 // What router v holds before it acts: its own route if it is listed, else nothing.
@@ -18,15 +18,9 @@ fn first_route(net: Network, v: usize) -> RouteBytes
     ensures { (rows distances : List ℕ) → route_of result ≡ first_route (decoded net rows distances) v }
 {
     if base::bits::has_bit(net.listed, v) {
-        return RouteBytes {
-            egress: v as u8,
-            sender: v as u8,
-        };
+        return RouteBytes::own(v);
     }
-    RouteBytes {
-        egress: NO_ROUTER,
-        sender: NO_ROUTER,
-    }
+    RouteBytes::none()
 }
 
 // The table that no router has acted on.
@@ -35,11 +29,8 @@ fn start(net: Network, table: &mut [u8])
     ensures { (rows distances : List ℕ)
         → Started (decoded net rows distances) net.n table.old table.new }
 {
-    let n = net.n;
-    let mut v = 0;
-    while v < n {
+    for v in 0..net.n {
         net_tables::put_route(table, v, first_route(net, v));
-        v += 1;
     }
 }
 
@@ -57,17 +48,13 @@ fn settle_rank(
     ensures { SettledBelow (instance net rows.entry distances.entry) ranks.now (r + 1)
         table.old table.new }
 {
-    let n = net.n;
-    let mut w = 0;
-    while w < n {
-        if base::wide(ranks[w]) != r {
-            w += 1;
-        } else if takes_step(net, w) {
-            activate(net, rows, distances, w, table);
-            w += 1;
-        } else {
-            activate_in_one_pass(net, rows, distances, w, table);
-            w += 1;
+    for w in 0..net.n {
+        if base::wide(ranks[w]) == r {
+            if takes_step(net, w) {
+                activate(net, rows, distances, w, table);
+            } else {
+                activate_in_one_pass(net, rows, distances, w, table);
+            }
         }
     }
 }
@@ -86,9 +73,7 @@ pub fn settle(
         ++ drop (2 * net.n) table.old }
 {
     start(net, table);
-    let mut r = 0;
-    while r <= highest {
+    for r in 0..=highest {
         settle_rank(net, rows, distances, ranks, r, table);
-        r += 1;
     }
 }

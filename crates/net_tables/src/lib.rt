@@ -5,6 +5,7 @@
 ghost use Rattle.std.specs.Prelude.{◌≡◌, List, ℕ, ◌+◌, ◌*◌, ◌≤◌, ◌<◌, eqb, length};
 ghost use Rattle.base.specs.Bits.{bit_n};
 ghost use Rattle.route_rules.specs.Activation.{entry_ok};
+ghost use Rattle.route_rules.specs.Instance.{nothing, via};
 ghost use Rattle.net_rules.specs.Decoded.{decoded};
 ghost use Rattle.net_tables.specs.TableBytes.{route_at, put_route, route_of, table_rule};
 
@@ -15,6 +16,29 @@ use net_rules::{NO_ROUTER, Network};
 pub struct RouteBytes {
     pub egress: u8,
     pub sender: u8,
+}
+
+impl RouteBytes {
+    // No route.
+    pub fn none() -> RouteBytes
+        ensures { route_of result ≡ nothing }
+    {
+        RouteBytes {
+            egress: NO_ROUTER,
+            sender: NO_ROUTER,
+        }
+    }
+
+    // The route of router v to itself.
+    pub fn own(v: usize) -> RouteBytes
+        requires { v < 64 }
+        ensures { route_of result ≡ via v v }
+    {
+        RouteBytes {
+            egress: v as u8,
+            sender: v as u8,
+        }
+    }
 }
 
 pub fn route_at(table: &[u8], v: usize) -> RouteBytes
@@ -72,13 +96,5 @@ pub fn table_ok(net: Network, rows: &[u64; 64], table: &[u8]) -> bool
     requires { (net.n ≤ 64) × (2 * net.n ≤ length table.now) }
     ensures { (distances : List ℕ) → result ≡ table_rule (decoded net rows.now distances) table.now }
 {
-    let n = net.n;
-    let mut v = 0;
-    while v < n {
-        if !entry_ok(net, rows, v, route_at(table, v)) {
-            return false;
-        }
-        v += 1;
-    }
-    true
+    (0..net.n).all(|v| entry_ok(net, rows, v, route_at(table, v)))
 }
