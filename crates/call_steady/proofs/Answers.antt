@@ -1,4 +1,5 @@
 -- What the call answers, case by case.
+use Rattle.std.specs.Prelude.{Option, Some, None}
 use Prim.Native.Nat.{ℕ, ◌*◌, ◌≤◌, ◌<◌}
 use native.Mathlib.Omega.{arith}
 use mathlib.Core.Path.{◌≡◌, refl, ◌∙◌, sym, ap, ap₂}
@@ -15,8 +16,6 @@ use Rattle.steady_rules.specs.Numbers.{numbers_where}
 use Rattle.steady_rules.specs.Steady.{steady_numbers, steady_count}
 use Rattle.net_steady.specs.Building.{in_set}
 use Rattle.net_steady.specs.SteadySet.{SetGiven}
-use Rattle.net_steady.specs.declared.SteadySet.{SteadySet}
-use Rattle.net_steady.specs.declared.SteadySet.TheVariants.{TooMany, Marked}
 use Rattle.call_rules.specs.Refusals.{has_list, egress_list_refusal, few_grouped, numbers_long, steady_checks, steady_refusal}
 use Rattle.call_rules.proofs.Granted.{asked-refused, asked-passed}
 use Rattle.call_steady.specs.Steady.{number_bytes, steady_answer, numbers_after, SteadyGiven, SteadyCall}
@@ -41,30 +40,30 @@ steady-refused number asked I out same h =
     }
 
 -- the set that was handed back
-module _ (I : Instance) (found : SteadySet) (set : List ℕ) (g : SetGiven I found set) where
-  found-is : (b : Bool) → few_grouped I ≡ b → found ≡ cond b (Marked (steady_count I)) TooMany
-  found-is b e = g.answer ∙ ap (λ b. cond b (Marked (steady_count I)) TooMany) e
+module _ (I : Instance) (set : List ℕ) where
+  found-is : (found : Option ℕ) (b : Bool) → SetGiven I found set → few_grouped I ≡ b → found ≡ cond b (Some (steady_count I)) None
+  found-is found b g e = g.answer ∙ ap (λ b. cond b (Some (steady_count I)) None) e
 
   -- "if more than 12 routers lie in such groups"
-  pub many-checks : found ≡ TooMany → (out : List ℕ) → 15 ≡ steady_checks I out
+  pub many-checks : SetGiven I None set → (out : List ℕ) → 15 ≡ steady_checks I out
   unfolding steady_checks refuse
-  many-checks q out = go (few_grouped I) refl
+  many-checks g out = go (few_grouped I) refl
     where
       go : (b : Bool) → few_grouped I ≡ b → 15 ≡ refuse (few_grouped I) 15 (refuse (numbers_long I out) 9 0)
       go true e =
-          let z : ◌≡◌ {A = SteadySet} (Marked (steady_count I)) TooMany = sym (found-is true e) ∙ q in
+          let z : ◌≡◌ {A = Option ℕ} None (Some (steady_count I)) = found-is None true g e in
           let y : ◌≡◌ {A = ℕ} 0 1 = cc in
           absurd (omega arith)
       go false e = rw e
 
-  module _ (count : ℕ) (q : found ≡ Marked count) where
+  module _ (count : ℕ) (g : SetGiven I (Some count) set) where
     few : (few_grouped I ≡ true) × (count ≡ steady_count I)
     few = go (few_grouped I) refl
       where
         go : (b : Bool) → few_grouped I ≡ b → (few_grouped I ≡ true) × (count ≡ steady_count I)
-        go true e = (e, let z : ◌≡◌ {A = SteadySet} (Marked count) (Marked (steady_count I)) = sym q ∙ found-is true e in cc)
+        go true e = (e, let z : ◌≡◌ {A = Option ℕ} (Some count) (Some (steady_count I)) = found-is (Some count) true g e in cc)
         go false e =
-            let z : ◌≡◌ {A = SteadySet} (Marked count) TooMany = sym q ∙ found-is false e in
+            let z : ◌≡◌ {A = Option ℕ} (Some count) None = found-is (Some count) false g e in
             let y : ◌≡◌ {A = ℕ} 0 1 = cc in
             absurd (omega arith)
 

@@ -12,9 +12,9 @@ use lib.Seq.{get_or_at}
 use Rattle.base.specs.Buffer.{written}
 use Rattle.base.specs.Bytes.{bytes_of}
 use Rattle.base.specs.Tab.{joined}
-use Rattle.base.proofs.Buffer.{Laid, laid-front, Pieces, pieces-start, pieces-length, pieces_room, pieces_more, pieces-done}
+use Rattle.base.proofs.Buffer.{Laid, laid-front, Pieces, pieces-start, pieces_room, pieces_more, pieces-done}
 use Rattle.base.proofs.Joined.{length-joined}
-use Rattle.base.proofs.Numbers.{eq-or-ne, lt-or-le, true-or-false}
+use Rattle.base.proofs.Numbers.{eq-or-ne, true-or-false}
 use Rattle.steady_rules.specs.Numbers.{numbers_where}
 use Rattle.steady_rules.proofs.Listing.{where-none, where-yes, where-no}
 use Rattle.net_steady.specs.Building.{in_set}
@@ -80,11 +80,12 @@ module _ (set : List ℕ) (count : ℕ) (out₀ : List ℕ) where
       }
 
   module _ (out : List ℕ) (i x : ℕ) (w : Writing set count out₀ out i x) where
-    pub writing-length : length out ≡ length out₀
-    writing-length = pieces-length w.pieces
+    pub writing-few : i ≤ count
+    writing-few = omega (arith, w.all, w.found, as_many (in_set set) x 4096 w.upto)
 
-    pub writing-few : count ≤ 4096
-    writing-few = omega (arith, w.all, few-where (in_set set) 4096)
+    -- all 4,096 were seen
+    pub writing-all : 4096 ≤ x → i ≡ count
+    writing-all l = let e : x ≡ 4096 = omega (arith, w.upto) in w.found ∙ ap (λ k. length (numbers_where (in_set set) k)) e ∙ sym w.all
 
     pub writing-done : count ≤ i → out ≡ number_bytes (numbers_where (in_set set) 4096) ++ drop (2 * count) out₀
     unfolding number_bytes
@@ -94,27 +95,17 @@ module _ (set : List ℕ) (count : ℕ) (out₀ : List ℕ) where
         = record { within = omega (arith, w.pieces.joining.long); is = pieces-done w.pieces l } in
         laid-front whole ∙ ap₂ (λ k c. joined piece k ++ drop c out₀) w.all size
 
-    module _ (l : i < count) where
-      -- some are left, so x is below the bound
-      pub writing-below : x < 4096
-      writing-below =
-          ⊎_elim (λ (h : x < 4096). h)
-          (λ (h : 4096 ≤ x). let e : x ≡ 4096 = omega (arith, w.upto) in absurd (omega (arith, w.all, rw e at w.found)))
-          (lt-or-le x 4096)
-
-      writing-below-next : x + 1 ≤ 4096
-      writing-below-next = omega (arith, writing-below)
-
+    module _ (below : x < 4096) (l : i < count) where
       pub writing-room : 2 * i + 2 ≤ length out
       writing-room = omega (arith, pieces_room w.pieces l)
 
       pub writing_more : (out' : List ℕ) → in_set set x ≡ true → out' ≡ written out (2 * i) (bytes_of 2 x) → Writing set count out₀ out' (i + 1) (x + 1)
       writing_more out' e q =
           let own : get_or (numbers_where (in_set set) 4096) i 0 ≡ x
-          = ap (λ k. get_or (numbers_where (in_set set) 4096) k 0) w.found ∙ nth-where (in_set set) x 4096 writing-below e in
+          = ap (λ k. get_or (numbers_where (in_set set) 4096) k 0) w.found ∙ nth-where (in_set set) x 4096 below e in
           record {
             all = w.all;
-            upto = writing-below-next;
+            upto = omega (arith, below);
             found = ap (λ k. k + 1) w.found ∙ sym (ap (λ k. length (numbers_where (in_set set) k)) (add-one x) ∙ more (in_set set) x e);
             pieces = pieces_more w.pieces l (q ∙ ap₂ (λ at y. written out at (bytes_of 2 y)) (sym (zero-add (2 * i))) (sym own));
           }
@@ -123,7 +114,7 @@ module _ (set : List ℕ) (count : ℕ) (out₀ : List ℕ) where
       writing-skip e =
           record {
             all = w.all;
-            upto = writing-below-next;
+            upto = omega (arith, below);
             found = w.found ∙ sym (ap (λ k. length (numbers_where (in_set set) k)) (add-one x) ∙ ap length (where-no (in_set set) x e));
             pieces = w.pieces;
           }

@@ -12,8 +12,9 @@ fn write_number(out: &mut [u8], at: usize, x: usize)
     requires { at + 2 ≤ length out.old }
     ensures { out.new ≡ written out.old at (bytes_of 2 x) }
 {
-    out[at] = (x % 256) as u8;
-    out[at + 1] = (x / 256 % 256) as u8;
+    let bytes = x.to_le_bytes();
+    out[at] = bytes[0];
+    out[at + 1] = bytes[1];
 }
 
 // Writes the numbers of a set that holds `count` of them, rising.
@@ -23,14 +24,13 @@ pub fn write_numbers(set: &[u64; 64], count: usize, out: &mut [u8])
         ++ drop (2 * count) out.old }
 {
     let mut i = 0;
-    let mut x = 0;
-    while i < count {
+    for x in 0..4096 {
+        if i == count {
+            return;
+        }
         if net_steady::listing::has_number(set, x) {
             write_number(out, 2 * i, x);
             i += 1;
-            x += 1;
-        } else {
-            x += 1;
         }
     }
 }

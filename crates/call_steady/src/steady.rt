@@ -8,7 +8,6 @@ ghost use Rattle.net_rules.specs.WellFormed.{WellFormed};
 ghost use Rattle.call_steady.specs.Steady.{SteadyGiven, SteadyCall};
 
 use net_rules::Network;
-use net_steady::SteadySet;
 use plan_contents::entries::DISTANCES;
 
 // Its refusal number; or how many tables are listed.
@@ -25,8 +24,7 @@ fn list_steady(net: Network, rows: &[u64; 64], distances: &[u8], out: &mut [u8])
         (instance net rows.entry distances.entry) result (lent out) }
 {
     let mut set = [0u64; 64];
-    let found = net_steady::steady_set(net, rows, distances, &mut set);
-    let SteadySet::Marked(count) = found else {
+    let Some(count) = net_steady::steady_set(net, rows, distances, &mut set) else {
         return SteadyAnswer::Refused(15);
     };
     if out.len() < 2 * count {

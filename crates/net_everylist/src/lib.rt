@@ -6,7 +6,7 @@
 pub mod peeling;
 pub mod walking;
 
-ghost use Rattle.std.specs.Prelude.{◌≡◌, ◌++◌, ◌≤◌, eqb, length, get_or, drop};
+ghost use Rattle.std.specs.Prelude.{◌≡◌, ◌++◌, ◌≤◌, ◌<◌, eqb, length, get_or, drop, MatchOption};
 ghost use Rattle.base.specs.Bits.{bit_n};
 ghost use Rattle.base.specs.Lent.{lent};
 ghost use Rattle.base.specs.Seek.{seek};
@@ -27,19 +27,12 @@ pub enum EveryList {
     Undecided,
 }
 
-// The lowest router with a bit in its row; n if there is none.
-fn first_left(left: &[u64; 64], n: usize) -> usize
+// The lowest router with a bit in its row.
+fn first_left(left: &[u64; 64], n: usize) -> Option<usize>
     requires { n ≤ 64 }
-    ensures { result ≡ seek (λ w. get_or left.now w 0) n }
+    ensures { let first = seek (λ w. get_or left.now w 0) n in MatchOption result (n ≡ first) (λ w. (w < n) × (w ≡ first)) }
 {
-    let mut w = 0;
-    while w < n {
-        if left[w] != 0 {
-            return w;
-        }
-        w += 1;
-    }
-    n
+    (0..n).find(|w| left[*w] != 0)
 }
 
 // Whether the network with these routers listed is stable: the verdict's own test.
@@ -47,14 +40,7 @@ fn stable_with(net: Network, rows: &[u64; 64], distances: &[u8], listed: u64) ->
     requires { WellFormed net rows.now distances.now }
     ensures { result ≡ stable_for (instance net rows.entry distances.entry) (λ v. eqb (bit_n listed v) 1) }
 {
-    let judged = Network {
-        n: net.n,
-        width: net.width,
-        reflectors: net.reflectors,
-        skips: net.skips,
-        hop: net.hop,
-        listed,
-    };
+    let judged = Network { listed, ..net };
     let mut relied = [0u64; 64];
     let mut closed = [0u64; 64];
     net_groups::group_rows(judged, rows, distances, &mut relied, &mut closed) == 0
@@ -86,10 +72,9 @@ pub fn every_list(net: Network, rows: &[u64; 64], distances: &[u8], list: &mut [
     let mut left = [0u64; 64];
     peeling::pair_rows(net, rows, distances, &mut left);
     peeling::peel(net, rows, distances, &mut left);
-    let first = first_left(&left, n);
-    if n <= first {
+    let Some(first) = first_left(&left, n) else {
         return EveryList::Yes;
-    }
+    };
     let word = walking::found_list(net, rows, distances, &left, first);
     if stable_with(net, rows, distances, word) {
         return EveryList::Undecided;

@@ -1,6 +1,6 @@
 // The pairs of a reflector and a client that are left, a row of bits for each reflector.
 
-ghost use Rattle.std.specs.Prelude.{◌≡◌, ◌&&◌, ℕ, ◌≤◌, ◌<◌, min, eqb, leb, replicate};
+ghost use Rattle.std.specs.Prelude.{◌≡◌, ◌&&◌, ℕ, ◌≤◌, ◌<◌, eqb, leb, replicate};
 ghost use Rattle.base.specs.Below.{any_below};
 ghost use Rattle.base.specs.Bits.{bit_n};
 ghost use Rattle.plan_rules.specs.Distances.{TwoOrFour, DistanceTable};
@@ -33,15 +33,6 @@ fn client_key(distances: &[u8], width: usize, n: usize, w: usize, e: usize) -> u
     plan_distances::number(distances, width, n, w, e) * DISTANCE_PLACE + e
 }
 
-fn lesser(a: usize, b: usize) -> usize
-    ensures { result ≡ min a b }
-{
-    if b < a {
-        return b;
-    }
-    a
-}
-
 // The least key of a word's clients at w; `none` if that is lower.
 fn least_key(distances: &[u8], width: usize, n: usize, w: usize, word: u64, none: usize) -> usize
     requires { (w < n) × (n ≤ 64) × DistanceTable width distances.now n × WordBelow word n }
@@ -51,7 +42,7 @@ fn least_key(distances: &[u8], width: usize, n: usize, w: usize, word: u64, none
     let mut left = word;
     while left != 0 {
         let e = lowest_bit(left);
-        least = lesser(least, client_key(distances, width, n, w, e));
+        least = least.min(client_key(distances, width, n, w, e));
         left = without_lowest(left);
     }
     least
@@ -96,11 +87,8 @@ pub fn pair_rows(net: Network, rows: &[u64; 64], distances: &[u8], left: &mut [u
     requires { WellFormed net rows.now distances.now × (left.old ≡ replicate 64 0) }
     ensures { AllPairs (instance net rows.entry distances.entry) left.new }
 {
-    let n = net.n;
-    let mut w = 0;
-    while w < n {
+    for w in 0..net.n {
         left[w] = own_clients(net, rows, distances, w);
-        w += 1;
     }
 }
 
@@ -155,14 +143,11 @@ fn pass(net: Network, rows: &[u64; 64], distances: &[u8], left: &mut [u64; 64]) 
     requires { WellFormed net rows.now distances.now × PairsIn (instance net rows distances) left.old }
     ensures { OnePass (instance net rows.entry distances.entry) left.old result left.new }
 {
-    let n = net.n;
     let mut taken = 0;
-    let mut w = 0;
-    while w < n {
+    for w in 0..net.n {
         let gone = lost(net, rows, distances, left, w);
         left[w] = without(left[w], gone);
-        taken = taken | gone;
-        w += 1;
+        taken |= gone;
     }
     taken
 }

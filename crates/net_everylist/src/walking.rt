@@ -21,7 +21,7 @@ struct Step {
     next: u8,
 }
 
-// The lowest of several reflectors that is left with client e; n if none is.
+// The lowest of several reflectors that is left with client e; n if none is. It is no Option: one of the caller's always is.
 fn first_with(left: &[u64; 64], n: usize, reflectors: u64, e: usize) -> usize
     requires { (n ≤ 64) × (e < 64) × WordBelow reflectors n }
     ensures { result ≡ seek (λ v. flag (eqb (bit_n reflectors v) 1 && pair_in left.now v e)) n }
@@ -64,16 +64,11 @@ fn steps(
         × (clients.old ≡ replicate 64 0) × (nexts.old ≡ replicate 64 0) }
     ensures { Steps (instance net rows.entry distances.entry) clients.new nexts.new }
 {
-    let n = net.n;
-    let mut w = 0;
-    while w < n {
+    for w in 0..net.n {
         if left[w] != 0 {
             let on = next_step(net, rows, distances, left, w);
             clients[w] = on.client;
             nexts[w] = on.next;
-            w += 1;
-        } else {
-            w += 1;
         }
     }
 }
@@ -86,10 +81,8 @@ fn walked(nexts: &[u8; 64], start: usize, count: usize) -> usize
         → any_below (has_left I) I.n ≡ true → start ≡ walk I k → result ≡ walk I (k + count) }
 {
     let mut w = start;
-    let mut i = 0;
-    while i < count {
+    for _i in 0..count {
         w = base::wide(nexts[w]);
-        i += 1;
     }
     w
 }
@@ -103,11 +96,9 @@ fn named(clients: &[u8; 64], nexts: &[u8; 64], start: usize, count: usize) -> u6
 {
     let mut word = 0;
     let mut w = start;
-    let mut i = 0;
-    while i < count {
+    for _i in 0..count {
         word = base::bits::with_bit(word, base::wide(clients[w]));
         w = base::wide(nexts[w]);
-        i += 1;
     }
     word
 }

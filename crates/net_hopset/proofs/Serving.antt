@@ -5,7 +5,7 @@ use native.Mathlib.Nat.{lt_of_lt_of_le}
 use mathlib.Core.Path.{◌≡◌, refl, ◌∙◌, sym, ap, ap₂}
 use mathlib.Core.Bool.{true, false, not, ◌&&◌, ◌||◌, and-false, or-true}
 use mathlib.Core.List.{List}
-use mathlib.Core.Logic.{◌⊎◌, ⊎_elim}
+use mathlib.Core.Logic.{⊎_elim}
 use borrow.Author.Tests.{eqb-true, eq-eqb, ne_eqb, not-true}
 use lib.Bits.{bit_or, bit_and, or_lt, or_add_and, and_le_l, and_le_r}
 use lib.Count.{count_trailing_zeros}
@@ -14,12 +14,12 @@ use lib.ListN.{get_or}
 use lib.Pow.{pow-lt, pow_mono}
 use Rattle.base.specs.Bits.{bit_n}
 use Rattle.base.specs.BitWalk.{from_bit, LowestBit}
-use Rattle.base.specs.Seek.{flag, seek}
+use Rattle.base.specs.Seek.{flag}
 use Rattle.base.proofs.BitLaws.{bit_past}
-use Rattle.base.proofs.BitSeek.{Seeking, seeking-start, seeking-miss, seeking-below, seeking-set, seeking-hit, seeking-more}
+use Rattle.base.proofs.BitSeek.{Seeking, seeking-start, seeking-miss, seeking-below, seeking-set, seeking-more}
 use Rattle.base.proofs.BitWalk.{lowest-is}
 use Rattle.base.proofs.Numbers.{lt-or-le, eq-or-ne, both_left, both_right, not-both, true-or-false}
-use Rattle.base.proofs.Seek.{flag-yes, Found, seek_found}
+use Rattle.base.proofs.Seek.{seek_found}
 use Rattle.base.proofs.SetBits.{bit-none, bit-with, set-and, set-less}
 use Rattle.route_rules.specs.Instance.{Instance}
 use Rattle.route_rules.specs.Reliance.{relies}
@@ -58,51 +58,47 @@ pub left_below : (k all x left : ℕ) → all < 2 ^ k → ((j : ℕ) → bit_n l
 left_below k all x left fits without u h =
     ⊎_elim (λ (l : u < k). l) (λ (l : k ≤ u). absurd (omega (arith, without u, bit_past k all u fits l))) (lt-or-le u k)
 
+-- a free place is one of those left
+pub free-below : (rows : List ℕ) (k all x left : ℕ) → all < 2 ^ k → ((j : ℕ) → bit_n left j ≡ min (bit_n all j) (1 - bit_n x j))
+    → (i : ℕ) → is_free (get_or rows i 0) left i ≡ true → i < k
+free-below rows k all x left fits without i free =
+    left_below k all x left fits without i (eqb-true (bit_n left i) 1 (both_left (bit_at left i) _ free))
+
 -- the search for a free place among those left
-module _ (rows : List ℕ) (left k : ℕ) where
+module _ (rows : List ℕ) (left : ℕ) where
   abbrev free : ℕ → ℕ
   free i = flag (is_free (get_or rows i 0) left i)
 
   abbrev pub FreeSought : ℕ → Type 0
-  FreeSought unseen = Seeking free left k unseen
+  FreeSought unseen = Seeking free left 12 unseen
 
   pub sought-start : FreeSought left
-  sought-start = seeking-start free left k
+  sought-start = seeking-start free left 12
 
   off : (i : ℕ) → bit_n left i ≡ 0 → free i ≡ 0
   off i h = ap (λ b. flag (b && eqb (bit_and (get_or rows i 0) left) 0)) (ne_eqb (bit_n left i) 1 (λ e. omega arith))
 
-  module _ (unseen : ℕ) (w : FreeSought unseen) where
-    pub sought-miss : unseen ≡ 0 → k ≡ seek free k
-    sought-miss = seeking-miss free left k off unseen w
+  module _ (unseen : ℕ) (w : FreeSought unseen) (within : (u : ℕ) → bit_n left u ≡ 1 → u < 12) where
+    pub sought-none : unseen ≡ 0 → (i : ℕ) → is_free (get_or rows i 0) left i ≡ false
+    sought-none e i =
+        ⊎_elim (λ (h : is_free (get_or rows i 0) left i ≡ true).
+        let l : i < 12 = within i (eqb-true _ 1 (both_left (bit_at left i) _ h)) in
+        absurd (omega (arith, (seek_found free 12).before i (omega (arith, seeking-miss free left 12 off unseen w e)), ap flag h)))
+        (λ h. h)
+        (true-or-false (is_free (get_or rows i 0) left i))
 
-    module _ (within : (u : ℕ) → bit_n left u ≡ 1 → u < k) (v : ℕ) (low : LowestBit unseen v) where
-      pub sought-below : v < k
-      sought-below = seeking-below free left k off unseen w within v low
+    module _ (v : ℕ) (low : LowestBit unseen v) where
+      pub sought-below : v < 12
+      sought-below = seeking-below free left 12 off unseen w within v low
 
-      pub sought-hit : bit_and (get_or rows v 0) left ≡ 0 → v ≡ seek free k
-      sought-hit z =
-          seeking-hit free left k off unseen w within v low
-          (rw (eq-eqb (bit_n left v) 1 (seeking-set free left k off unseen w within v low), eq-eqb (bit_and (get_or rows v 0) left) 0 z) (omega arith))
+      pub sought-free : bit_and (get_or rows v 0) left ≡ 0 → is_free (get_or rows v 0) left v ≡ true
+      sought-free z =
+          rw (eq-eqb (bit_n left v) 1 (seeking-set free left 12 off unseen w within v low), eq-eqb (bit_and (get_or rows v 0) left) 0 z)
 
       pub sought-more : (bit_and (get_or rows v 0) left ≡ 0 → ⊥) → (unseen' : ℕ) → unseen' ≡ from_bit unseen (suc v) → FreeSought unseen'
       sought-more d unseen' e =
-          seeking-more free left k off unseen w within v low unseen' e
+          seeking-more free left 12 off unseen w within v low unseen' e
           (ap flag (ap (◌&&◌ (bit_at left v)) (ne_eqb (bit_and (get_or rows v 0) left) 0 d) ∙ and-false (bit_at left v)))
-
--- what the search for a free place says
-module _ (rows : List ℕ) (left k i : ℕ) (e : i ≡ seek (λ i. flag (is_free (get_or rows i 0) left i)) k) where
-  found : Found (λ i. flag (is_free (get_or rows i 0) left i)) k i
-  found = rw e (seek_found _ k)
-
-  pub free-found : i < k → is_free (get_or rows i 0) left i ≡ true
-  free-found l = flag-yes _ (found.hit l)
-
-  pub free-none : k ≤ i → (j : ℕ) → j < k → is_free (get_or rows j 0) left j ≡ false
-  free-none l j m =
-      ⊎_elim (λ (h : is_free (get_or rows j 0) left j ≡ true). absurd (omega (arith, found.before j (omega arith), ap flag h)))
-      (λ h. h)
-      (true-or-false (is_free (get_or rows j 0) left j))
 
 module _ (I : Instance) (rows : List ℕ) (k all : ℕ) (p : Places I rows k all) where
   -- the router of a place
@@ -141,14 +137,17 @@ module _ (I : Instance) (rows : List ℕ) (k all : ℕ) (p : Places I rows k all
         (true-or-false (set_of I x w)))
 
     -- a place left whose row has none of those left
-    module _ (i : ℕ) (l : i < k) (free : is_free (get_or rows i 0) left i ≡ true) where
+    module _ (i : ℕ) (free : is_free (get_or rows i 0) left i ≡ true) where
       here : bit_at left i ≡ true
       here = both_left (bit_at left i) _ free
+
+      below : i < k
+      below = free-below rows k all x left p.fits without i free
 
       relies-on-none : (v : ℕ) → v < I.n → 1 ≤ grouped_in I v → set_of I x v ≡ false → relies I (router i) v ≡ false
       relies-on-none v m g e =
           ⊎_elim (λ (h : relies I (router i) v ≡ true).
-          let r = router-is i l in
+          let r = router-is i below in
           let row : bit_at (get_or rows i 0) (bit_of I v) ≡ true
           = ap (λ j. bit_at (get_or rows j 0) (bit_of I v)) (sym r.2) ∙ p.relied (router i) v r.0 m r.1 g ∙ h in
           let zero : bit_and (get_or rows i 0) left ≡ 0 = eqb-true _ 0 (both_right (bit_at left i) _ free) in
@@ -168,24 +167,24 @@ module _ (I : Instance) (rows : List ℕ) (k all : ℕ) (p : Places I rows k all
           same =
               ⊎_elim (λ (e : i ≡ bit_of I v). eq-eqb i _ e ∙ sym (eq-eqb _ v (ap router e ∙ nth-count (grouped_in I) I.n v m g)))
               (λ (e : i ≡ bit_of I v → ⊥).
-              ne_eqb i _ e ∙ sym (ne_eqb (router i) v (λ q. e (sym (router-is i l).2 ∙ ap (bit_of I) q))))
+              ne_eqb i _ e ∙ sym (ne_eqb (router i) v (λ q. e (sym (router-is i below).2 ∙ ap (bit_of I) q))))
               (eq-or-ne i (bit_of I v))
 
       pub freed : serves I (set_of I x) ≡ serves I (set_of I (bit_or x (2 ^ i)))
-      freed = free-serves I (set_of I x) (set_of I (bit_or x (2 ^ i))) (router i) (router-is i l).0 relies-on-none one-more
+      freed = free-serves I (set_of I x) (set_of I (bit_or x (2 ^ i))) (router i) (router-is i below).0 relies-on-none one-more
 
       not_in : bit_at x i ≡ false
       not_in =
-          let r = router-is i l in
-          ap (bit_at x) (sym r.2) ∙ sym (set-grouped I x (router i) r.1) ∙ outside-left i l here
+          let r = router-is i below in
+          ap (bit_at x) (sym r.2) ∙ sym (set-grouped I x (router i) r.1) ∙ outside-left i below here
 
       pub freed-tried : (served : List ℕ) → x < 2 ^ k → Tried I k served (suc x)
           → in_set served (bit_or x (2 ^ i)) ≡ serves I (set_of I x)
       freed-tried served b t =
-          t.from (bit_or x (2 ^ i)) (higher x i not_in) (with-place k x i b l) ∙ sym freed
+          t.from (bit_or x (2 ^ i)) (higher x i not_in) (with-place k x i b below) ∙ sym freed
 
     -- no such place, though some are left
-    module _ (none : (i : ℕ) → i < k → is_free (get_or rows i 0) left i ≡ false) where
+    module _ (none : (i : ℕ) → is_free (get_or rows i 0) left i ≡ false) where
       next : (w : ℕ) → w < I.n → 1 ≤ grouped_in I w → set_of I x w ≡ false
           → (v : ℕ) × (v < I.n) × (1 ≤ grouped_in I v) × (set_of I x v ≡ false) × (relies I w v ≡ true)
       next w l g e =
@@ -208,7 +207,7 @@ module _ (I : Instance) (rows : List ℕ) (k all : ℕ) (p : Places I rows k all
           busy : bit_and row left ≡ 0 → ⊥
           busy z =
               let free : is_free row left i ≡ true = cc (left-outside w l g e, eq-eqb (bit_and row left) 0 z) in
-              let same : ◌≡◌ {A = ℕ} 0 1 = cc (none i (place-below w l g)) in
+              let same : ◌≡◌ {A = ℕ} 0 1 = cc (none i) in
               omega arith
 
       pub stuck : left < 2 ^ 64 → (left ≡ 0 → ⊥) → serves I (set_of I x) ≡ false

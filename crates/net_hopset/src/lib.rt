@@ -3,10 +3,10 @@
 
 #![tactic(auto)]
 
-ghost use Rattle.std.specs.Prelude.{◌≡◌, cond, List, ℕ, suc, ◌<◌, ◌≤◌, ◌^◌, leb, length, get_or};
+ghost use Rattle.std.specs.Prelude.{◌≡◌, true, false, cond, List, ℕ, suc, ◌<◌, ◌≤◌, ◌^◌, leb, length, get_or, MatchOption};
 ghost use Rattle.std.specs.Int.Count.{ones};
 ghost use Rattle.base.specs.Bits.{bit_n};
-ghost use Rattle.base.specs.Seek.{flag, seek, count};
+ghost use Rattle.base.specs.Seek.{count};
 ghost use Rattle.route_rules.specs.Instance.{Instance};
 ghost use Rattle.hopset_rules.specs.HopSet.{set_of, serves, hop_set};
 ghost use Rattle.net_groups.specs.GroupRows.{GroupRows};
@@ -27,37 +27,37 @@ fn place_rows(relied: &[u64; 64], word: u64, rows: &mut [u64; 12])
     }
 }
 
-// The first place left that relies on none left; k if there is none.
-fn free_place(rows: &[u64; 12], left: u64, k: usize) -> usize
-    requires { (k ≤ 12) × ((u : ℕ) → bit_n left u ≡ 1 → u < k) }
-    ensures { result ≡ seek (λ i. flag (is_free (get_or rows.now i 0) left i)) k }
+// The first place left that relies on none left.
+fn free_place(rows: &[u64; 12], left: u64) -> Option<usize>
+    requires { (u : ℕ) → bit_n left u ≡ 1 → u < 12 }
+    ensures { MatchOption result ((i : ℕ) → is_free (get_or rows.now i 0) left i ≡ false)
+        (λ i. is_free (get_or rows.now i 0) left i ≡ true) }
 {
     let mut unseen = left;
     while unseen != 0 {
         let i = base::bits::lowest_bit(unseen);
         if rows[i] & left == 0 {
-            return i;
+            return Some(i);
         }
         unseen = base::bits::without_lowest(unseen);
     }
-    k
+    None
 }
 
 // Whether the set with number x serves, where `served` has the higher numbers that do, and `all` is the number of all places. It does if no
 // place is left. Else, with a place more that relies on none left, it serves exactly if the higher number does; without one it does not.
-fn serves(rows: &[u64; 12], served: &[u64; 64], k: usize, all: u64, x: u64) -> bool
-    requires { (k ≤ 12) × (x < 2 ^ k) × (all < 2 ^ k) }
-    ensures { (I : Instance) → Places I rows.now k all → Tried I k served.now (suc x)
+fn serves(rows: &[u64; 12], served: &[u64; 64], all: u64, x: u64) -> bool
+    requires { (x < 4096) × (all < 4096) }
+    ensures { (I : Instance) (k : ℕ) → Places I rows.now k all → x < 2 ^ k → Tried I k served.now (suc x)
         → result ≡ serves I (set_of I x) }
 {
     let left = base::bits::without(all, x);
     if left == 0 {
         return true;
     }
-    let i = free_place(rows, left, k);
-    if k <= i {
+    let Some(i) = free_place(rows, left) else {
         return false;
-    }
+    };
     net_steady::listing::has_number(served, base::bits::with_bit(x, i) as usize)
 }
 
@@ -72,20 +72,13 @@ fn smaller(best: u64, x: u64) -> u64
 }
 
 // Tries x, where all higher numbers were tried: notes it if it serves, and returns the best so far.
-fn try_number(
-    rows: &[u64; 12],
-    served: &mut [u64; 64],
-    k: usize,
-    all: u64,
-    x: u64,
-    best: u64,
-) -> u64
-    requires { (k ≤ 12) × (x < 2 ^ k) × (all < 2 ^ k) × (length served.old ≡ 64) }
+fn try_number(rows: &[u64; 12], served: &mut [u64; 64], all: u64, x: u64, best: u64) -> u64
+    requires { (x < 4096) × (all < 4096) × (length served.old ≡ 64) }
     ensures size { length served.new ≡ 64 }
-    ensures tried { (I : Instance) → Places I rows.now k all → Tried I k served.old (suc x)
+    ensures tried { (I : Instance) (k : ℕ) → Places I rows.now k all → x < 2 ^ k → Tried I k served.old (suc x)
         → Best I k best (suc x) → Tried I k served.new x × Best I k result x }
 {
-    if !serves(rows, served, k, all, x) {
+    if !serves(rows, served, all, x) {
         return best;
     }
     net_steady::building::mark(served, x);
@@ -99,10 +92,8 @@ fn search(rows: &[u64; 12], k: usize, all: u64) -> u64
 {
     let mut served = [0u64; 64];
     let mut best = all;
-    let mut x = base::bits::with_bit(0, k);
-    while 0 < x {
-        x -= 1;
-        best = try_number(rows, &mut served, k, all, x, best);
+    for x in (0..base::bits::with_bit(0, k)).rev() {
+        best = try_number(rows, &mut served, all, x, best);
     }
     best
 }

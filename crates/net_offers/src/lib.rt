@@ -75,12 +75,9 @@ pub fn best_clients(net: Network, rows: &[u64; 64], distances: &[u8]) -> [u8; 64
     requires { WellFormed net rows.now distances.now }
     ensures { OwnClients (instance net rows.entry distances.entry) result }
 {
-    let n = net.n;
     let mut best = [NO_ROUTER; 64];
-    let mut v = 0;
-    while v < n {
+    for v in 0..net.n {
         best[v] = own_client(net, rows, distances, v);
-        v += 1;
     }
     best
 }
@@ -176,9 +173,5 @@ pub fn by_offer(
 pub fn says_yes(answer: Explanation) -> bool
     ensures { result ≡ is_yes answer }
 {
-    match answer {
-        Explanation::Refused(_) => false,
-        Explanation::Yes(_) => true,
-        Explanation::No(_) => false,
-    }
+    matches!(answer, Explanation::Yes(_))
 }

@@ -62,10 +62,8 @@ fn role_words(s: &[u8], n: usize) -> RoleWords
         skips: 0,
         hop: 0,
     };
-    let mut v = 0;
-    while v < n {
+    for v in 0..n {
         words = with_role(words, v, s[5 * v]);
-        v += 1;
     }
     words
 }
@@ -76,10 +74,8 @@ fn listed_word(numbers: &[u8]) -> u64
     ensures { (v : ℕ) → eqb (bit_n result v) 1 ≡ named numbers.now v }
 {
     let mut word = 0;
-    let mut j = 0;
-    while j < numbers.len() {
-        word = base::bits::with_bit(word, base::wide(numbers[j]));
-        j += 1;
+    for number in numbers {
+        word = base::bits::with_bit(word, base::wide(*number));
     }
     word
 }
@@ -90,14 +86,11 @@ fn neighbour_rows(s: &[u8], rows: &mut [u64; 64])
         × ((j : ℕ) → j < session_count s.now → (session_first s.now j < 64) × (session_second s.now j < 64)) }
     ensures { (w v : ℕ) → eqb (bits rows.new w v) 1 ≡ in_session s.now w v }
 {
-    let count = s.len() / 2;
-    let mut j = 0;
-    while j < count {
+    for j in 0..s.len() / 2 {
         let first = base::wide(s[2 * j]);
         let second = base::wide(s[2 * j + 1]);
         base::bits::set_bit(rows, first, second);
         base::bits::set_bit(rows, second, first);
-        j += 1;
     }
 }
 
@@ -127,12 +120,5 @@ pub fn with_list(plan: &[u8], checked: CheckedPlan, net: Network, other: usize) 
         → Opened plan.now other result rows distances }
 {
     let listed = listed_word(list_numbers(plan, checked, other));
-    Network {
-        n: net.n,
-        width: net.width,
-        reflectors: net.reflectors,
-        skips: net.skips,
-        hop: net.hop,
-        listed,
-    }
+    Network { listed, ..net }
 }

@@ -128,11 +128,8 @@ pub fn reliance_rows(net: Network, rows: &[u64; 64], distances: &[u8], out: &mut
     requires { WellFormed net rows.now distances.now × (length out.old ≡ 64) }
     ensures { RelianceRows (instance net rows.entry distances.entry) out.old out.new }
 {
-    let n = net.n;
     let best = net_offers::best_clients(net, rows, distances);
-    let mut w = 0;
-    while w < n {
+    for w in 0..net.n {
         out[w] = reliance_row(net, rows, distances, &best, w);
-        w += 1;
     }
 }
