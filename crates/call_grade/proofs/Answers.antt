@@ -1,21 +1,20 @@
 -- The answer of the call, case by case.
-use Prim.Native.Nat.{ℕ, zero, suc, ◌≤◌, ◌<◌}
-use native.Mathlib.Omega.{arith}
+use Prim.Native.Nat.{ℕ, zero, suc}
 use mathlib.Core.Path.{◌≡◌, refl, ◌∙◌, sym, ap}
 use mathlib.Core.Bool.{Bool, true, false, cond}
 use mathlib.Core.List.{List}
-use lib.Dec.{eqb, leb}
+use lib.Dec.{eqb}
+use Rattle.std.specs.Prelude.{Option, Some, None}
 use Rattle.plan_rules.specs.Refusal.{refuse}
 use Rattle.plan_rules.specs.Refused.{field}
 use Rattle.plan_rules.proofs.Refused.{when-refused}
 use Rattle.route_rules.specs.Instance.{Instance}
-use Rattle.steady_rules.specs.Steady.{grouped_routers, steady_count}
+use Rattle.steady_rules.specs.Steady.{steady_count}
 use Rattle.grade_rules.specs.Machine.{stuck, loops}
 use Rattle.grade_rules.specs.Grade.{list_machine, grade, grade_rounds}
 use Rattle.net_rules.specs.FromPlan.{instance_of}
-use Rattle.net_grade.specs.Grades.{grade_number, grade_named, grading_of}
-use Rattle.net_grade.specs.declared.grades.Grading.{Grading}
-use Rattle.net_grade.specs.declared.grades.Grading.TheVariants as gradings
+use Rattle.net_grade.specs.Grades.{grade_number, grade_named, graded_in, grading_of}
+use Rattle.net_grade.specs.declared.grades.Graded as found
 use Rattle.call_rules.specs.Refusals.{egress_list_refusal, few_grouped, grade_refusal}
 use Rattle.call_rules.proofs.Granted.{asked-refused, asked-passed}
 use Rattle.call_grade.specs.declared.grade.GradeAnswer.{GradeAnswer}
@@ -56,16 +55,16 @@ given number I r e =
     rounds (suc n) = refl
 
 -- what is found of the network, as the call's answer
-abbrev pub answered : Grading → GradeAnswer
-answered gradings.TooMany = Refused 15
-answered (gradings.Graded grade rounds) = Graded grade rounds
+abbrev pub answered : Option found.Graded → GradeAnswer
+answered None = Refused 15
+answered (Some r) = Graded r.grade r.rounds
 
 pub found-answer : (I : Instance) → answered (grading_of I) ≡ graded_for I
 unfolding grading_of graded_for grade_answer refuse
 found-answer I = go (few_grouped I)
   where
     go : (b : Bool)
-        → answered (cond b (gradings.Graded (grade_named (grade I)) (grade_rounds I)) gradings.TooMany) ≡ grade_answer (refuse b 15 0) I
+        → answered (cond b (Some (graded_in (grade_named (grade I)) (grade_rounds I))) None) ≡ grade_answer (refuse b 15 0) I
     go true = refl
     go false = refl
 

@@ -5,7 +5,7 @@ ghost use Rattle.net_rules.specs.Decoded.{instance};
 ghost use Rattle.net_rules.specs.WellFormed.{WellFormed};
 ghost use Rattle.call_grade.specs.Grade.{graded_for, GradeCall};
 
-use net_grade::grades::{Grade, Grading};
+use net_grade::grades::Grade;
 use net_rules::Network;
 use plan_contents::entries::DISTANCES;
 
@@ -21,14 +21,9 @@ fn grade_list(net: Network, rows: &[u64; 64], distances: &[u8]) -> GradeAnswer
     requires { WellFormed net rows.now distances.now }
     ensures { result ≡ graded_for (instance net rows.entry distances.entry) }
 {
-    let found = net_grade::grade_network(net, rows, distances);
-    match found {
-        Grading::TooMany => {
-            return GradeAnswer::Refused(15);
-        }
-        Grading::Graded(grade, rounds) => {
-            return GradeAnswer::Graded(grade, rounds);
-        }
+    match net_grade::grade_network(net, rows, distances) {
+        Some(found) => GradeAnswer::Graded(found.grade, found.rounds),
+        None => GradeAnswer::Refused(15),
     }
 }
 
