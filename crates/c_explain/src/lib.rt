@@ -4,36 +4,19 @@
 
 ghost use Rattle.std.specs.Prelude.{◌≡◌};
 ghost use Rattle.base.specs.Lent.{lent};
-ghost use Rattle.route_explain_rules.specs.Reasons.{place};
 ghost use Rattle.route_explain_rules.specs.Values.{bare, values_of_rule, values_of};
 ghost use Rattle.call_explain.specs.Explain.{explain_number};
 ghost use Rattle.c_rules.specs.Exports.{ExplainExport};
 
-use checker::explanation::{Explanation, Reason, Rule, Values};
-
-// The place of a reason in the order of the requirements.
-fn place(reason: Reason) -> u8
-    ensures { result ≡ place reason }
-{
-    match reason {
-        Reason::SameRouter => 1,
-        Reason::NotNeighbours => 2,
-        Reason::FirstListed => 3,
-        Reason::SecondUnlistedClient => 4,
-        Reason::NotTheBestClient => 6,
-        Reason::NoOffer => 7,
-        Reason::NoWayToTheOffer => 8,
-        Reason::OfferNotBetter => 9,
-    }
-}
+use checker::explanation::{Explanation, Rule, Values};
 
 // The values of an answer that carries no route.
 fn bare(relies: bool, code: u8) -> Values
     ensures { result ≡ bare relies code }
 {
     Values {
-        relies: relies,
-        code: code,
+        relies,
+        code,
         offer: 0,
         compared: false,
         own: 0,
@@ -49,20 +32,15 @@ fn values_of_rule(rule: Rule) -> Values
         Rule::PeerClient => bare(true, 2),
         Rule::OwnBestClient => bare(true, 3),
         Rule::AnyOffer(offer) => Values {
-            relies: true,
-            code: 4,
-            offer: offer,
-            compared: false,
-            own: 0,
-            margin: 0,
+            offer,
+            ..bare(true, 4)
         },
         Rule::BetterOffer(offer, own, margin) => Values {
-            relies: true,
-            code: 4,
-            offer: offer,
+            offer,
             compared: true,
-            own: own,
-            margin: margin,
+            own,
+            margin,
+            ..bare(true, 4)
         },
     }
 }
@@ -73,7 +51,7 @@ fn values_of(answer: Explanation) -> Values
     match answer {
         Explanation::Refused(_) => bare(false, 0),
         Explanation::Yes(rule) => values_of_rule(rule),
-        Explanation::No(reason) => bare(false, place(reason)),
+        Explanation::No(reason) => bare(false, reason as u8),
     }
 }
 

@@ -3,34 +3,10 @@
 
 #![tactic(auto)]
 
-ghost use Rattle.std.specs.Prelude.{◌≡◌};
 ghost use Rattle.base.specs.Lent.{lent};
-ghost use Rattle.base.specs.Seek.{flag};
-ghost use Rattle.call_figures.specs.Figures.{has_rank, rank_of};
 ghost use Rattle.c_rules.specs.Exports.{FiguresExport};
 
 use checker::figures::FiguresAnswer;
-use checker::report::Highest;
-
-// 1 if there is a highest rank, else 0.
-fn highest_flag(highest: Highest) -> u8
-    ensures { result ≡ flag (has_rank highest) }
-{
-    match highest {
-        Highest::Absent => 0,
-        Highest::Of(_) => 1,
-    }
-}
-
-// The highest rank, 0 if there is none.
-fn highest_rank(highest: Highest) -> u64
-    ensures { result ≡ rank_of highest }
-{
-    let Highest::Of(rank) = highest else {
-        return 0;
-    };
-    rank as u64
-}
 
 pub fn figures(
     plan: &[u8],
@@ -50,11 +26,10 @@ pub fn figures(
             return number;
         }
         FiguresAnswer::Counted(report) => {
-            let top = report.highest;
             *stable = report.stable as u64;
             *suspect = report.suspect as u64;
-            *has_highest = highest_flag(top);
-            *highest = highest_rank(top);
+            *has_highest = report.highest.is_some() as u8;
+            *highest = report.highest.unwrap_or(0) as u64;
             return 0;
         }
     }

@@ -7,8 +7,6 @@ use lib.IntN.{ℤ}
 use Rattle.base.specs.Seek.{flag}
 use Rattle.route_rules.specs.Reliance.{relies}
 use Rattle.net_rules.specs.FromPlan.{instance_of}
-use Rattle.call_compare.specs.declared.compare.Preferred.{Preferred}
-use Rattle.call_compare.specs.declared.compare.Margin.{Margin}
 use Rattle.call_compare.specs.declared.compare.CompareAnswer.{CompareAnswer}
 use Rattle.call_compare.specs.declared.compare.CompareAnswer.TheVariants as compares
 use Rattle.call_query.specs.declared.relies.ReliesAnswer.{ReliesAnswer}
@@ -18,8 +16,8 @@ use Rattle.call_hopset.specs.declared.hop_set.HopSetAnswer.{HopSetAnswer}
 use Rattle.call_hopset.specs.declared.hop_set.HopSetAnswer.TheVariants as sets
 use Rattle.plan_rules.specs.Refusal.{plan_refusal}
 use Rattle.call_rules.specs.Refusals.{egress_list_refusal, compare_refusal, relies_refusal, hop_set_refusal}
-use Rattle.call_compare.specs.Compare.{preferred_number, margin_present, margin_value, compared}
-use Rattle.call_compare.specs.Compare.{compare_number, compare_better, compare_has_margin, compare_margin, Compares}
+use Rattle.call_compare.specs.Compare.{compared}
+use Rattle.call_compare.specs.Compare.{compare_number, Compares}
 use Rattle.call_query.specs.Relies.{relied, relies_number, relies_flag, Relied}
 use Rattle.call_query.specs.Size.{size_routers, size_lists, Sizes}
 use Rattle.call_hopset.specs.HopSet.{hop_set_answer, refusal_of, set_named, HopSetCall}
@@ -77,19 +75,6 @@ module _ (plan : List ℕ) (w e d f d' : ℕ) (r : CompareAnswer) (call : Compar
         compared = sym (when-refused _ _ _ n);
         flagged = sym (when-refused _ _ _ n);
         measured = sym (when-refused _ _ _ n);
-      }
-
-  pub compare-given : (preferred : Preferred) (found : Margin) → r ≡ compares.Compared preferred found
-      → (better' present' : ℕ) (margin' : ℤ)
-      → better' ≡ preferred_number preferred → present' ≡ flag (margin_present found) → margin' ≡ margin_value found
-      → CompareExport plan w e d f d' 0 (wrote better better') (wrote present present') (wrote margin margin')
-  compare-given preferred found is better' present' margin' b p m =
-      let n : compare_refusal plan w e f ≡ 0 = sym call.number ∙ ap compare_number is in
-      record {
-        number = sym n;
-        compared = written _ _ _ _ _ n (b ∙ sym (ap compare_better is) ∙ call.value);
-        flagged = p ∙ ap flag (sym (ap compare_has_margin is) ∙ call.present ∙ when-given _ _ _ n) ∙ sym (when-given _ _ _ n);
-        measured = written _ _ _ _ _ n (m ∙ sym (ap compare_margin is) ∙ call.margin);
       }
 
 abbrev relies_refuses : ReliesAnswer → ℕ

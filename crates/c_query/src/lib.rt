@@ -3,13 +3,10 @@
 
 #![tactic(auto)]
 
-ghost use Rattle.std.specs.Prelude.{◌≡◌};
 ghost use Rattle.base.specs.Lent.{lent};
-ghost use Rattle.base.specs.Seek.{flag};
-ghost use Rattle.call_compare.specs.Compare.{preferred_number, margin_present, margin_value};
 ghost use Rattle.c_rules.specs.Exports.{SizeExport, ListExport, CompareExport, ReliesExport, HopSetExport};
 
-use checker::compare::{CompareAnswer, Margin, Preferred};
+use checker::compare::CompareAnswer;
 use checker::hop_set::HopSetAnswer;
 use checker::relies::ReliesAnswer;
 
@@ -39,37 +36,6 @@ pub fn list(plan: &[u8], list: usize, start: &mut u64, count: &mut u64) -> u8
     0
 }
 
-// 1 if the first is better, 2 if the second is, 0 if neither is.
-fn preferred_number(preferred: Preferred) -> u8
-    ensures { result ≡ preferred_number preferred }
-{
-    match preferred {
-        Preferred::First => 1,
-        Preferred::Second => 2,
-        Preferred::Neither => 0,
-    }
-}
-
-// 1 if there is a margin, else 0.
-fn margin_flag(margin: Margin) -> u8
-    ensures { result ≡ flag (margin_present margin) }
-{
-    match margin {
-        Margin::Absent => 0,
-        Margin::Of(_) => 1,
-    }
-}
-
-// The margin, 0 if there is none.
-fn margin_value(margin: Margin) -> i64
-    ensures { result ≡ margin_value margin }
-{
-    match margin {
-        Margin::Absent => 0,
-        Margin::Of(difference) => difference,
-    }
-}
-
 pub fn compare(
     plan: &[u8],
     router: usize,
@@ -92,9 +58,9 @@ pub fn compare(
             return number;
         }
         CompareAnswer::Compared(preferred, difference) => {
-            *better = preferred_number(preferred);
-            *has_margin = margin_flag(difference);
-            *margin = margin_value(difference);
+            *better = preferred as u8;
+            *has_margin = difference.is_some() as u8;
+            *margin = difference.unwrap_or(0);
             return 0;
         }
     }

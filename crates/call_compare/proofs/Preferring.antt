@@ -3,12 +3,14 @@ use Prim.Native.Nat.{ℕ, ◌-◌, ◌<◌}
 use native.Mathlib.Omega.{arith}
 use mathlib.Core.Path.{◌≡◌, refl, ◌∙◌, sym, ap}
 use mathlib.Core.Bool.{Bool, true, false, not, cond, ◌&&◌, ◌||◌}
-use mathlib.Core.Option.{Option, none, some, get_or}
+use mathlib.Core.Option as maybe
+use mathlib.Core.Option.{none, some, get_or}
 use mathlib.Core.List.{List}
 use mathlib.Core.Logic.{◌⊎◌, ⊎_elim}
 use borrow.Author.Tests.{lt-ltb, ne_eqb}
 use lib.Dec.{eqb}
 use lib.IntN.{ℤ, pos, nat_abs, ◌-ℤ◌}
+use Rattle.std.specs.Prelude.{Option, Some, None}
 use Rattle.base.proofs.Numbers.{eq-or-ne}
 use Rattle.plan_contents.specs.Header.{mark, width, router_count}
 use Rattle.plan_contents.specs.Contents.{routers_body, distances_body}
@@ -22,8 +24,6 @@ use Rattle.net_rules.specs.FromPlan.{instance_of}
 use Rattle.net_prefer.specs.Measured.{Measured}
 use Rattle.call_compare.specs.declared.compare.Preferred.{Preferred}
 use Rattle.call_compare.specs.declared.compare.Preferred.TheVariants.{First, Second, Neither}
-use Rattle.call_compare.specs.declared.compare.Margin.{Margin}
-use Rattle.call_compare.specs.declared.compare.Margin.TheVariants.{Absent, Of}
 use Rattle.call_compare.specs.declared.compare.CompareAnswer.TheVariants.{Refused, Compared}
 use Rattle.call_rules.specs.Refusals.{compare_refusal}
 use Rattle.call_compare.specs.Compare.{compared, which_better, has_margin, margin_number, preferred_of, margin_case, preferred_number, margin_present, margin_value, Compares}
@@ -59,10 +59,10 @@ module _ (I : Instance) (w e : ℕ) (d : Bool) (f : ℕ) (d' : Bool) {first : Bo
     prefers-neither h = cc
 
 module _ (I : Instance) (w e f : ℕ) where
-  pub margin-none : (I.way w e ≡ false) ⊎ (I.way w f ≡ false) → margin_case (margin_of I w e f) ≡ Absent
+  pub margin-none : (I.way w e ≡ false) ⊎ (I.way w f ≡ false) → margin_case (margin_of I w e f) ≡ None
   margin-none h = ap margin_case (margin-absent I w e f h)
 
-  pub margin-some : I.way w e ≡ true → I.way w f ≡ true → margin_case (margin_of I w e f) ≡ Of (pos (I.dist w e) -ℤ pos (I.dist w f))
+  pub margin-some : I.way w e ≡ true → I.way w f ≡ true → margin_case (margin_of I w e f) ≡ Some (pos (I.dist w e) -ℤ pos (I.dist w f))
   margin-some p q = ap margin_case (margin-both I w e f p q)
 
 module _ (plan : List ℕ) (w e : ℕ) (d : Bool) (f : ℕ) (d' : Bool) where
@@ -101,7 +101,7 @@ module _ (plan : List ℕ) (w e : ℕ) (d : Bool) (f : ℕ) (d' : Bool) where
   unfolding margin_number
   margin-is = go (margin_of (instance_of plan 0) w e f)
     where
-      go : (m : Option ℤ) → margin_value (margin_case m) ≡ get_or m (pos 0)
+      go : (m : maybe.Option ℤ) → margin_value (margin_case m) ≡ get_or m (pos 0)
       go none = refl
       go (some m) = refl
 
@@ -112,7 +112,7 @@ module _ (plan : List ℕ) (w e : ℕ) (d : Bool) (f : ℕ) (d' : Bool) where
   margin-within : DistanceTo e → DistanceTo f → nat_abs (margin_value (margin_case (margin_of (instance_of plan 0) w e f))) < highest (width plan)
   margin-within p q = go (margin_of (instance_of plan 0) w e f) refl
     where
-      go : (m : Option ℤ) → margin_of (instance_of plan 0) w e f ≡ m → nat_abs (margin_value (margin_case m)) < highest (width plan)
+      go : (m : maybe.Option ℤ) → margin_of (instance_of plan 0) w e f ≡ m → nat_abs (margin_value (margin_case m)) < highest (width plan)
       go none h = highest-some (mark plan)
       go (some m) h =
           let k = known (instance_of plan 0) w e f m h in
@@ -121,7 +121,7 @@ module _ (plan : List ℕ) (w e : ℕ) (d : Bool) (f : ℕ) (d' : Bool) where
           let second = q.way k.to_second in
           omega (arith, highest-some (mark plan), most (omega arith) (omega arith) m h)
 
-  pub compares-given : (preferred : Preferred) (margin : Margin) → compare_refusal plan w e f ≡ 0
+  pub compares-given : (preferred : Preferred) (margin : Option ℤ) → compare_refusal plan w e f ≡ 0
       → preferred ≡ preferred_of (instance_of plan 0) w e d f d' → margin ≡ margin_case (margin_of (instance_of plan 0) w e f)
       → DistanceTo e → DistanceTo f
       → Compares plan w e d f d' (Compared preferred margin)

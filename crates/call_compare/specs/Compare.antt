@@ -2,8 +2,8 @@
 -- 02: "a way beats none, and of two without a way neither is better"; "The comparison of two routes at a router now gives the first
 -- distance minus the second, from minus 65,534 to 65,534, and which of the two is better."; of 4-byte distances "Margins grow to match";
 -- and "The comparison is now told of each route whether its own egress told it." Here d says so of the first, e, and d' of the second, f.
-use Rattle.std.specs.Prelude.{ℕ, ◌<◌, List, ◌≡◌, Bool, true, false, cond, ◌&&◌, ℤ, pos, nat_abs}
-use Rattle.std.proofs.Math.Option.{Option, none, some, get_or}
+use Rattle.std.specs.Prelude.{ℕ, ◌<◌, List, ◌≡◌, Bool, false, cond, ◌&&◌, ℤ, pos, nat_abs, Option, Some, None, is_some, unwrap_or}
+use Rattle.std.proofs.Math.Option as maybe
 use Rattle.plan_contents.specs.Header.{width}
 use Rattle.plan_rules.specs.Distances.{highest}
 use Rattle.route_rules.specs.Instance.{Instance}
@@ -12,8 +12,6 @@ use Rattle.net_rules.specs.FromPlan.{instance_of}
 use Rattle.call_rules.specs.Refusals.{compare_refusal}
 use Rattle.call_compare.specs.declared.compare.Preferred.{Preferred}
 use Rattle.call_compare.specs.declared.compare.Preferred.TheVariants.{First, Second, Neither}
-use Rattle.call_compare.specs.declared.compare.Margin.{Margin}
-use Rattle.call_compare.specs.declared.compare.Margin.TheVariants.{Absent, Of}
 use Rattle.call_compare.specs.declared.compare.CompareAnswer.{CompareAnswer}
 use Rattle.call_compare.specs.declared.compare.CompareAnswer.TheVariants.{Refused, Compared}
 use Rattle.plan_rules.specs.Refused.{unless_refused, field, flag_field}
@@ -28,15 +26,15 @@ has_margin plan w e f = (instance_of plan 0).way w e && (instance_of plan 0).way
 
 -- "the first distance minus the second"; zero where there is no margin
 unfoldable pub margin_number : List ℕ → ℕ → ℕ → ℕ → ℤ
-margin_number plan w e f = get_or (margin_of (instance_of plan 0) w e f) (pos 0)
+margin_number plan w e f = maybe.get_or (margin_of (instance_of plan 0) w e f) (pos 0)
 
 -- the cases of an answer
 unfoldable pub preferred_of : Instance → ℕ → ℕ → Bool → ℕ → Bool → Preferred
 preferred_of I w e d f d' = cond (better I w e d f d') First (cond (better I w f d' e d) Second Neither)
 
-abbrev pub margin_case : Option ℤ → Margin
-margin_case none = Absent
-margin_case (some m) = Of m
+abbrev pub margin_case : maybe.Option ℤ → Option ℤ
+margin_case maybe.none = None
+margin_case (maybe.some m) = Some m
 
 unfoldable pub compared : List ℕ → ℕ → ℕ → Bool → ℕ → Bool → CompareAnswer
 compared plan w e d f d' = Compared (preferred_of (instance_of plan 0) w e d f d') (margin_case (margin_of (instance_of plan 0) w e f))
@@ -47,13 +45,11 @@ preferred_number First = 1
 preferred_number Second = 2
 preferred_number Neither = 0
 
-abbrev pub margin_present : Margin → Bool
-margin_present Absent = false
-margin_present (Of m) = true
+abbrev pub margin_present : Option ℤ → Bool
+margin_present margin = is_some margin
 
-abbrev pub margin_value : Margin → ℤ
-margin_value Absent = pos 0
-margin_value (Of m) = m
+abbrev pub margin_value : Option ℤ → ℤ
+margin_value margin = unwrap_or margin (pos 0)
 
 abbrev pub compare_number : CompareAnswer → ℕ
 compare_number (Refused number) = number

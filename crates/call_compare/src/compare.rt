@@ -9,45 +9,38 @@ ghost use Rattle.net_rules.specs.FromPlan.{instance_of};
 ghost use Rattle.net_prefer.specs.Measured.{ReadAs};
 ghost use Rattle.call_compare.specs.Compare.{preferred_of, margin_case, Compares};
 
-use net_prefer::Told;
+use net_prefer::{Told, difference};
 use plan_contents::entries::{DISTANCES, ROUTERS};
+use plan_distances::is_way;
 use plan_read::parts::part;
 use plan_read::refusal::CheckedPlan;
 
 // Which of two routes is better. Neither is of a router and itself, nor of two that there is no way to.
 #[derive(Clone, Copy)]
 pub enum Preferred {
-    First,
-    Second,
-    Neither,
+    Neither = 0,
+    First = 1,
+    Second = 2,
 }
 
-// By how much: the first distance minus the second. Absent unless there is a way to both.
-#[derive(Clone, Copy)]
-pub enum Margin {
-    Absent,
-    Of(i64),
-}
-
-// What a comparison says: its refusal number, or which of the two is better and the margin.
+// What a comparison says: its refusal number, or which of the two is better and by how much: the first distance minus the second, `None`
+// unless there is a way to both.
 #[derive(Clone, Copy)]
 pub enum CompareAnswer {
     Refused(u8),
-    Compared(Preferred, Margin),
+    Compared(Preferred, Option<i64>),
 }
 
 // The margin of two routes at any router with these distances to them.
-fn margin_of(first: usize, second: usize) -> Margin
+fn margin_of(first: usize, second: usize) -> Option<i64>
     requires { (first < 4294967296) × (second < 4294967296) }
     ensures { (I : Instance) (w e f : ℕ) → ReadAs I w e first → ReadAs I w f second → result ≡ margin_case (margin_of I w e f) }
 {
-    if !plan_distances::is_way(first) {
-        return Margin::Absent;
+    if is_way(first) && is_way(second) {
+        Some(difference(first, second))
+    } else {
+        None
     }
-    if !plan_distances::is_way(second) {
-        return Margin::Absent;
-    }
-    Margin::Of(net_prefer::difference(first, second))
 }
 
 // Which of e and f is better at any router with these distances to them, which has the hop step if `step` says so.

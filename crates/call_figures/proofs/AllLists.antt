@@ -5,6 +5,7 @@ use native.Mathlib.Omega.{arith}
 use mathlib.Core.Path.{◌≡◌, refl, ◌∙◌, sym, ap}
 use mathlib.Core.List.{List, ◌++◌}
 use lib.ListN.{length, get_or, drop}
+use Rattle.std.specs.Prelude.{None}
 use Rattle.base.specs.Tab.{tab}
 use Rattle.base.proofs.Seek.{count_none}
 use Rattle.base.proofs.Tab.{tab-front}
@@ -13,7 +14,6 @@ use Rattle.plan_rules.specs.EgressLists.{list_count}
 use Rattle.plan_rules.specs.Passed.{Passed}
 use Rattle.net_rules.specs.FromPlan.{instance_of}
 use Rattle.figures_rules.specs.declared.report.Figures.{Figures}
-use Rattle.figures_rules.specs.declared.report.Highest.TheVariants.{Absent}
 use Rattle.figures_rules.specs.Figures.{stable_with, grouped_lists, figures_of}
 use Rattle.figures_rules.specs.Meaning.{FiguresMean}
 use Rattle.figures_rules.proofs.Meaning.{figures-mean}
@@ -47,7 +47,7 @@ pub record Reached (plan : List ℕ) (k : ℕ) (known : Figures) (ranks₀ ranks
   pub by_router : Holds (grouped_lists (instance_of plan) k) (router_count plan) routers₀ routers
 
 module _ (plan ranks₀ routers₀ : List ℕ) (cleared : Cleared plan ranks₀) (cleared' : Cleared plan routers₀) where
-  pub reached-start : Reached plan 0 (record { stable = 0; suspect = 0; highest = Absent }) ranks₀ ranks₀ routers₀ routers₀
+  pub reached-start : Reached plan 0 (record { stable = 0; suspect = 0; highest = None }) ranks₀ ranks₀ routers₀ routers₀
   unfolding stable_with grouped_lists
   reached-start =
       record {

@@ -1,13 +1,11 @@
 -- Document 02, "The plan's year in figures": the call for the figures over all lists of a plan.
-use Rattle.std.specs.Prelude.{ℕ, ◌≡◌, Bool, true, false, List, ◌++◌, drop}
+use Rattle.std.specs.Prelude.{ℕ, ◌≡◌, Bool, false, List, ◌++◌, drop, Option, is_some, unwrap_or}
 use Rattle.base.specs.Lent.{Lent}
 use Rattle.base.specs.Tab.{tab}
 use Rattle.plan_contents.specs.Header.{router_count}
 use Rattle.plan_rules.specs.EgressLists.{list_count}
 use Rattle.plan_rules.specs.Refused.{unless_refused, field, flag_field}
 use Rattle.net_rules.specs.FromPlan.{instance_of}
-use Rattle.figures_rules.specs.declared.report.Highest.{Highest}
-use Rattle.figures_rules.specs.declared.report.Highest.TheVariants.{Absent, Of}
 use Rattle.figures_rules.specs.declared.report.Figures.{Figures}
 use Rattle.figures_rules.specs.Figures.{stable_with, grouped_lists, figures_of}
 use Rattle.call_rules.specs.Refusals.{figures_refusal}
@@ -44,13 +42,11 @@ unfoldable pub router_counts_after : ℕ → List ℕ → List ℕ → List ℕ
 router_counts_after number plan routers = unless_refused number routers (router_counts_left plan routers)
 
 -- "With no stable list the highest rank is reported as absent.": whether there is one, and its value, 0 where there is none
-abbrev pub has_rank : Highest → Bool
-has_rank Absent = false
-has_rank (Of rank) = true
+abbrev pub has_rank : Option ℕ → Bool
+has_rank highest = is_some highest
 
-abbrev pub rank_of : Highest → ℕ
-rank_of Absent = 0
-rank_of (Of rank) = rank
+abbrev pub rank_of : Option ℕ → ℕ
+rank_of highest = unwrap_or highest 0
 
 -- the paper's refusal number and values for each case of the answer
 abbrev pub figures_number : FiguresAnswer → ℕ

@@ -7,7 +7,7 @@ ghost use Rattle.plan_read.specs.Checked.{Accepted};
 ghost use Rattle.call_figures.specs.AllLists.{Cleared, ListsCounted};
 ghost use Rattle.call_figures.specs.Figures.{FiguresCall};
 
-use figures_rules::report::{Figures, Highest};
+use figures_rules::report::Figures;
 use plan_contents::entries::DISTANCES;
 use plan_read::refusal::CheckedPlan;
 
@@ -23,11 +23,7 @@ fn clear(counts: &mut [u8], n: usize)
     requires { n ≤ length counts.old }
     ensures { counts.new ≡ tab (λ i. 0) n ++ drop n counts.old }
 {
-    let mut i = 0;
-    while i < n {
-        counts[i] = 0;
-        i += 1;
-    }
+    counts[..n].fill(0);
 }
 
 // Counts every list of a plan that is not refused: what all have in common is read once. The counts are lent as zeros.
@@ -38,17 +34,14 @@ fn count_lists(plan: &[u8], checked: CheckedPlan, ranks: &mut [u8], routers: &mu
     let mut rows = [0u64; 64];
     let first = net_read::open_plan(plan, checked, 0, &mut rows);
     let distances = plan_read::parts::part(plan, checked, DISTANCES);
-    let m = checked.m as usize;
     let mut known = Figures {
         stable: 0,
         suspect: 0,
-        highest: Highest::Absent,
+        highest: None,
     };
-    let mut list = 0;
-    while list < m {
+    for list in 0..checked.m as usize {
         let net = net_read::with_list(plan, checked, first, list);
         known = net_figures::count_list(net, &rows, distances, known, ranks, routers);
-        list += 1;
     }
     known
 }

@@ -1,10 +1,9 @@
 -- Examples that tell the rules of document 02, "Cut-off routers", from a misreading of them, in literal bytes and numbers: M3's plan of
 -- document 01 with a distance or two of 65,535, which is no way; its lists are 2,3 and 3 and 0. After "Misread" stands the answer that a
 -- misreading gives.
-use Rattle.std.specs.Prelude.{ℕ, false, List, [], ◌∷◌, pos}
+use Rattle.std.specs.Prelude.{ℕ, false, List, [], ◌∷◌, pos, None}
 use Rattle.plan_examples.specs.Plans.{four_routers, small_from0, small_from1, small_from2, small_from3, small_lists}
 use Rattle.call_compare.specs.declared.compare.Preferred.TheVariants.{First, Second, Neither}
-use Rattle.call_compare.specs.declared.compare.Margin.TheVariants.{Absent}
 use Rattle.call_compare.specs.declared.compare.CompareAnswer.TheVariants.{Compared}
 use Rattle.call_query.specs.declared.relies.ReliesAnswer.TheVariants.{Yes, No}
 use Rattle.checker_examples.specs.Questions.{check_asked, compare_asked, relies_asked, activate_asked}
@@ -41,13 +40,13 @@ diagonal_cut_off = four_routers (small_from0 6) (small_from1 6) small_from2 (30 
 
 -- a comparison where there is a way to the first alone, to the second alone, to neither: there is no margin
 abbrev pub first_alone : Answer
-first_alone = compare_is (Compared First Absent) 1 false (pos 0)
+first_alone = compare_is (Compared First None) 1 false (pos 0)
 
 abbrev pub second_alone : Answer
-second_alone = compare_is (Compared Second Absent) 2 false (pos 0)
+second_alone = compare_is (Compared Second None) 2 false (pos 0)
 
 abbrev pub no_way_to_both : Answer
-no_way_to_both = compare_is (Compared Neither Absent) 0 false (pos 0)
+no_way_to_both = compare_is (Compared Neither None) 0 false (pos 0)
 
 -- "The distance 65,535 off the diagonal now means 'no way', and refusal 6 covers 65,535 on the diagonal only". Misread as refused
 -- anywhere: 6; as read anywhere: 0.

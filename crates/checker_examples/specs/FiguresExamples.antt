@@ -1,9 +1,7 @@
 -- Examples that tell the rules of document 02, "The plan's year in figures", from a misreading of them, in literal bytes and numbers. After
 -- "Misread" stands the answer that a misreading gives.
-use Rattle.std.specs.Prelude.{ℕ, List, [], ◌∷◌, set, replicate}
+use Rattle.std.specs.Prelude.{ℕ, List, [], ◌∷◌, set, replicate, Option, Some, None}
 use Rattle.plan_examples.specs.Plans.{small_plan, m3_plan, m3_with_nobody}
-use Rattle.figures_rules.specs.declared.report.Highest.{Highest}
-use Rattle.figures_rules.specs.declared.report.Highest.TheVariants.{Absent, Of}
 use Rattle.call_figures.specs.declared.figures.FiguresAnswer.TheVariants.{Refused, Counted}
 use Rattle.checker_examples.specs.Questions.{Question, figures_asked, Answer, figures_is, Example, example, Hold}
 use Rattle.checker_examples.specs.WideExamples.{wide_cycle}
@@ -56,44 +54,44 @@ sixty_four_lists =
 abbrev pub figures_of_four : Question
 figures_of_four = figures_asked (9 ∷ 9 ∷ 9 ∷ 9 ∷ 9 ∷ []) (9 ∷ 9 ∷ 9 ∷ 9 ∷ 9 ∷ [])
 
-abbrev pub counted : (stable suspect : ℕ) (highest : Highest) (ranks routers : List ℕ) → Answer
+abbrev pub counted : (stable suspect : ℕ) (highest : Option ℕ) (ranks routers : List ℕ) → Answer
 counted stable suspect highest ranks routers =
     figures_is (Counted (record { stable = stable; suspect = suspect; highest = highest })) ranks routers
 
 -- "stable lists, suspect lists, the highest rank among the stable ones": lists 2,3, suspect, and 3 and 0, with highest ranks 3 and 2.
 -- Misread from list 0 alone: 0 1 absent; with a cycle's length for a rank: ranks 0 0 2 1; with bytes after n written: 0 for the last 9.
 abbrev pub several_lists : Example
-several_lists = example m3_plan figures_of_four (counted 2 1 (Of 3) (0 ∷ 0 ∷ 1 ∷ 1 ∷ 9 ∷ []) (1 ∷ 1 ∷ 0 ∷ 0 ∷ 9 ∷ []))
+several_lists = example m3_plan figures_of_four (counted 2 1 (Some 3) (0 ∷ 0 ∷ 1 ∷ 1 ∷ 9 ∷ []) (1 ∷ 1 ∷ 0 ∷ 0 ∷ 9 ∷ []))
 
 -- With a list of nobody, whose highest rank is 1. Misread with that list as no list: 1 1, ranks 0 0 1 0.
 abbrev pub with_an_empty_list : Example
-with_an_empty_list = example m3_with_nobody figures_of_four (counted 2 1 (Of 2) (0 ∷ 1 ∷ 1 ∷ 0 ∷ 9 ∷ []) (1 ∷ 1 ∷ 0 ∷ 0 ∷ 9 ∷ []))
+with_an_empty_list = example m3_with_nobody figures_of_four (counted 2 1 (Some 2) (0 ∷ 1 ∷ 1 ∷ 0 ∷ 9 ∷ []) (1 ∷ 1 ∷ 0 ∷ 0 ∷ 9 ∷ []))
 
--- "With no stable list the highest rank is reported as absent." Misread as 0: Of 0.
+-- "With no stable list the highest rank is reported as absent." Misread as 0: Some 0.
 abbrev pub no_stable_list : Example
-no_stable_list = example suspect_once figures_of_four (counted 0 1 Absent (0 ∷ 0 ∷ 0 ∷ 0 ∷ 9 ∷ []) (1 ∷ 1 ∷ 0 ∷ 0 ∷ 9 ∷ []))
+no_stable_list = example suspect_once figures_of_four (counted 0 1 None (0 ∷ 0 ∷ 0 ∷ 0 ∷ 9 ∷ []) (1 ∷ 1 ∷ 0 ∷ 0 ∷ 9 ∷ []))
 
 -- A router in a group in every list. Misread as in some list: 1 1 0 0.
 abbrev pub in_a_group_in_every_list : Example
-in_a_group_in_every_list = example suspect_twice figures_of_four (counted 0 2 Absent (0 ∷ 0 ∷ 0 ∷ 0 ∷ 9 ∷ []) (2 ∷ 2 ∷ 0 ∷ 0 ∷ 9 ∷ []))
+in_a_group_in_every_list = example suspect_twice figures_of_four (counted 0 2 None (0 ∷ 0 ∷ 0 ∷ 0 ∷ 9 ∷ []) (2 ∷ 2 ∷ 0 ∷ 0 ∷ 9 ∷ []))
 
--- Rank 0 is a rank. Misread with 0 for absent: Absent.
+-- Rank 0 is a rank. Misread with 0 for absent: None.
 abbrev pub highest_is_zero : Example
-highest_is_zero = example everyone_listed figures_of_four (counted 1 1 (Of 0) (1 ∷ 0 ∷ 0 ∷ 0 ∷ 9 ∷ []) (1 ∷ 1 ∷ 0 ∷ 0 ∷ 9 ∷ []))
+highest_is_zero = example everyone_listed figures_of_four (counted 1 1 (Some 0) (1 ∷ 0 ∷ 0 ∷ 0 ∷ 9 ∷ []) (1 ∷ 1 ∷ 0 ∷ 0 ∷ 9 ∷ []))
 
 -- A group of three, of which the cycle shows two. Misread by the cycle: 1 1 0 0 0; once a group, at its label: 1 0 0 0 0.
 abbrev pub group_beyond_the_cycle : Example
 group_beyond_the_cycle =
     example three_in_a_group (figures_asked (replicate 6 9) (replicate 6 9))
-    (counted 1 1 (Of 3) (0 ∷ 0 ∷ 0 ∷ 1 ∷ 0 ∷ 9 ∷ []) (1 ∷ 1 ∷ 1 ∷ 0 ∷ 0 ∷ 9 ∷ []))
+    (counted 1 1 (Some 3) (0 ∷ 0 ∷ 0 ∷ 1 ∷ 0 ∷ 9 ∷ []) (1 ∷ 1 ∷ 1 ∷ 0 ∷ 0 ∷ 9 ∷ []))
 
 -- 64 lists. Misread with counts from 0 to 63: 0.
 abbrev pub as_many_lists_as_there_may_be : Example
-as_many_lists_as_there_may_be = example sixty_four_lists (figures_asked (9 ∷ 9 ∷ []) (9 ∷ [])) (counted 64 0 (Of 0) (64 ∷ 9 ∷ []) (0 ∷ []))
+as_many_lists_as_there_may_be = example sixty_four_lists (figures_asked (9 ∷ 9 ∷ []) (9 ∷ [])) (counted 64 0 (Some 0) (64 ∷ 9 ∷ []) (0 ∷ []))
 
 -- .. of four-byte distances. Misread with two bytes each: stable.
 abbrev pub figures_of_a_wide_plan : Example
-figures_of_a_wide_plan = example wide_cycle figures_of_four (counted 0 1 Absent (0 ∷ 0 ∷ 0 ∷ 0 ∷ 9 ∷ []) (1 ∷ 1 ∷ 0 ∷ 0 ∷ 9 ∷ []))
+figures_of_a_wide_plan = example wide_cycle figures_of_four (counted 0 1 None (0 ∷ 0 ∷ 0 ∷ 0 ∷ 9 ∷ []) (1 ∷ 1 ∷ 0 ∷ 0 ∷ 9 ∷ []))
 
 -- "The call needs n bytes for the counts by rank and n for those by router". Misread with one long buffer enough: not refused. A
 -- refused call changes no byte; misread with the counts cleared first: 0 0 0 0.

@@ -1,9 +1,8 @@
 -- Examples that tell a rule of document 01 from a misreading of it, in literal bytes and numbers. Beside each stand the sentence
 -- that it pins, and after "Misread" the answer that a misreading gives.
-use Rattle.std.specs.Prelude.{ℕ, true, false, List, [], ◌∷◌, ◌++◌, replicate, ℤ, pos, neg_ℤ}
+use Rattle.std.specs.Prelude.{ℕ, true, false, List, [], ◌∷◌, ◌++◌, replicate, ℤ, pos, neg_ℤ, Some}
 use Rattle.plan_examples.specs.Plans.{first_of_twelve}
 use Rattle.call_compare.specs.declared.compare.Preferred.TheVariants.{First, Second, Neither}
-use Rattle.call_compare.specs.declared.compare.Margin.TheVariants.{Of}
 use Rattle.call_compare.specs.declared.compare.CompareAnswer.TheVariants.{Compared}
 use Rattle.call_query.specs.declared.relies.ReliesAnswer.TheVariants.{Yes, No}
 use Rattle.call_verdict.specs.declared.verdict.VerdictAnswer.TheVariants.{Suspect}
@@ -73,13 +72,13 @@ twelve =
 
 -- a comparison that is not refused: the answer, and by number which is better, that there is a margin, and which
 abbrev pub first_better : (margin : ℤ) → Answer
-first_better margin = compare_is (Compared First (Of margin)) 1 true margin
+first_better margin = compare_is (Compared First (Some margin)) 1 true margin
 
 abbrev pub second_better : (margin : ℤ) → Answer
-second_better margin = compare_is (Compared Second (Of margin)) 2 true margin
+second_better margin = compare_is (Compared Second (Some margin)) 2 true margin
 
 abbrev pub neither_better : Answer
-neither_better = compare_is (Compared Neither (Of (pos 0))) 0 true (pos 0)
+neither_better = compare_is (Compared Neither (Some (pos 0))) 0 true (pos 0)
 
 -- "a 4-byte identifier, low byte first. Identifiers rise strictly". Misread by two bytes: 4, and 0 of the other.
 abbrev pub identifiers_rise : Example

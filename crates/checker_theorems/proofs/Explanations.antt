@@ -7,6 +7,7 @@ use mathlib.Core.List.{List}
 use mathlib.Core.Logic.{⊎_elim}
 use lib.IntN.{ℤ}
 use borrow.Author.Tests.{lt-ltb}
+use Rattle.std.specs.Prelude.{Some}
 use Rattle.base.proofs.Numbers.{eq-or-ne}
 use Rattle.plan_contents.specs.Header.{router_count}
 use Rattle.plan_rules.proofs.Refused.{when-refused, when-given}
@@ -19,7 +20,6 @@ use Rattle.call_rules.proofs.InOrder.{compare-in-order}
 use Rattle.call_rules.proofs.Granted.{relies-asked}
 use Rattle.call_compare.specs.declared.compare.CompareAnswer.TheVariants.{Compared}
 use Rattle.call_compare.specs.declared.compare.Preferred.TheVariants.{First}
-use Rattle.call_compare.specs.declared.compare.Margin.TheVariants.{Of}
 use Rattle.call_query.specs.declared.relies.ReliesAnswer.{ReliesAnswer}
 use Rattle.call_query.specs.Relies.{relies_flag, Relied}
 use Rattle.call_compare.specs.Compare.{preferred_of, compared}
@@ -79,7 +79,7 @@ module _ (plan : List ℕ) (k w v e c : ℕ) (m : ℤ) (explains : Explains plan
   unfolding margin_of
   margin-there = by-rule.5
 
-  says : compared plan w e ((instance_of plan k).listed v) c true ≡ Compared First (Of m)
+  says : compared plan w e ((instance_of plan k).listed v) c true ≡ Compared First (Some m)
   unfolding compared preferred_of
   says = rw (better-there, margin-there)
 

@@ -9,6 +9,7 @@ use mathlib.Core.Logic.{◌↔◌}
 use borrow.Author.Tests.{le-leb}
 use lib.Dec.{leb, eqb}
 use lib.ListN.{length, get_or, drop, replicate, get_or-append, length-replicate}
+use Rattle.std.specs.Prelude.{Option, Some, None}
 use Rattle.base.specs.Lent.{Lent}
 use Rattle.base.specs.Seek.{flag, count}
 use Rattle.base.specs.Tab.{tab}
@@ -25,8 +26,6 @@ use Rattle.route_rules.specs.Instance.{Instance}
 use Rattle.net_rules.specs.FromPlan.{instance_of}
 use Rattle.steady_rules.specs.Steady.{grouped_in}
 use Rattle.net_verdict.specs.Assessed.{is_stable, labels_of, highest_of, found, labels_left, ranks_left, table_left, cycle_left}
-use Rattle.figures_rules.specs.declared.report.Highest.{Highest}
-use Rattle.figures_rules.specs.declared.report.Highest.TheVariants.{Absent, Of}
 use Rattle.figures_rules.specs.Sums.{group_size}
 use Rattle.figures_rules.specs.Figures.{stable_lists, suspect_lists, highest_stable, stable_with, grouped_lists, figures_of}
 use Rattle.figures_rules.specs.Meaning.{label_of, IsHighest, FiguresMean}
@@ -44,15 +43,15 @@ use Rattle.checker_theorems.specs.Figures.{Verdicts, written_label, HighestRetur
 use Rattle.checker_theorems.proofs.StableVerdict.{no-refusal}
 
 -- a rank that may be absent, by its flag and its value
-rank_is : (h : Highest) (x : ℕ) → ((has_rank h ≡ true) × (rank_of h ≡ x)) ↔ (h ≡ Of x)
-rank_is Absent x = (λ e. not-both false e.0 refl, λ e. not-both false (ap has_rank e) refl)
-rank_is (Of r) x = (λ e. ap Of e.1, λ e. (refl, ap rank_of e))
+rank_is : (h : Option ℕ) (x : ℕ) → ((has_rank h ≡ true) × (rank_of h ≡ x)) ↔ (h ≡ Some x)
+rank_is None x = (λ e. not-both false e.0 refl, λ e. not-both false (ap has_rank e) refl)
+rank_is (Some r) x = (λ e. ap Some e.1, λ e. (refl, ap rank_of e))
 
-rank-absent : (h : Highest) → (has_rank h ≡ false) ↔ (h ≡ Absent)
-rank-absent Absent = (λ e. refl, λ e. refl)
-rank-absent (Of r) = (λ e. not-both true refl e, λ e. not-both true refl (ap has_rank e))
+rank-absent : (h : Option ℕ) → (has_rank h ≡ false) ↔ (h ≡ None)
+rank-absent None = (λ e. refl, λ e. refl)
+rank-absent (Some r) = (λ e. not-both true refl e, λ e. not-both true refl (ap has_rank e))
 
-absent-zero : (h : Highest) → has_rank h ≡ false → rank_of h ≡ 0
+absent-zero : (h : Option ℕ) → has_rank h ≡ false → rank_of h ≡ 0
 absent-zero h e = ap rank_of ((rank-absent h).0 e)
 
 -- the highest rank of a stable list, by what its verdict returns
@@ -182,7 +181,7 @@ module _ (plan : List ℕ) (r : FiguresAnswer) (ranks routers : Lent (List ℕ))
 
   counted-at : figures_has_highest r ≡ true → (figures_highest r < n) × (1 ≤ get_or ranks.after (figures_highest r) 0)
   counted-at e =
-      let h : highest_stable nets m ≡ Of (figures_highest r) = (rank_is _ _).0 (sym has-is ∙ e, sym highest-is) in
+      let h : highest_stable nets m ≡ Some (figures_highest r) = (rank_is _ _).0 (sym has-is ∙ e, sym highest-is) in
       let top = (means.highest _).0 h in
       let below : figures_highest r < n = omega (arith, top.is, means.ranks_below top.list top.below top.stable) in
       (below, omega (arith, rank-at _ below, ((means.counted _).0 h).counted))
@@ -190,9 +189,9 @@ module _ (plan : List ℕ) (r : FiguresAnswer) (ranks routers : Lent (List ℕ))
   none-above : (x : ℕ) → x < n → 1 ≤ get_or ranks.after x 0 → x ≤ figures_highest r
   none-above x l c = go (highest_stable nets m) refl
     where
-      go : (h : Highest) → highest_stable nets m ≡ h → x ≤ figures_highest r
-      go Absent e = absurd (omega (arith, rank-at x l, means.uncounted.0 e x))
-      go (Of y) e = omega (arith, highest-is ∙ ap rank_of e, ((means.counted y).0 e).most x (omega (arith, rank-at x l)))
+      go : (h : Option ℕ) → highest_stable nets m ≡ h → x ≤ figures_highest r
+      go None e = absurd (omega (arith, rank-at x l, means.uncounted.0 e x))
+      go (Some y) e = omega (arith, highest-is ∙ ap rank_of e, ((means.counted y).0 e).most x (omega (arith, rank-at x l)))
 
   from-verdicts : CountedFromVerdicts plan verdicts r ranks routers
   unfolding stable_lists suspect_lists stable_with grouped_lists

@@ -1,12 +1,11 @@
 -- Document 02, "Every reliance with its rule", of the calls on any bytes and numbers.
-use Rattle.std.specs.Prelude.{ℕ, ◌≡◌, Bool, true, false, List, ℤ}
+use Rattle.std.specs.Prelude.{ℕ, ◌≡◌, Bool, true, false, List, ℤ, Some}
 use Rattle.plan_rules.specs.Refusal.{plan_refusal}
 use Rattle.net_rules.specs.FromPlan.{instance_of}
 use Rattle.call_query.specs.declared.relies.ReliesAnswer.{ReliesAnswer}
 use Rattle.call_compare.specs.declared.compare.CompareAnswer.{CompareAnswer}
 use Rattle.call_compare.specs.declared.compare.CompareAnswer.TheVariants.{Compared}
 use Rattle.call_compare.specs.declared.compare.Preferred.TheVariants.{First}
-use Rattle.call_compare.specs.declared.compare.Margin.TheVariants.{Of}
 use Rattle.call_query.specs.Relies.{relies_number, relies_flag, Relied}
 use Rattle.call_compare.specs.Compare.{Compares}
 use Rattle.route_explain_rules.specs.declared.explanation.Explanation.{Explanation}
@@ -30,7 +29,7 @@ EveryExplanationAgrees =
 abbrev pub EveryOfferCompares : Type 0
 EveryOfferCompares =
     (plan : List ℕ) (k w v e c : ℕ) (m : ℤ) (r : CompareAnswer) → Explains plan k w v (Yes (BetterOffer e c m))
-    → Compares plan w e ((instance_of plan k).listed v) c true r → r ≡ Compared First (Of m)
+    → Compares plan w e ((instance_of plan k).listed v) c true r → r ≡ Compared First (Some m)
 
 -- a plan that is not refused, and a list and two routers of it of which the call answers yes or no with this number, and says whether it
 -- compared an offer with an own best client

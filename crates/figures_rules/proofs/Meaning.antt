@@ -7,6 +7,7 @@ use mathlib.Core.Logic.Iff
 use mathlib.Core.Logic.{◌↔◌, ⊎_elim}
 use lib.Dec.{eqb}
 use borrow.Author.Tests.{eqb-true, eq-eqb}
+use Rattle.std.specs.Prelude.{Option, Some, None}
 use Rattle.base.specs.Seek.{flag, count}
 use Rattle.base.proofs.Numbers.{lt-or-le, eq-or-ne, both_left, both_right, not-both}
 use Rattle.base.proofs.Seek.{flag-yes, highest-under, count_none, count-suc, count-le, Nth, nth}
@@ -20,8 +21,6 @@ use Rattle.route_rules.specs.Reliance.{reliance}
 use Rattle.steady_rules.specs.Steady.{grouped_in, LabelShared}
 use Rattle.net_verdict.specs.Assessed.{is_stable, highest_of}
 use Rattle.steady_rules.proofs.Members.{reliance-apart}
-use Rattle.figures_rules.specs.declared.report.Highest.{Highest}
-use Rattle.figures_rules.specs.declared.report.Highest.TheVariants.{Absent, Of}
 use Rattle.figures_rules.specs.Sums.{total, group_sizes}
 use Rattle.figures_rules.specs.Figures.{stable_lists, suspect_lists, higher_of, highest_stable, stable_with, grouped_lists}
 use Rattle.figures_rules.specs.Meaning.{label_of, IsHighest, GreatestCounted, EveryFiguresMean}
@@ -83,16 +82,16 @@ record HighestOfList (nets : ℕ → Instance) (m r : ℕ) : Type 0 where
 
 module _ (nets : ℕ → Instance) where
   -- what the highest rank among the lists below m says
-  Says : ℕ → Highest → Type 0
-  Says m Absent = (k : ℕ) → k < m → is_stable (nets k) ≡ false
-  Says m (Of r) = IsHighest nets m r
+  Says : ℕ → Option ℕ → Type 0
+  Says m None = (k : ℕ) → k < m → is_stable (nets k) ≡ false
+  Says m (Some r) = IsHighest nets m r
 
   -- one suspect list more
-  says-suspect : (m : ℕ) (h : Highest) → is_stable (nets m) ≡ false → Says m h → Says (suc m) h
+  says-suspect : (m : ℕ) (h : Option ℕ) → is_stable (nets m) ≡ false → Says m h → Says (suc m) h
   unfolding Says
-  says-suspect m Absent s w = λ k l.
+  says-suspect m None s w = λ k l.
       ⊎_elim (λ (e : k ≡ m). ap (λ j. is_stable (nets j)) e ∙ s) (λ (d : k ≡ m → ⊥). w k (omega arith)) (eq-or-ne k m)
-  says-suspect m (Of r) s w =
+  says-suspect m (Some r) s w =
       record {
         list = w.list;
         below = omega (arith, w.below);
@@ -104,9 +103,9 @@ module _ (nets : ℕ → Instance) where
       }
 
   -- one stable list more
-  says-stable : (m : ℕ) (h : Highest) → is_stable (nets m) ≡ true → Says m h → Says (suc m) (higher_of h (highest_of (nets m)))
+  says-stable : (m : ℕ) (h : Option ℕ) → is_stable (nets m) ≡ true → Says m h → Says (suc m) (higher_of h (highest_of (nets m)))
   unfolding Says
-  says-stable m Absent s w =
+  says-stable m None s w =
       record {
         list = m;
         below = omega arith;
@@ -117,7 +116,7 @@ module _ (nets : ℕ → Instance) where
             (λ (d : k ≡ m → ⊥). not-both _ t (w k (omega arith)))
             (eq-or-ne k m);
       }
-  says-stable m (Of r) s w = ⊎_elim new old (lt-or-le r (highest_of (nets m)))
+  says-stable m (Some r) s w = ⊎_elim new old (lt-or-le r (highest_of (nets m)))
     where
       most : (k : ℕ) → k < suc m → is_stable (nets k) ≡ true → highest_of (nets k) ≤ max r (highest_of (nets m))
       most k l t =
@@ -153,21 +152,21 @@ module _ (nets : ℕ → Instance) where
       )
 
   module _ (m : ℕ) where
-    highest-is : (r : ℕ) → (highest_stable nets m ≡ Of r) ↔ IsHighest nets m r
+    highest-is : (r : ℕ) → (highest_stable nets m ≡ Some r) ↔ IsHighest nets m r
     unfolding Says
     highest-is r = (λ e. rw e at (says m), λ w. back (highest_stable nets m) (says m) w)
       where
-        back : (h : Highest) → Says m h → IsHighest nets m r → h ≡ Of r
-        back Absent v w = not-both _ w.stable (v w.list w.below)
-        back (Of s) v w = ap Of (one-highest m s r v w)
+        back : (h : Option ℕ) → Says m h → IsHighest nets m r → h ≡ Some r
+        back None v w = not-both _ w.stable (v w.list w.below)
+        back (Some s) v w = ap Some (one-highest m s r v w)
 
-    absent-is : (highest_stable nets m ≡ Absent) ↔ ((k : ℕ) → k < m → is_stable (nets k) ≡ false)
+    absent-is : (highest_stable nets m ≡ None) ↔ ((k : ℕ) → k < m → is_stable (nets k) ≡ false)
     unfolding Says
     absent-is = (λ e. rw e at (says m), λ w. back (highest_stable nets m) (says m) w)
       where
-        back : (h : Highest) → Says m h → ((k : ℕ) → k < m → is_stable (nets k) ≡ false) → h ≡ Absent
-        back Absent v w = refl
-        back (Of s) v w = not-both _ v.stable (w v.list v.below)
+        back : (h : Option ℕ) → Says m h → ((k : ℕ) → k < m → is_stable (nets k) ≡ false) → h ≡ None
+        back None v w = refl
+        back (Some s) v w = not-both _ v.stable (w v.list v.below)
 
     -- a rank is counted exactly if some stable list has it as its highest
     abbrev at-rank : ℕ → ℕ → ℕ
@@ -208,11 +207,11 @@ module _ (nets : ℕ → Instance) where
             }
 
     -- with no stable list no rank is counted, and the other way round
-    uncounted-is : (highest_stable nets m ≡ Absent) ↔ ((r : ℕ) → stable_with nets m r ≡ 0)
+    uncounted-is : (highest_stable nets m ≡ None) ↔ ((r : ℕ) → stable_with nets m r ≡ 0)
     unfolding Says
     uncounted-is = (there, λ none. back (highest_stable nets m) (says m) none)
       where
-        there : highest_stable nets m ≡ Absent → (r : ℕ) → stable_with nets m r ≡ 0
+        there : highest_stable nets m ≡ None → (r : ℕ) → stable_with nets m r ≡ 0
         there e r =
             ⊎_elim (λ (h : 0 < stable_with nets m r).
             let k = counted-list r h in
@@ -220,9 +219,9 @@ module _ (nets : ℕ → Instance) where
             (λ (h : stable_with nets m r ≤ 0). omega arith)
             (lt-or-le 0 (stable_with nets m r))
 
-        back : (h : Highest) → Says m h → ((r : ℕ) → stable_with nets m r ≡ 0) → h ≡ Absent
-        back Absent v none = refl
-        back (Of s) v none = absurd (omega (arith, none s, counts s v.list v.below v.stable v.is))
+        back : (h : Option ℕ) → Says m h → ((r : ℕ) → stable_with nets m r ≡ 0) → h ≡ None
+        back None v none = refl
+        back (Some s) v none = absurd (omega (arith, none s, counts s v.list v.below v.stable v.is))
 
     -- where every list has the same n routers
     module _ (n : ℕ) (one : 1 ≤ n) (same : (k : ℕ) → k < m → (nets k).n ≡ n) where

@@ -1,13 +1,12 @@
 -- Examples that tell each figure from a misreading of it, over networks and labels given by literal lists. Beside each stands what a
 -- misreading gives.
-use Rattle.std.specs.Prelude.{ℕ, ◌≡◌, List, [], ◌∷◌, get_or}
+use Rattle.std.specs.Prelude.{ℕ, ◌≡◌, List, [], ◌∷◌, get_or, Some, None}
 use Rattle.base.specs.Tab.{tab}
 use Rattle.route_rules.specs.Instance.{Instance}
 use Rattle.route_rules.specs.Examples.{network}
 use Rattle.steady_rules.specs.Steady.{grouped_in}
 use Rattle.steady_rules.specs.Examples.{pair}
 use Rattle.net_verdict.specs.Assessed.{labels_of, cycle_of}
-use Rattle.figures_rules.specs.declared.report.Highest.TheVariants.{Absent, Of}
 use Rattle.figures_rules.specs.Sums.{total, group_size, group_sizes}
 use Rattle.figures_rules.specs.Figures.{stable_lists, suspect_lists, highest_stable, stable_with, grouped_lists, figures_of}
 
@@ -48,12 +47,12 @@ pub record FiguresExamples : Type 0 where
   pub stable : stable_lists year 5 ≡ 4  -- the suspect ones: 1; those before the last: 3
   pub suspect : suspect_lists year 5 ≡ 1  -- the stable ones: 4
   -- "the highest rank among the stable ones"
-  pub highest : highest_stable year 5 ≡ Of 3  -- the lowest: Of 1; with suspect lists: Of 4
-  pub not_the_last : highest_stable year 4 ≡ Of 3  -- that of the last list: Of 1
+  pub highest : highest_stable year 5 ≡ Some 3  -- the lowest: Some 1; with suspect lists: Some 4
+  pub not_the_last : highest_stable year 4 ≡ Some 3  -- that of the last list: Some 1
   -- "With no stable list the highest rank is reported as absent."
-  pub absent : highest_stable suspects 2 ≡ Absent  -- 0: Of 0; from suspect lists: Of 4
-  pub zero_is_a_rank : highest_stable everyone 2 ≡ Of 0  -- 0 for absent: Absent
-  pub no_lists : highest_stable year 0 ≡ Absent
+  pub absent : highest_stable suspects 2 ≡ None  -- 0: Some 0; from suspect lists: Some 4
+  pub zero_is_a_rank : highest_stable everyone 2 ≡ Some 0  -- 0 for absent: None
+  pub no_lists : highest_stable year 0 ≡ None
   -- "how many stable lists had each rank from 0 to n minus 1 as their highest"
   pub by_rank : tab (stable_with year 5) 4 ≡ 0 ∷ 1 ∷ 1 ∷ 2 ∷ []  -- that rank or a higher one: 4 4 3 2; list 0 alone: 0 0 0 0
   pub rank_zero : tab (stable_with everyone 2) 4 ≡ 1 ∷ 0 ∷ 0 ∷ 0 ∷ []
@@ -72,4 +71,4 @@ pub record FiguresExamples : Type 0 where
   pub sizes_sum : group_sizes labels 6 ≡ 5  -- once a group: 2; labels that differ: 3; with groups of one: 6; above two: 3
   pub routers_sum : total (grouped_lists two_groups 2) 7 ≡ 6  -- once a group: 3
   -- what is returned, as one
-  pub together : figures_of year 5 ≡ record { stable = 4; suspect = 1; highest = Of 3 }
+  pub together : figures_of year 5 ≡ record { stable = 4; suspect = 1; highest = Some 3 }

@@ -1,9 +1,8 @@
 -- What the figures mean, over any networks of the same routers.
-use Rattle.std.specs.Prelude.{ℕ, ◌+◌, ◌≤◌, ◌<◌, ◌≡◌, true, false, ◌↔◌, get_or}
+use Rattle.std.specs.Prelude.{ℕ, ◌+◌, ◌≤◌, ◌<◌, ◌≡◌, true, false, ◌↔◌, get_or, Some, None}
 use Rattle.route_rules.specs.Instance.{Instance}
 use Rattle.steady_rules.specs.Steady.{grouped_in, LabelShared}
 use Rattle.net_verdict.specs.Assessed.{is_stable, labels_of, highest_of}
-use Rattle.figures_rules.specs.declared.report.Highest.TheVariants.{Absent, Of}
 use Rattle.figures_rules.specs.Sums.{total, group_sizes}
 use Rattle.figures_rules.specs.Figures.{stable_lists, suspect_lists, highest_stable, stable_with, grouped_lists}
 
@@ -37,11 +36,11 @@ pub record FiguresMean (nets : ℕ → Instance) (n m : ℕ) : Type 0 where
   pub grouped : (k w : ℕ) → k < m → w < n → (1 ≤ grouped_in (nets k) w) ↔ LabelShared (label_of (nets k)) n w
   pub stable : (k : ℕ) → k < m → (is_stable (nets k) ≡ true) ↔ ((w : ℕ) → w < n → grouped_in (nets k) w ≡ 0)
   -- "the highest rank among the stable ones": it is the greatest rank with a count
-  pub highest : (r : ℕ) → (highest_stable nets m ≡ Of r) ↔ IsHighest nets m r
-  pub counted : (r : ℕ) → (highest_stable nets m ≡ Of r) ↔ GreatestCounted (stable_with nets m) r
+  pub highest : (r : ℕ) → (highest_stable nets m ≡ Some r) ↔ IsHighest nets m r
+  pub counted : (r : ℕ) → (highest_stable nets m ≡ Some r) ↔ GreatestCounted (stable_with nets m) r
   -- "With no stable list the highest rank is reported as absent.", and with one it is not
-  pub absent : (highest_stable nets m ≡ Absent) ↔ ((k : ℕ) → k < m → is_stable (nets k) ≡ false)
-  pub uncounted : (highest_stable nets m ≡ Absent) ↔ ((r : ℕ) → stable_with nets m r ≡ 0)
+  pub absent : (highest_stable nets m ≡ None) ↔ ((k : ℕ) → k < m → is_stable (nets k) ≡ false)
+  pub uncounted : (highest_stable nets m ≡ None) ↔ ((r : ℕ) → stable_with nets m r ≡ 0)
   -- no count is above m: with at most 64 lists each fits a byte
   pub ranks_fit : (r : ℕ) → stable_with nets m r ≤ m
   pub routers_fit : (w : ℕ) → grouped_lists nets m w ≤ m

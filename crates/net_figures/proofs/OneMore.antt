@@ -11,6 +11,7 @@ use lib.Count.{count_trailing_zeros}
 use lib.Dec.{eqb}
 use lib.ListN.{length, get_or, set}
 use lib.Seq.{get_or-set_same, get_or-set_other, drop-set-lt}
+use Rattle.std.specs.Prelude.{Option, None}
 use Rattle.base.specs.Bits.{bit_n, bits}
 use Rattle.base.specs.Lent.{Lent}
 use Rattle.base.specs.Seek.{flag, count}
@@ -26,8 +27,6 @@ use Rattle.steady_rules.specs.Steady.{grouped_in}
 use Rattle.net_verdict.specs.Assessed.{is_stable, highest_of}
 use Rattle.net_verdict.proofs.Relations.{rows-within, rows-acyclic, highest-same}
 use Rattle.figures_rules.specs.declared.report.Figures.{Figures}
-use Rattle.figures_rules.specs.declared.report.Highest.{Highest}
-use Rattle.figures_rules.specs.declared.report.Highest.TheVariants.{Absent}
 use Rattle.figures_rules.specs.Figures.{stable_lists, suspect_lists, higher_of, highest_stable, stable_with, grouped_lists, figures_of}
 use Rattle.figures_rules.proofs.Sums.{flag-once}
 use Rattle.figures_rules.proofs.Meaning.{highest-below, stable-grouped}
@@ -109,7 +108,7 @@ module _ (I : Instance) (relied closed : List ℕ) (word : ℕ) (g : GroupRows I
         }
 
     -- a stable list: its highest rank is counted
-    pub stable-counted : (routers ranks : List ℕ) (r x : ℕ) (highest : Highest) → word ≡ 0 → 1 ≤ I.n → I.n ≤ length ranks
+    pub stable-counted : (routers ranks : List ℕ) (r x : ℕ) (highest : Option ℕ) → word ≡ 0 → 1 ≤ I.n → I.n ≤ length ranks
         → r ≡ highest_rank (bits relied) I.n → x ≡ get_or ranks r 0 + 1 → highest ≡ higher_of known.highest r
         → ListCounted I known (record { stable = known.stable + 1; suspect = known.suspect; highest = highest })
         (record { before = ranks; after = set ranks r x }) (record { before = routers; after = routers })
@@ -139,7 +138,7 @@ module _ (I : Instance) (relied closed : List ℕ) (word : ℕ) (g : GroupRows I
         }
 
 -- the figures of all lists below a number, and of one list more
-pub figures-none : (nets : ℕ → Instance) → figures_of nets 0 ≡ record { stable = 0; suspect = 0; highest = Absent }
+pub figures-none : (nets : ℕ → Instance) → figures_of nets 0 ≡ record { stable = 0; suspect = 0; highest = None }
 unfolding figures_of stable_lists suspect_lists highest_stable count
 figures-none nets = refl
 

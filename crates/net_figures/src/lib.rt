@@ -11,23 +11,14 @@ ghost use Rattle.net_rules.specs.WellFormed.{WellFormed};
 ghost use Rattle.net_figures.specs.Counted.{Raised, Countable, ListCounted};
 
 use base::bits::{lowest_bit, without_lowest};
-use figures_rules::report::{Figures, Highest};
+use figures_rules::report::Figures;
 use net_rules::Network;
 
 // The higher of the highest rank so far and one more rank.
-fn higher(known: Highest, rank: usize) -> Highest
+fn higher(known: Option<usize>, rank: usize) -> Option<usize>
     ensures { result ≡ higher_of known rank }
 {
-    match known {
-        Highest::Absent => Highest::Of(rank),
-        Highest::Of(highest) => {
-            if highest < rank {
-                Highest::Of(rank)
-            } else {
-                Highest::Of(highest)
-            }
-        }
-    }
+    Some(known.map_or(rank, |highest| highest.max(rank)))
 }
 
 // Counts each router whose bit is set once more.

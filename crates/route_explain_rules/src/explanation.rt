@@ -11,17 +11,17 @@ pub enum Rule {
     BetterOffer(usize, usize, i64),
 }
 
-// The first reason that applies.
+// The first reason that applies, by its place in the order of the requirements. The fifth is no reason.
 #[derive(Clone, Copy)]
 pub enum Reason {
-    SameRouter,
-    NotNeighbours,
-    FirstListed,
-    SecondUnlistedClient,
-    NotTheBestClient,
-    NoOffer,
-    NoWayToTheOffer,
-    OfferNotBetter,
+    SameRouter = 1,
+    NotNeighbours = 2,
+    FirstListed = 3,
+    SecondUnlistedClient = 4,
+    NotTheBestClient = 6,
+    NoOffer = 7,
+    NoWayToTheOffer = 8,
+    OfferNotBetter = 9,
 }
 
 // Yes by a rule or no for a reason, or the refusal number of the call.
