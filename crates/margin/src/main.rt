@@ -11,6 +11,6 @@ fn main(rt: HostRuntime) -> io::Result<()> {
     let mut input = [0u8; 3 + LARGEST_PLAN + 1];
     let size = text_input::read_full(&mut rt.stdin(), &mut input)?;
     let mut line = [0u8; LINE_ROOM];
-    let length = text_margin::margin_text(&input[0..size], &mut line);
-    rt.write_all(&line[0..length])
+    let length = text_margin::margin_text(&input[..size], &mut line);
+    rt.write_all(&line[..length])
 }

@@ -1,87 +1,110 @@
--- Laws of writing into a buffer: one write, two one after the other, a loop of writes, a text at the front.
+-- Laws of writing a text: one write, two one after the other, a loop of writes, the whole text.
 use Prim.Native.Nat.{ℕ, suc, ◌+◌, ◌*◌, ◌≤◌, ◌<◌}
 use native.Mathlib.Numerals.{add-one}
 use native.Mathlib.Nat.{zero-add, add-zero, mul-suc}
 use native.Mathlib.Omega.{arith}
 use mathlib.Core.Path.{◌≡◌, refl, ◌∙◌, sym, ap, ap₂}
 use mathlib.Core.List.{List, [], ◌∷◌, ◌++◌, append-nil}
-use lib.ListN.{length, take, drop, set, length-append, take-append-drop}
+use lib.ListN.{length, take, drop, set, length-append, length-set, take-append-drop}
 use lib.Seq.{set_split, append_snoc}
 use Rattle.base.specs.Buffer.{written}
-use Rattle.base.proofs.Buffer.{length-written, written_then}
+use Rattle.base.proofs.Buffer.{written_then}
+use Rattle.text_fields.specs.declared.Text.{Text}
 use Rattle.text_fields.specs.Buffer.{Put, AtFront}
 
-module _ {d : List ℕ} {at : ℕ} where
-  pub put-none : at ≤ length d → Put 0 d at [] d at
+module _ {t : Text} where
+  pub put-none : t.end ≤ length t.out.now → Put 0 t [] t
   unfolding written
   put-none h = record {
+    same = refl;
+    long = refl;
     within = h;
     short = omega arith;
-    place = sym (add-zero at);
-    is = rw (add-zero, append-nil) (sym (take-append-drop at d));
+    place = sym (add-zero t.end);
+    is = rw (add-zero, append-nil) (sym (take-append-drop t.end t.out.now));
   }
 
-  pub put_one : (b : ℕ) → at < length d → Put 1 d at (b ∷ []) (set d at b) (at + 1)
+  pub put_one :
+      {u : Text} (b : ℕ) →
+      t.end < length t.out.now →
+      u.out.ghost_name ≡ t.out.ghost_name →
+      u.out.now ≡ set t.out.now t.end b →
+      u.end ≡ t.end + 1 →
+      Put 1 t (b ∷ []) u
   unfolding written
-  put_one b h = record {
+  put_one b h same now end = record {
+    same = same;
+    long = ap length now ∙ length-set t.out.now t.end b;
     within = omega arith;
     short = omega arith;
-    place = refl;
-    is = set_split d at b h ∙ sym (append_snoc (take at d) b (drop (suc at) d)) ∙ rw add-one;
+    place = end;
+    is = now ∙ set_split t.out.now t.end b h ∙ sym (append_snoc (take t.end t.out.now) b (drop (suc t.end) t.out.now)) ∙ rw add-one;
   }
 
-  put-length : {s l : List ℕ} {a r : ℕ} → Put a d at s l r → length l ≡ length d
-  put-length {s} p = ap length p.is ∙ length-written d at s (omega (arith, p.within, p.place))
-
   -- two writes, one after the other
-  pub put_then : {s t l m : List ℕ} {a b k r : ℕ} → Put a d at s l k → Put b l k t m r → Put (a + b) d at (s ++ t) m r
-  put_then {s} {t} p q = record {
-    within = omega (arith, q.within, put-length p);
+  pub put_then : {r s : List ℕ} {u v : Text} {a b : ℕ} → Put a t r u → Put b u s v → Put (a + b) t (r ++ s) v
+  put_then {r} {s} p q = record {
+    same = q.same ∙ p.same;
+    long = q.long ∙ p.long;
+    within = omega (arith, q.within, p.long);
     short = omega (arith, p.short, q.short);
-    place = omega (arith, p.place, q.place, length-append s t);
-    is = q.is ∙ ap₂ (λ x y. written x y t) p.is p.place ∙ written_then d at s (omega (arith, p.within, p.place)) t;
+    place = omega (arith, p.place, q.place, length-append r s);
+    is =
+        q.is
+        ∙ ap₂ (λ x y. written x y s) p.is p.place
+        ∙ written_then t.out.now t.end r (omega (arith, p.within, p.place)) s;
   }
 
   -- the same write, said of other bytes that are equal and of more room
-  pub put_as : {s t l : List ℕ} {a b r : ℕ} → Put a d at s l r → s ≡ t → a ≤ b → Put b d at t l r
+  pub put_as : {r s : List ℕ} {u : Text} {a b : ℕ} → Put a t r u → r ≡ s → a ≤ b → Put b t s u
   put_as p e h = record {
+    same = p.same;
+    long = p.long;
     within = p.within;
     short = omega (arith, p.short);
-    place = p.place ∙ ap (λ x. at + length x) e;
-    is = p.is ∙ ap (written d at) e;
+    place = p.place ∙ ap (λ x. t.end + length x) e;
+    is = p.is ∙ ap (written t.out.now t.end) e;
   }
 
--- a loop that writes n pieces, each of at most `each` bytes, from `at` on into a buffer that was d, and has written i of them: text i
-pub record Putting (text : ℕ → List ℕ) (each n : ℕ) (d : List ℕ) (at : ℕ) (l : List ℕ) (next i : ℕ) : Type 0 where
+-- a loop that writes n pieces, each of at most `each` bytes, and has written i of them: pieces i
+pub record Putting (pieces : ℕ → List ℕ) (each n : ℕ) (before after : Text) (i : ℕ) : Type 0 where
   pub upto : i ≤ n
-  pub long : length l ≡ length d
-  pub put : Put (each * i) d at (text i) l next
+  pub put : Put (each * i) before (pieces i) after
 
-module _ {text : ℕ → List ℕ} {each n : ℕ} {d : List ℕ} {at : ℕ} where
-  pub putting-start : text 0 ≡ [] → at ≤ length d → Putting text each n d at d at 0
-  putting-start e h = record { upto = omega arith; long = refl; put = put_as (put-none h) (sym e) (omega arith) }
+module _ {pieces : ℕ → List ℕ} {each n : ℕ} {t : Text} where
+  pub putting-start : pieces 0 ≡ [] → t.end ≤ length t.out.now → Putting pieces each n t t 0
+  putting-start e h = record { upto = omega arith; put = put_as (put-none h) (sym e) (omega arith) }
 
   pub putting-more :
-      {l m s : List ℕ} {next r i : ℕ} →
-      Putting text each n d at l next i →
+      {u v : Text} {s : List ℕ} {i : ℕ} →
+      Putting pieces each n t u i →
       i < n →
-      text (i + 1) ≡ text i ++ s →
-      Put each l next s m r →
-      Putting text each n d at m r (i + 1)
+      pieces (i + 1) ≡ pieces i ++ s →
+      Put each u s v →
+      Putting pieces each n t v (i + 1)
   putting-more w h e p = record {
     upto = omega arith;
-    long = put-length p ∙ w.long;
     put = put_as (put_then w.put p) (sym e) (rw (add-one, mul-suc) (omega arith));
   }
 
-  pub putting-done : {l : List ℕ} {next i : ℕ} → Putting text each n d at l next i → n ≤ i → Put (each * n) d at (text n) l next
+  pub putting-done : {u : Text} {i : ℕ} → Putting pieces each n t u i → n ≤ i → Put (each * n) t (pieces n) u
   putting-done {i = i} w h = let e : i ≡ n = omega (arith, w.upto) in rw e at w.put
 
--- a text that is written from the front on
-pub at_front : {d s t l : List ℕ} {a r : ℕ} → Put a d 0 s l r → s ≡ t → AtFront d t l r
+-- an empty text in the whole of a buffer that was d, where bytes r were written: `after` is what the buffer then holds
+pub at_front :
+    {t u : Text} {d r s after : List ℕ} {a : ℕ} →
+    t.out.now ≡ d →
+    t.end ≡ 0 →
+    Put a t r u →
+    after ≡ u.out.now →
+    r ≡ s →
+    AtFront d s after u.end
 unfolding written
-at_front {d} {s} p e = record {
-  within = p.within;
-  long = p.place ∙ zero-add (length s) ∙ ap length e;
-  is = p.is ∙ ap₂ (λ x n. x ++ drop n d) e (sym p.place);
-}
+at_front {t} {u} {d} {r} {s} lent empty p whole e =
+    let is : u.out.now ≡ written d 0 r = p.is ∙ ap₂ (λ x y. written x y r) lent empty in
+    let long : u.end ≡ length r = p.place ∙ ap (λ y. y + length r) empty ∙ zero-add (length r) in
+    record {
+      within = rw (← lent) p.within;
+      long = long ∙ ap length e;
+      is = whole ∙ is ∙ ap₂ (λ x n. x ++ drop n d) e (zero-add (length r) ∙ sym long);
+    }

@@ -1,8 +1,8 @@
-// The parts of a line: each is written from a place on, and the place after it is returned.
+// A text in the making, and the parts of its lines: each is written at the text's end.
 
 #![tactic(auto)]
 
-ghost use Rattle.std.specs.Prelude.{◌≡◌, [], ◌∷◌, ◌++◌, ◌+◌, ◌*◌, ◌≤◌, ◌<◌, length, nat_abs};
+ghost use Rattle.std.specs.Prelude.{◌≡◌, [], ◌∷◌, ◌++◌, ◌+◌, ◌*◌, ◌≤◌, ◌<◌, length};
 ghost use Rattle.text_fields.specs.Buffer.{Put};
 ghost use Rattle.text_fields.specs.Fields.{digit, digits, decimal, signed_decimal, number_fields};
 
@@ -10,116 +10,117 @@ use base::wide;
 
 pub const LINE_END: u8 = 10;
 
-// Writes one byte.
-pub fn put_byte(out: &mut [u8], at: usize, byte: u8) -> usize
-    requires { at < length out.old }
-    ensures { Put 1 out.old at (byte ∷ []) out.new result }
-{
-    out[at] = byte;
-    at + 1
+// The bytes of a caller's buffer before `end` are what is written so far, those from there on as they were lent.
+#[derive(Drop)]
+pub struct Text<'a> {
+    pub out: &'a mut [u8],
+    pub end: usize,
 }
 
-// Writes bytes, such as a word.
-pub fn put_bytes(out: &mut [u8], at: usize, bytes: &[u8]) -> usize
-    requires { at + length bytes.now ≤ length out.old }
-    ensures { Put (length bytes.now) out.old at bytes.now out.new result }
-{
-    base::write_bytes(out, at, bytes);
-    at + bytes.len()
-}
-
-// Writes a decimal digit.
-fn put_digit(out: &mut [u8], at: usize, d: usize) -> usize
-    requires { (at < length out.old) × (d < 10) }
-    ensures { Put 1 out.old at (digit d ∷ []) out.new result }
-{
-    put_byte(out, at, 48 + d as u8)
-}
-
-// Writes a number in decimal, where it has at most `left` digits.
-fn put_digits(out: &mut [u8], at: usize, x: usize, left: usize) -> usize
-    requires { at + left ≤ length out.old }
-    ensures { Put left out.old at (digits left x) out.new result }
-{
-    if left == 0 {
-        return at;
+impl<'a> Text<'a> {
+    // The empty text.
+    pub fn new(out: &'a mut [u8]) -> Text<'a>
+        ensures same { result.out.ghost_name ≡ out.entry.ghost_name }
+        ensures lent { result.out.now ≡ out.old }
+        ensures empty { result.end ≡ 0 }
+    {
+        Text { out, end: 0 }
     }
-    if x < 10 {
-        return put_digit(out, at, x);
+
+    // Writes one byte.
+    pub fn put_byte(&mut self, byte: u8)
+        requires { self.old.end < length self.old.out.now }
+        ensures { Put 1 self.old (byte ∷ []) self.new }
+    {
+        self.out[self.end] = byte;
+        self.end += 1;
     }
-    let last = put_digits(out, at, x / 10, left - 1);
-    put_digit(out, last, x % 10)
-}
 
-// Writes a number in decimal.
-pub fn put_number(out: &mut [u8], at: usize, x: usize) -> usize
-    requires { (at + 3 ≤ length out.old) × (x < 1000) }
-    ensures { Put 3 out.old at (decimal x) out.new result }
-{
-    put_digits(out, at, x, 3)
-}
-
-// How far a number is from 0.
-fn magnitude(x: i64) -> usize
-    ensures { result ≡ nat_abs x }
-{
-    if x < 0 {
-        return (-1 - x) as usize + 1;
+    // Writes bytes, such as a word.
+    pub fn put_bytes(&mut self, bytes: &[u8])
+        requires { self.old.end + length bytes.now ≤ length self.old.out.now }
+        ensures { Put (length bytes.now) self.old bytes.now self.new }
+    {
+        base::write_bytes(self.out, self.end, bytes);
+        self.end += bytes.len();
     }
-    x as usize
-}
 
-// Writes a number in decimal, with its sign if it is below 0.
-pub fn put_signed(out: &mut [u8], at: usize, x: i64) -> usize
-    requires { at + 21 ≤ length out.old }
-    ensures { Put 21 out.old at (signed_decimal x) out.new result }
-{
-    let size = magnitude(x);
-    if x < 0 {
-        let next = put_byte(out, at, b'-');
-        return put_digits(out, next, size, 20);
+    // Writes a decimal digit.
+    fn put_digit(&mut self, d: usize)
+        requires { (self.old.end < length self.old.out.now) × (d < 10) }
+        ensures { Put 1 self.old (digit d ∷ []) self.new }
+    {
+        self.put_byte(b'0' + d as u8);
     }
-    put_digits(out, at, size, 20)
-}
 
-// Writes bytes as a field after another.
-pub fn put_next_bytes(out: &mut [u8], at: usize, bytes: &[u8]) -> usize
-    requires { at + 1 + length bytes.now ≤ length out.old }
-    ensures { Put (1 + length bytes.now) out.old at (32 ∷ bytes.now) out.new result }
-{
-    let next = put_byte(out, at, b' ');
-    put_bytes(out, next, bytes)
-}
-
-// Writes a number as a field after another.
-pub fn put_next_number(out: &mut [u8], at: usize, x: usize) -> usize
-    requires { (at + 4 ≤ length out.old) × (x < 1000) }
-    ensures { Put 4 out.old at (32 ∷ decimal x) out.new result }
-{
-    let next = put_byte(out, at, b' ');
-    put_number(out, next, x)
-}
-
-// Writes numbers as fields after another.
-pub fn put_next_numbers(out: &mut [u8], at: usize, numbers: &[u8]) -> usize
-    requires { at + 4 * length numbers.now ≤ length out.old }
-    ensures { Put (4 * length numbers.now) out.old at
-        (number_fields numbers.now) out.new result }
-{
-    let mut next = at;
-    let mut i = 0;
-    while i < numbers.len() {
-        next = put_next_number(out, next, wide(numbers[i]));
-        i += 1;
+    // Writes a number in decimal, where it has at most `left` digits.
+    fn put_digits(&mut self, x: usize, left: usize)
+        requires { self.old.end + left ≤ length self.old.out.now }
+        ensures { Put left self.old (digits left x) self.new }
+    {
+        if left == 0 {
+            return;
+        }
+        if x < 10 {
+            return self.put_digit(x);
+        }
+        self.put_digits(x / 10, left - 1);
+        self.put_digit(x % 10);
     }
-    next
-}
 
-// Writes a number as the last field of a line.
-pub fn put_last_number(out: &mut [u8], at: usize, x: usize) -> usize
-    requires { (at + 5 ≤ length out.old) × (x < 1000) }
-    ensures { Put 5 out.old at ((32 ∷ decimal x) ++ (10 ∷ [])) out.new result }
-{
-    let next = put_next_number(out, at, x);
-    put_byte(out, next, LINE_END)
+    // Writes a number in decimal.
+    pub fn put_number(&mut self, x: usize)
+        requires { (self.old.end + 3 ≤ length self.old.out.now) × (x < 1000) }
+        ensures { Put 3 self.old (decimal x) self.new }
+    {
+        self.put_digits(x, 3);
+    }
+
+    // Writes a number in decimal, with its sign if it is below 0.
+    pub fn put_signed(&mut self, x: i64)
+        requires { self.old.end + 21 ≤ length self.old.out.now }
+        ensures { Put 21 self.old (signed_decimal x) self.new }
+    {
+        if x < 0 {
+            self.put_byte(b'-');
+        }
+        self.put_digits(x.unsigned_abs() as usize, 20);
+    }
+
+    // Writes bytes as a field after another.
+    pub fn put_next_bytes(&mut self, bytes: &[u8])
+        requires { self.old.end + 1 + length bytes.now ≤ length self.old.out.now }
+        ensures { Put (1 + length bytes.now) self.old (32 ∷ bytes.now) self.new }
+    {
+        self.put_byte(b' ');
+        self.put_bytes(bytes);
+    }
+
+    // Writes a number as a field after another.
+    pub fn put_next_number(&mut self, x: usize)
+        requires { (self.old.end + 4 ≤ length self.old.out.now) × (x < 1000) }
+        ensures { Put 4 self.old (32 ∷ decimal x) self.new }
+    {
+        self.put_byte(b' ');
+        self.put_number(x);
+    }
+
+    // Writes numbers as fields after another.
+    pub fn put_next_numbers(&mut self, numbers: &[u8])
+        requires { self.old.end + 4 * length numbers.now ≤ length self.old.out.now }
+        ensures { Put (4 * length numbers.now) self.old (number_fields numbers.now) self.new }
+    {
+        for number in numbers {
+            self.put_next_number(wide(*number));
+        }
+    }
+
+    // Writes a number as the last field of a line.
+    pub fn put_last_number(&mut self, x: usize)
+        requires { (self.old.end + 5 ≤ length self.old.out.now) × (x < 1000) }
+        ensures { Put 5 self.old ((32 ∷ decimal x) ++ (10 ∷ [])) self.new }
+    {
+        self.put_next_number(x);
+        self.put_byte(LINE_END);
+    }
 }

@@ -1,4 +1,4 @@
-// The lines that the programs print: each is written into a caller's buffer from a place on, and the place after it is returned.
+// The lines that the programs print: each is written at a text's end.
 
 #![tactic(auto)]
 
@@ -8,77 +8,74 @@ ghost use Rattle.text_fields.specs.Fields.{decimal};
 ghost use Rattle.text_lines.specs.Text.{line_room, head_line, refused_line, stable_line, suspect_line, margin_line, none_line};
 
 use base::wide;
-use text_fields::{
-    LINE_END, put_byte, put_bytes, put_last_number, put_next_bytes, put_next_number,
-    put_next_numbers, put_number, put_signed,
-};
+use text_fields::{LINE_END, Text};
 
 // Room for any line, `line_room`.
 pub const LINE_ROOM: usize = 272;
 
 // The first line: the plan has n routers and m lists.
-pub fn head_line(out: &mut [u8], at: usize, n: usize, m: usize) -> usize
-    requires { (at + line_room ≤ length out.old) × (n < 1000) × (m < 1000) }
-    ensures { Put line_room out.old at (head_line n m) out.new result }
+pub fn head_line(text: &mut Text, n: usize, m: usize)
+    requires { (text.old.end + line_room ≤ length text.old.out.now) × (n < 1000) × (m < 1000) }
+    ensures { Put line_room text.old (head_line n m) text.new }
 {
-    let first = put_bytes(out, at, b"routers");
-    let second = put_next_number(out, first, n);
-    let third = put_next_bytes(out, second, b"lists");
-    put_last_number(out, third, m)
+    text.put_bytes(b"routers");
+    text.put_next_number(n);
+    text.put_next_bytes(b"lists");
+    text.put_last_number(m);
 }
 
 // The single line of a refused plan.
-pub fn refused_line(out: &mut [u8], at: usize, number: u8) -> usize
-    requires { at + line_room ≤ length out.old }
-    ensures { Put line_room out.old at (refused_line number) out.new result }
+pub fn refused_line(text: &mut Text, number: u8)
+    requires { text.old.end + line_room ≤ length text.old.out.now }
+    ensures { Put line_room text.old (refused_line number) text.new }
 {
-    let next = put_bytes(out, at, b"refused");
-    put_last_number(out, next, wide(number))
+    text.put_bytes(b"refused");
+    text.put_last_number(wide(number));
 }
 
 // The first two fields of a list's line: its number and its verdict.
-fn put_verdict(out: &mut [u8], at: usize, list: usize, verdict: &[u8]) -> usize
-    requires { (at + 11 ≤ length out.old) × (list < 1000) × (length verdict.now ≤ 7) }
-    ensures { Put 11 out.old at (decimal list ++ (32 ∷ verdict.now)) out.new result }
+fn put_verdict(text: &mut Text, list: usize, verdict: &[u8])
+    requires { (text.old.end + 11 ≤ length text.old.out.now) × (list < 1000) × (length verdict.now ≤ 7) }
+    ensures { Put 11 text.old (decimal list ++ (32 ∷ verdict.now)) text.new }
 {
-    let next = put_number(out, at, list);
-    put_next_bytes(out, next, verdict)
+    text.put_number(list);
+    text.put_next_bytes(verdict);
 }
 
 // The line of a stable list.
-pub fn stable_line(out: &mut [u8], at: usize, list: usize, highest: usize) -> usize
-    requires { (at + line_room ≤ length out.old) × (list < 1000) × (highest < 1000) }
-    ensures { Put line_room out.old at (stable_line list highest) out.new result }
+pub fn stable_line(text: &mut Text, list: usize, highest: usize)
+    requires { (text.old.end + line_room ≤ length text.old.out.now) × (list < 1000) × (highest < 1000) }
+    ensures { Put line_room text.old (stable_line list highest) text.new }
 {
-    let next = put_verdict(out, at, list, b"stable");
-    put_last_number(out, next, highest)
+    put_verdict(text, list, b"stable");
+    text.put_last_number(highest);
 }
 
 // The line of a suspect list.
-pub fn suspect_line(out: &mut [u8], at: usize, list: usize, cycle: &[u8]) -> usize
-    requires { (at + line_room ≤ length out.old) × (list < 1000) × (length cycle.now ≤ 64) }
-    ensures { Put line_room out.old at (suspect_line list cycle.now) out.new result }
+pub fn suspect_line(text: &mut Text, list: usize, cycle: &[u8])
+    requires { (text.old.end + line_room ≤ length text.old.out.now) × (list < 1000) × (length cycle.now ≤ 64) }
+    ensures { Put line_room text.old (suspect_line list cycle.now) text.new }
 {
-    let size = put_verdict(out, at, list, b"suspect");
-    let members = put_next_number(out, size, cycle.len());
-    let last = put_next_numbers(out, members, cycle);
-    put_byte(out, last, LINE_END)
+    put_verdict(text, list, b"suspect");
+    text.put_next_number(cycle.len());
+    text.put_next_numbers(cycle);
+    text.put_byte(LINE_END);
 }
 
 // The line of a margin.
-pub fn margin_line(out: &mut [u8], at: usize, margin: i64) -> usize
-    requires { at + line_room ≤ length out.old }
-    ensures { Put line_room out.old at (margin_line margin) out.new result }
+pub fn margin_line(text: &mut Text, margin: i64)
+    requires { text.old.end + line_room ≤ length text.old.out.now }
+    ensures { Put line_room text.old (margin_line margin) text.new }
 {
-    let end = put_signed(out, at, margin);
-    put_byte(out, end, LINE_END)
+    text.put_signed(margin);
+    text.put_byte(LINE_END);
 }
 
 // The line where there is no margin.
-pub fn none_line(out: &mut [u8], at: usize) -> usize
-    requires { at + line_room ≤ length out.old }
-    ensures { Put line_room out.old at none_line out.new result }
+pub fn none_line(text: &mut Text)
+    requires { text.old.end + line_room ≤ length text.old.out.now }
+    ensures { Put line_room text.old none_line text.new }
 {
-    let last = put_bytes(out, at, b"none");
-    put_byte(out, last, LINE_END)
+    text.put_bytes(b"none");
+    text.put_byte(LINE_END);
 }

@@ -2,37 +2,38 @@
 
 #![tactic(auto)]
 
-ghost use Rattle.std.specs.Prelude.{◌≤◌, length};
+ghost use Rattle.std.specs.Prelude.{◌+◌, ◌≤◌, length};
 ghost use Rattle.text_fields.specs.Buffer.{Put, AtFront};
 ghost use Rattle.text_lines.specs.Text.{line_room};
 ghost use Rattle.text_margin_rules.specs.Margin.{margin_text};
 ghost use Rattle.text_margin.specs.Answered.{given_line, answer_line};
 
 use base::wide;
-use call_compare::compare::{CompareAnswer, Margin};
+use call_compare::compare::CompareAnswer;
+use text_fields::Text;
 
 // The number of an input that is too short.
 const TOO_SHORT: u8 = 1;
 
 // Writes the line of a margin, or of none.
-fn given_line(out: &mut [u8], margin: Margin) -> usize
-    requires { line_room ≤ length out.old }
-    ensures { Put line_room out.old 0 (given_line margin) out.new result }
+fn given_line(text: &mut Text, margin: Option<i64>)
+    requires { text.old.end + line_room ≤ length text.old.out.now }
+    ensures { Put line_room text.old (given_line margin) text.new }
 {
     match margin {
-        Margin::Absent => text_lines::none_line(out, 0),
-        Margin::Of(difference) => text_lines::margin_line(out, 0, difference),
+        None => text_lines::none_line(text),
+        Some(difference) => text_lines::margin_line(text, difference),
     }
 }
 
 // Writes the line of what a comparison says.
-fn answer_line(out: &mut [u8], answer: CompareAnswer) -> usize
-    requires { line_room ≤ length out.old }
-    ensures { Put line_room out.old 0 (answer_line answer) out.new result }
+fn answer_line(text: &mut Text, answer: CompareAnswer)
+    requires { text.old.end + line_room ≤ length text.old.out.now }
+    ensures { Put line_room text.old (answer_line answer) text.new }
 {
     match answer {
-        CompareAnswer::Refused(number) => text_lines::refused_line(out, 0, number),
-        CompareAnswer::Compared(_, margin) => given_line(out, margin),
+        CompareAnswer::Refused(number) => text_lines::refused_line(text, number),
+        CompareAnswer::Compared(_, margin) => given_line(text, margin),
     }
 }
 
@@ -43,12 +44,15 @@ pub fn margin_text(input: &[u8], out: &mut [u8]) -> usize
     requires { line_room ≤ length out.old }
     ensures { AtFront out.old (margin_text input.now) out.new result }
 {
+    let mut text = Text::new(out);
     if input.len() < 3 {
-        return text_lines::refused_line(out, 0, TOO_SHORT);
+        text_lines::refused_line(&mut text, TOO_SHORT);
+        return text.end;
     }
     let router = wide(input[0]);
     let first = wide(input[1]);
     let second = wide(input[2]);
     let answer = call_compare::compare::compare(&input[3..], router, first, second, true, true);
-    answer_line(out, answer)
+    answer_line(&mut text, answer);
+    text.end
 }

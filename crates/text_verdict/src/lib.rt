@@ -13,26 +13,27 @@ ghost use Rattle.text_verdict.specs.Found.{found_line, Printable};
 use net_verdict::Assessment;
 use plan_contents::entries::DISTANCES;
 use plan_read::refusal::CheckedPlan;
+use text_fields::Text;
 use text_lines::LINE_ROOM;
 
 // Room for any text, `text_room`: the first line and the lines of 64 lists.
 pub const TEXT_ROOM: usize = 65 * LINE_ROOM;
 
 // Writes the line of a list for which `found` was found; `cycle` is the buffer that was lent for the cycle.
-fn found_line(out: &mut [u8], at: usize, list: usize, found: Assessment, cycle: &[u8]) -> usize
-    requires { (at + line_room ≤ length out.old) × Printable found list cycle.now }
-    ensures { Put line_room out.old at (found_line found list cycle.now) out.new result }
+fn found_line(text: &mut Text, list: usize, found: Assessment, cycle: &[u8])
+    requires { (text.old.end + line_room ≤ length text.old.out.now) × Printable found list cycle.now }
+    ensures { Put line_room text.old (found_line found list cycle.now) text.new }
 {
     match found {
-        Assessment::Stable(highest) => text_lines::stable_line(out, at, list, highest),
-        Assessment::Suspect(count) => text_lines::suspect_line(out, at, list, &cycle[0..count]),
+        Assessment::Stable(highest) => text_lines::stable_line(text, list, highest),
+        Assessment::Suspect(count) => text_lines::suspect_line(text, list, &cycle[..count]),
     }
 }
 
 // Writes the line of a list.
-fn list_line(out: &mut [u8], at: usize, plan: &[u8], checked: CheckedPlan, list: usize) -> usize
-    requires { (at + line_room ≤ length out.old) × Accepted plan.now checked × (list < list_count plan.now) }
-    ensures { Put line_room out.old at (list_line plan.now list) out.new result }
+fn list_line(text: &mut Text, plan: &[u8], checked: CheckedPlan, list: usize)
+    requires { (text.old.end + line_room ≤ length text.old.out.now) × Accepted plan.now checked × (list < list_count plan.now) }
+    ensures { Put line_room text.old (list_line plan.now list) text.new }
 {
     let mut rows = [0u64; 64];
     let net = net_read::open_plan(plan, checked, list, &mut rows);
@@ -50,21 +51,17 @@ fn list_line(out: &mut [u8], at: usize, plan: &[u8], checked: CheckedPlan, list:
         &mut table,
         &mut cycle,
     );
-    found_line(out, at, list, found, &cycle)
+    found_line(text, list, found, &cycle);
 }
 
 // Writes the lines of the first m lists, in order.
-fn list_lines(out: &mut [u8], at: usize, plan: &[u8], checked: CheckedPlan, m: usize) -> usize
-    requires { (at + line_room * m ≤ length out.old) × Accepted plan.now checked × (m ≤ list_count plan.now) }
-    ensures { Put (line_room * m) out.old at (list_lines plan.now m) out.new result }
+fn list_lines(text: &mut Text, plan: &[u8], checked: CheckedPlan, m: usize)
+    requires { (text.old.end + line_room * m ≤ length text.old.out.now) × Accepted plan.now checked × (m ≤ list_count plan.now) }
+    ensures { Put (line_room * m) text.old (list_lines plan.now m) text.new }
 {
-    let mut next = at;
-    let mut list = 0;
-    while list < m {
-        next = list_line(out, next, plan, checked, list);
-        list += 1;
+    for list in 0..m {
+        list_line(text, plan, checked, list);
     }
-    next
 }
 
 // Writes the whole text of a plan to the front of a buffer, and returns the text's length.
@@ -74,10 +71,13 @@ pub fn plan_text(plan: &[u8], out: &mut [u8]) -> usize
 {
     let checked = plan_read::refusal::check(plan);
     let refused = checked.refused;
+    let mut text = Text::new(out);
     if refused != 0 {
-        return text_lines::refused_line(out, 0, refused);
+        text_lines::refused_line(&mut text, refused);
+        return text.end;
     }
     let m = checked.m as usize;
-    let next = text_lines::head_line(out, 0, checked.n as usize, m);
-    list_lines(out, next, plan, checked, m)
+    text_lines::head_line(&mut text, checked.n as usize, m);
+    list_lines(&mut text, plan, checked, m);
+    text.end
 }

@@ -11,6 +11,6 @@ fn main(rt: HostRuntime) -> io::Result<()> {
     let mut plan = [0u8; LARGEST_PLAN + 1];
     let size = text_input::read_full(&mut rt.stdin(), &mut plan)?;
     let mut text = [0u8; TEXT_ROOM];
-    let length = text_verdict::plan_text(&plan[0..size], &mut text);
-    rt.write_all(&text[0..length])
+    let length = text_verdict::plan_text(&plan[..size], &mut text);
+    rt.write_all(&text[..length])
 }

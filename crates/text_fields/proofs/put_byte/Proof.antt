@@ -1,8 +1,0 @@
-use borrow.Author.Rules.{rules}
-use Rattle.text_fields.proofs.Writing.{put_one}
-use Rattle.text_fields.proofs.put_byte.Statement.{statement}
-use Rattle.text_fields.proofs.put_byte.Tie as tie
-
-pub put_byte_spec : {M : Type 1} → statement M
-put_byte_spec =
-    tie.close (tie.spec (λ c. search rules) (λ c. search rules) (λ c. search rules) (λ c. put_one _ (search rules)))
