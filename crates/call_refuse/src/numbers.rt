@@ -61,13 +61,10 @@ pub fn relies_refusal(checked: CheckedPlan, list: usize, router: usize, other: u
 fn sequence_ok(sequence: &[u8], n: usize) -> bool
     ensures { result ≡ sequence_ok sequence.now n }
 {
-    let mut i = 0;
-    while i < sequence.len() {
-        let named = sequence[i] as usize;
-        if n <= named {
+    for named in sequence {
+        if n <= *named as usize {
             return false;
         }
-        i += 1;
     }
     true
 }

@@ -1,12 +1,9 @@
 // Each call, and what it gave as words and numbers of a line: a refusal number, or the result; then every byte of the lent buffers.
 
-ghost use Rattle.std.specs.Prelude.{◌≤◌};
-
 use crate::text;
 use base::wide;
-use checker::compare::{CompareAnswer, Margin, Preferred};
+use checker::compare::{CompareAnswer, Preferred};
 use checker::grade::GradeAnswer;
-use checker::grades::Grade;
 use checker::relies::ReliesAnswer;
 use checker::steady::SteadyAnswer;
 use checker::verdict::VerdictAnswer;
@@ -32,15 +29,15 @@ fn better(rt: &impl Print, preferred: Preferred) -> io::Result<()> {
     }
 }
 
-fn apart(rt: &impl Print, margin: Margin) -> io::Result<()> {
+fn apart(rt: &impl Print, margin: Option<i64>) -> io::Result<()> {
     match margin {
-        Margin::Absent => text::word(rt, b"none"),
-        Margin::Of(difference) => text::signed(rt, difference),
+        None => text::word(rt, b"none"),
+        Some(difference) => text::signed(rt, difference),
     }
 }
 
 // Which is better, then the word `margin` and the margin.
-fn compared(rt: &impl Print, preferred: Preferred, margin: Margin) -> io::Result<()> {
+fn compared(rt: &impl Print, preferred: Preferred, margin: Option<i64>) -> io::Result<()> {
     better(rt, preferred)?;
     text::word(rt, b"margin")?;
     apart(rt, margin)
@@ -157,15 +154,6 @@ fn verdict_in(
     buffers(rt, labels, ranks, table, cycle)
 }
 
-fn at_most_10(x: usize) -> usize
-    ensures { result ≤ 10 }
-{
-    if 10 < x {
-        return 10;
-    }
-    x
-}
-
 // The same with buffers of these lengths, at most 10, each byte 7 before.
 pub fn verdict(
     rt: &impl Print,
@@ -176,18 +164,14 @@ pub fn verdict(
     table: usize,
     cycle: usize,
 ) -> io::Result<()> {
-    let first = at_most_10(labels);
-    let second = at_most_10(ranks);
-    let third = at_most_10(table);
-    let fourth = at_most_10(cycle);
     verdict_in(
         rt,
         plan,
         list,
-        &mut [7u8; 10][0..first],
-        &mut [7u8; 10][0..second],
-        &mut [7u8; 10][0..third],
-        &mut [7u8; 10][0..fourth],
+        &mut [7u8; 10][..labels.min(10)],
+        &mut [7u8; 10][..ranks.min(10)],
+        &mut [7u8; 10][..table.min(10)],
+        &mut [7u8; 10][..cycle.min(10)],
     )
 }
 
@@ -206,24 +190,14 @@ fn steady_in(rt: &impl Print, plan: &[u8], list: usize, out: &mut [u8]) -> io::R
 
 // The same with a buffer of this length, at most 10, each byte 7 before.
 pub fn steady(rt: &impl Print, plan: &[u8], list: usize, length: usize) -> io::Result<()> {
-    let size = at_most_10(length);
-    steady_in(rt, plan, list, &mut [7u8; 10][0..size])
-}
-
-fn grade_number(grade: Grade) -> usize {
-    match grade {
-        Grade::AlwaysRests => 1,
-        Grade::CanRest => 2,
-        Grade::MayNeverRest => 3,
-        Grade::NoSteadyTable => 4,
-    }
+    steady_in(rt, plan, list, &mut [7u8; 10][..length.min(10)])
 }
 
 fn grade_answer(rt: &impl Print, answer: GradeAnswer) -> io::Result<()> {
     match answer {
         GradeAnswer::Refused(number) => text::number(rt, wide(number)),
         GradeAnswer::Graded(grade, rounds) => {
-            text::named_number(rt, b"grade", grade_number(grade))?;
+            text::named_number(rt, b"grade", grade as usize)?;
             text::named_number(rt, b"rounds", rounds)
         }
     }

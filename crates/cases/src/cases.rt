@@ -3,7 +3,8 @@
 
 ghost use Rattle.std.specs.Prelude.{◌≤◌, length};
 
-use crate::{build, calls, plans, script, text};
+use crate::build::{self, PlanBytes};
+use crate::{calls, plans, script, text};
 use std::io;
 
 // The most bytes that a lent table has.
@@ -16,10 +17,17 @@ struct Lengths {
     table: usize,
 }
 
+// Writes numbers below 256 from a place on, and returns the place after them.
+fn put_all(bytes: &mut [u8], at: usize, numbers: &[usize]) -> usize {
+    let mut writer = PlanBytes { plan: bytes, at };
+    writer.put_all(numbers);
+    writer.at
+}
+
 // `sequence LIST LIMIT ACTS`: a run.
 fn sequence(rt: &impl Print, numbers: &[usize], plan: &[u8], table: &mut [u8]) -> io::Result<()> {
     let mut acts = [0u8; script::ROOM];
-    let count = build::put_all(&mut acts, 0, script::from_third(numbers));
+    let count = put_all(&mut acts, 0, script::from_third(numbers));
     calls::run(
         rt,
         plan,
@@ -114,7 +122,7 @@ fn word(
         return Ok(script::number(numbers, 0, 0));
     }
     if word == b'p' {
-        build::put_all(
+        put_all(
             plan,
             script::number(numbers, 0, 0),
             script::from_second(numbers),
@@ -145,7 +153,7 @@ fn words(
         bytes = word(
             rt,
             script::byte(line, at + 1),
-            script::given(&numbers, read.count),
+            read.given,
             plan,
             bytes,
             table,
@@ -155,6 +163,15 @@ fn words(
     Ok(())
 }
 
+// Copies bytes to a buffer's front.
+fn copy(buffer: &mut [u8], bytes: &[u8]) {
+    let mut writer = PlanBytes {
+        plan: buffer,
+        at: 0,
+    };
+    writer.put_bytes(bytes);
+}
+
 // A case: its name, and what its calls gave. They have copies of the plan and the table.
 fn case(rt: &impl Print, line: &[u8], plan: &[u8], table: &[u8]) -> io::Result<()> {
     if TABLE_ROOM < table.len() {
@@ -162,8 +179,8 @@ fn case(rt: &impl Print, line: &[u8], plan: &[u8], table: &[u8]) -> io::Result<(
     }
     let mut own_plan = [0u8; build::ROOM];
     let mut own_table = [0u8; TABLE_ROOM];
-    build::put_bytes(&mut own_plan, 0, plan);
-    build::put_bytes(&mut own_table, 0, table);
+    copy(&mut own_plan, plan);
+    copy(&mut own_table, table);
     let name = script::until(line, 0, script::SPACE);
     text::name(rt, script::part(line, 0, name))?;
     words(
@@ -172,7 +189,7 @@ fn case(rt: &impl Print, line: &[u8], plan: &[u8], table: &[u8]) -> io::Result<(
         name,
         &mut own_plan,
         plan.len(),
-        &mut own_table[0..table.len()],
+        &mut own_table[..table.len()],
     )?;
     text::line_end(rt)
 }
@@ -184,15 +201,14 @@ fn set(line: &[u8], plan: &mut [u8], table: &mut [u8], lengths: Lengths) -> Leng
     let mut numbers = [0usize; script::ROOM];
     let word = script::byte(line, 2);
     let read = script::read_numbers(line, script::until(line, 2, script::SPACE), &mut numbers);
-    let given = script::given(&numbers, read.count);
     if word == b't' {
         return Lengths {
             plan: lengths.plan,
-            table: build::put_all(table, 0, given),
+            table: put_all(table, 0, read.given),
         };
     }
     Lengths {
-        plan: plans::set(word, given, plan, lengths.plan),
+        plan: plans::set(word, read.given, plan, lengths.plan),
         table: lengths.table,
     }
 }

@@ -16,5 +16,5 @@ use std::io;
 fn main(rt: HostRuntime) -> io::Result<()> {
     let mut input = [0u8; 65536];
     let size = text_input::read_full(&mut rt.stdin(), &mut input)?;
-    cases::all(&rt, &input[0..size])
+    cases::all(&rt, &input[..size])
 }

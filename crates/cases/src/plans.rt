@@ -1,6 +1,7 @@
 // The plan that the cases are about, body by body: each is written after the one before, with its contents entry.
 
-use crate::{build, script};
+use crate::build::{self, PlanBytes};
+use crate::script;
 
 // The kind of the body that a word sets: `roles` and `peers` 1, `sessions` and `mesh` 2, `distances`, `zeros` and `again` 3, `lists`
 // and `full` 4.
@@ -13,40 +14,47 @@ fn kind(word: u8) -> u8 {
     }
 }
 
-// The routers of these roles, and the plan's head.
+// The place of the routers.
+const ROUTERS: usize = 26;
+
+// The routers of these roles, and the plan's head. Returns the place after them.
 fn routers(plan: &mut [u8], roles: &[usize]) -> usize {
     build::put_head(plan, roles.len());
-    build::put_routers(plan, 26, roles)
+    let mut bytes = PlanBytes { plan, at: ROUTERS };
+    bytes.put_routers(roles);
+    bytes.at
 }
 
 // So many reflectors, at most 65.
 fn peers(plan: &mut [u8], n: usize) -> usize {
-    let roles = [1usize; 65];
-    if 65 < n {
-        return 26;
+    match [1; 65].get(..n) {
+        Some(roles) => routers(plan, roles),
+        None => ROUTERS,
     }
-    routers(plan, &roles[0..n])
 }
 
+// Another body, from `start` on. Returns the place after it.
 fn body(word: u8, numbers: &[usize], plan: &mut [u8], start: usize) -> usize {
     let n = script::number(numbers, 0, 0);
+    let mut bytes = PlanBytes { plan, at: start };
     match word {
-        b'r' => routers(plan, numbers),
-        b'p' => peers(plan, n),
-        b'm' => build::put_all_pairs(plan, start, n),
-        b'd' => build::put_distances(plan, start, numbers),
-        b'z' => build::put_zeros(plan, start, n),
-        b'a' => build::put_again(plan, start, n, script::from_second(numbers)),
-        b'f' => build::put_full_lists(plan, start, n, script::number(numbers, 1, 0)),
-        _ => build::put_all(plan, start, numbers),
+        b'm' => bytes.put_all_pairs(n),
+        b'd' => bytes.put_distances(numbers),
+        b'z' => bytes.put_zeros(n),
+        b'a' => bytes.put_again(n, script::from_second(numbers)),
+        b'f' => bytes.put_full_lists(n, script::number(numbers, 1, 0)),
+        _ => bytes.put_all(numbers),
     }
+    bytes.at
 }
 
-// Writes the body that a word and its numbers say, and returns the plan's length up to its end. The routers start at 26.
+// Writes the body that a word and its numbers say, and returns the plan's length up to its end.
 pub fn set(word: u8, numbers: &[usize], plan: &mut [u8], length: usize) -> usize {
-    let which = kind(word);
-    let start = if which == 1 { 26 } else { length };
-    let stop = body(word, numbers, plan, start);
-    build::put_entry(plan, which, start, stop);
+    let (start, stop) = match word {
+        b'r' => (ROUTERS, routers(plan, numbers)),
+        b'p' => (ROUTERS, peers(plan, script::number(numbers, 0, 0))),
+        _ => (length, body(word, numbers, plan, length)),
+    };
+    build::put_entry(plan, kind(word), start, stop);
     stop
 }

@@ -18,9 +18,7 @@ pub fn number(rt: &impl Print, x: usize) -> io::Result<()> {
 
 // A number that may be below 0, with its sign.
 pub fn signed(rt: &impl Print, x: i64) -> io::Result<()> {
-    let mut digits = [0u8; 21];
-    let size = text_fields::put_signed(&mut digits, 0, x);
-    word(rt, &digits[0..size])
+    print!(rt; " {x}")
 }
 
 pub fn line_end(rt: &impl Print) -> io::Result<()> {
@@ -28,10 +26,8 @@ pub fn line_end(rt: &impl Print) -> io::Result<()> {
 }
 
 pub fn numbers(rt: &impl Print, bytes: &[u8]) -> io::Result<()> {
-    let mut i = 0;
-    while i < bytes.len() {
-        number(rt, wide(bytes[i]))?;
-        i += 1;
+    for byte in bytes {
+        number(rt, wide(*byte))?;
     }
     Ok(())
 }
@@ -42,5 +38,5 @@ pub fn named_number(rt: &impl Print, text: &[u8], x: usize) -> io::Result<()> {
 }
 
 pub fn truth(rt: &impl Print, b: bool) -> io::Result<()> {
-    if b { word(rt, b"yes") } else { word(rt, b"no") }
+    word(rt, if b { b"yes" } else { b"no" })
 }
