@@ -14,12 +14,12 @@ use lib.ListN.{get_or}
 use lib.Pow.{pow-lt, pow_mono}
 use Rattle.base.specs.Bits.{bit_n}
 use Rattle.base.specs.BitWalk.{from_bit, LowestBit}
-use Rattle.base.specs.Seek.{flag}
+use Rattle.base.specs.Seek.{flag, seek}
 use Rattle.base.proofs.BitLaws.{bit_past}
-use Rattle.base.proofs.BitSeek.{Seeking, seeking-start, seeking-miss, seeking-below, seeking-set, seeking-more}
+use Rattle.base.proofs.BitSeek.{Seeking, seeking-start, seeking-miss, seeking-below, seeking-set, seeking-hit, seeking-more}
 use Rattle.base.proofs.BitWalk.{lowest-is}
 use Rattle.base.proofs.Numbers.{lt-or-le, eq-or-ne, both_left, both_right, not-both, true-or-false}
-use Rattle.base.proofs.Seek.{seek_found}
+use Rattle.base.proofs.Seek.{flag-yes, Found, seek_found}
 use Rattle.base.proofs.SetBits.{bit-none, bit-with, set-and, set-less}
 use Rattle.route_rules.specs.Instance.{Instance}
 use Rattle.route_rules.specs.Reliance.{relies}
@@ -78,27 +78,39 @@ module _ (rows : List ℕ) (left : ℕ) where
   off : (i : ℕ) → bit_n left i ≡ 0 → free i ≡ 0
   off i h = ap (λ b. flag (b && eqb (bit_and (get_or rows i 0) left) 0)) (ne_eqb (bit_n left i) 1 (λ e. omega arith))
 
-  module _ (unseen : ℕ) (w : FreeSought unseen) (within : (u : ℕ) → bit_n left u ≡ 1 → u < 12) where
-    pub sought-none : unseen ≡ 0 → (i : ℕ) → is_free (get_or rows i 0) left i ≡ false
-    sought-none e i =
-        ⊎_elim (λ (h : is_free (get_or rows i 0) left i ≡ true).
-        let l : i < 12 = within i (eqb-true _ 1 (both_left (bit_at left i) _ h)) in
-        absurd (omega (arith, (seek_found free 12).before i (omega (arith, seeking-miss free left 12 off unseen w e)), ap flag h)))
-        (λ h. h)
-        (true-or-false (is_free (get_or rows i 0) left i))
+  module _ (unseen : ℕ) (w : FreeSought unseen) where
+    pub sought-miss : unseen ≡ 0 → 12 ≡ seek free 12
+    sought-miss = seeking-miss free left 12 off unseen w
 
-    module _ (v : ℕ) (low : LowestBit unseen v) where
+    module _ (within : (u : ℕ) → bit_n left u ≡ 1 → u < 12) (v : ℕ) (low : LowestBit unseen v) where
       pub sought-below : v < 12
       sought-below = seeking-below free left 12 off unseen w within v low
 
-      pub sought-free : bit_and (get_or rows v 0) left ≡ 0 → is_free (get_or rows v 0) left v ≡ true
-      sought-free z =
-          rw (eq-eqb (bit_n left v) 1 (seeking-set free left 12 off unseen w within v low), eq-eqb (bit_and (get_or rows v 0) left) 0 z)
+      pub sought-hit : bit_and (get_or rows v 0) left ≡ 0 → v ≡ seek free 12
+      sought-hit z =
+          seeking-hit free left 12 off unseen w within v low
+          (rw (eq-eqb (bit_n left v) 1 (seeking-set free left 12 off unseen w within v low), eq-eqb (bit_and (get_or rows v 0) left) 0 z) (omega arith))
 
       pub sought-more : (bit_and (get_or rows v 0) left ≡ 0 → ⊥) → (unseen' : ℕ) → unseen' ≡ from_bit unseen (suc v) → FreeSought unseen'
       sought-more d unseen' e =
           seeking-more free left 12 off unseen w within v low unseen' e
           (ap flag (ap (◌&&◌ (bit_at left v)) (ne_eqb (bit_and (get_or rows v 0) left) 0 d) ∙ and-false (bit_at left v)))
+
+  -- what the search says
+  module _ (i : ℕ) (e : i ≡ seek free 12) where
+    found : Found free 12 i
+    found = rw e (seek_found free 12)
+
+    pub free-found : i < 12 → is_free (get_or rows i 0) left i ≡ true
+    free-found l = flag-yes _ (found.hit l)
+
+    pub free-none : i ≡ 12 → ((u : ℕ) → bit_n left u ≡ 1 → u < 12) → (j : ℕ) → is_free (get_or rows j 0) left j ≡ false
+    free-none l within j =
+        ⊎_elim (λ (h : is_free (get_or rows j 0) left j ≡ true).
+        let m : j < 12 = within j (eqb-true _ 1 (both_left (bit_at left j) _ h)) in
+        absurd (omega (arith, found.before j (omega arith), ap flag h)))
+        (λ h. h)
+        (true-or-false (is_free (get_or rows j 0) left j))
 
 module _ (I : Instance) (rows : List ℕ) (k all : ℕ) (p : Places I rows k all) where
   -- the router of a place

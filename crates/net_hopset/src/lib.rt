@@ -3,10 +3,10 @@
 
 #![tactic(auto)]
 
-ghost use Rattle.std.specs.Prelude.{◌≡◌, true, false, cond, List, ℕ, suc, ◌<◌, ◌≤◌, ◌^◌, leb, length, get_or, MatchOption};
+ghost use Rattle.std.specs.Prelude.{◌≡◌, cond, List, ℕ, suc, ◌<◌, ◌≤◌, ◌^◌, leb, length, get_or, MatchOption};
 ghost use Rattle.std.specs.Int.Count.{ones};
 ghost use Rattle.base.specs.Bits.{bit_n};
-ghost use Rattle.base.specs.Seek.{count};
+ghost use Rattle.base.specs.Seek.{flag, seek, count};
 ghost use Rattle.route_rules.specs.Instance.{Instance};
 ghost use Rattle.hopset_rules.specs.HopSet.{set_of, serves, hop_set};
 ghost use Rattle.net_groups.specs.GroupRows.{GroupRows};
@@ -30,8 +30,8 @@ fn place_rows(relied: &[u64; 64], word: u64, rows: &mut [u64; 12])
 // The first place left that relies on none left.
 fn free_place(rows: &[u64; 12], left: u64) -> Option<usize>
     requires { (u : ℕ) → bit_n left u ≡ 1 → u < 12 }
-    ensures { MatchOption result ((i : ℕ) → is_free (get_or rows.now i 0) left i ≡ false)
-        (λ i. is_free (get_or rows.now i 0) left i ≡ true) }
+    ensures { let first = seek (λ i. flag (is_free (get_or rows.now i 0) left i)) 12 in
+        MatchOption result (12 ≡ first) (λ i. (i < 12) × (i ≡ first)) }
 {
     let mut unseen = left;
     while unseen != 0 {

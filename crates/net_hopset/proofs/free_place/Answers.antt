@@ -1,5 +1,5 @@
--- `net_hopset::free_place`: the place that is seen next is free, or not; at the end none is.
-use Rattle.net_hopset.proofs.Serving.{sought-start, sought-none, sought-below, sought-free, sought-more}
+-- `net_hopset::free_place`: the place that is seen next is the first free one, or is not free; at the end none is.
+use Rattle.net_hopset.proofs.Serving.{sought-start, sought-miss, sought-below, sought-hit, sought-more}
 use Rattle.net_hopset.proofs.free_place.Goals as goal
 
 pub loop-unseen-init : goal.loop-unseen-init
@@ -10,7 +10,10 @@ bounds-rows-i c = sought-below c.args.rows.now c.args.left _ c.loop-unseen.invar
 
 pub returns-then-rows-i-eq0 : goal.returns-then-rows-i-eq0
 returns-then-rows-i-eq0 c =
-    sought-free c.args.rows.now c.args.left _ c.loop-unseen.invariant c.requires _ c.lowest_bit-i.ensures.0 c.if-rows-i-eq0.true
+    let low = c.lowest_bit-i.ensures.0 in (
+      sought-below c.args.rows.now c.args.left _ c.loop-unseen.invariant c.requires _ low,
+      sought-hit c.args.rows.now c.args.left _ c.loop-unseen.invariant c.requires _ low c.if-rows-i-eq0.true,
+    )
 
 pub loop-unseen-smaller : goal.loop-unseen-smaller
 loop-unseen-smaller c = c.without_lowest-unseen.ensures.0
@@ -22,4 +25,4 @@ loop-unseen-preserved c =
     (c.without_lowest-unseen.ensures.1 _ low)
 
 pub returns : goal.returns
-returns c = sought-none c.args.rows.now c.args.left _ c.loop-unseen.invariant c.requires c.loop-unseen-test.false
+returns c = sought-miss c.args.rows.now c.args.left _ c.loop-unseen.invariant c.loop-unseen-test.false
