@@ -69,8 +69,13 @@ impl<'a> PlanBytes<'a> {
 
     // Writes so many distances 0.
     pub fn put_zeros(&mut self, count: usize) {
-        for _ in 0..count {
-            self.put_two(0);
+        let end = self
+            .plan
+            .len()
+            .min(self.at.saturating_add(count.saturating_mul(2)));
+        if self.at < end {
+            self.plan[self.at..end].fill(0);
+            self.at = end;
         }
     }
 
