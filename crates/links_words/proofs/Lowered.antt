@@ -1,7 +1,7 @@
--- A lowered table: how a loop goes on by one row.
+-- A lowered table: how a loop starts, and goes on by one row.
 use Prim.Native.Nat.{ℕ, ◌+◌, ◌*◌, ◌≤◌, ◌<◌, min}
 use native.Mathlib.Omega.{arith}
-use mathlib.Core.Path.{◌≡◌, ◌∙◌, sym}
+use mathlib.Core.Path.{◌≡◌, refl, ◌∙◌, sym}
 use mathlib.Core.List.{List}
 use mathlib.Core.Logic.{⊎_elim}
 use lib.ListN.{get_or}
@@ -10,6 +10,9 @@ use Rattle.links_words.specs.Lowered.{capped, word_at, RowLowered, RowsLowered}
 
 -- every row lowered to what goes through k
 module _ (n k : ℕ) (t₀ : List ℕ) where
+  pub rows_start : RowsLowered n k t₀ 0 t₀
+  rows_start = record { long = refl; rows = λ i j l. absurd (omega arith); others = λ i j l m. refl }
+
   pub rows_more :
       (m : ℕ) (beyond t after : List ℕ) (i : ℕ) → n ≤ m → m ≤ 64 → k < n → ((j : ℕ) → j < m → get_or beyond j 0 ≡ word_at t₀ k j) →
       RowsLowered n k t₀ i t →

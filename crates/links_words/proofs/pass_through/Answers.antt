@@ -1,9 +1,12 @@
 -- `links_words::pass_through`: a row comes down to what goes through k, or has no walk there.
 use Rattle.std.proofs.Common.{rules, arith}
 use Rattle.std.proofs.lemmas.Grind.{common_steps}
-use Rattle.links_words.proofs.Lowered.{rows_more, rows-skip}
+use Rattle.links_words.proofs.Lowered.{rows_start, rows_more, rows-skip}
 use Rattle.links_words.proofs.pass_through.Goals as goal
 use Rattle.links_words.proofs.pass_through.Goals.{then-first, else-first}
+
+pub loop-i-init : goal.loop-i-init
+loop-i-init c = rows_start _ _ _
 
 pub loop-i-preserved : goal.loop-i-preserved
 loop-i-preserved c =
