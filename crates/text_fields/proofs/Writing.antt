@@ -55,6 +55,26 @@ module _ {t : Text} where
         ∙ written_then t.out.now t.end r (omega (arith, p.within, p.place)) s;
   }
 
+  -- .. where the second starts from a text that holds the same
+  pub put_next :
+      {r s : List ℕ} {u w v : Text} {a b : ℕ} →
+      Put a t r u →
+      Put b w s v →
+      w.out.ghost_name ≡ u.out.ghost_name →
+      w.out.now ≡ u.out.now →
+      w.end ≡ u.end →
+      Put (a + b) t (r ++ s) v
+  put_next {r} {s} p q name now end =
+      put_then p
+      (record {
+        same = q.same ∙ name;
+        long = q.long ∙ ap length now;
+        within = omega (arith, q.within, ap length now);
+        short = omega (arith, q.short, end);
+        place = omega (arith, q.place, end);
+        is = q.is ∙ ap₂ (λ x y. written x y s) now end;
+      })
+
   -- the same write, said of other bytes that are equal and of more room
   pub put_as : {r s : List ℕ} {u : Text} {a b : ℕ} → Put a t r u → r ≡ s → a ≤ b → Put b t s u
   put_as p e h = record {

@@ -25,12 +25,7 @@ slice_bounds-copy_from_slice-end c = omega (arith, followed-part _ _ _ _ c.requi
 
 pub slice_bounds-copy_from_slice-end-2 : goal.slice_bounds-copy_from_slice-end-2
 slice_bounds-copy_from_slice-end-2 c =
-    omega (
-      arith,
-      followed-part _ _ _ _ c.requires _ _ _ c.follow-found.ensures,
-      length-take (c.follow-found.result.upto - c.follow-found.result.from) c.args.out.now,
-      c.requires.long,
-    )
+    simp length-take (omega (arith, followed-part _ _ _ _ c.requires _ _ _ c.follow-found.ensures, c.requires.small, c.requires.long))
 
 pub copy_from_slice-requires : goal.copy_from_slice-requires
 copy_from_slice-requires c =

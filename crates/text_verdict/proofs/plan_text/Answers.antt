@@ -12,7 +12,7 @@ given c = let r = c.check-checked.ensures in r.accepted (sym r.number ∙ c.if-r
 
 pub returns-then-refused-ne0 : goal.returns-then-refused-ne0
 returns-then-refused-ne0 c =
-    at_front c.new-text.ensures.lent c.new-text.ensures.empty c.refused_line.ensures (search rules)
+    at_front c.new-text.ensures.lent (omega (arith, c.new-text.ensures.empty)) c.refused_line.ensures (search rules)
     (text-refused _ _ c.check-checked.ensures.number c.if-refused-ne0.true)
 
 pub head_line-requires : goal.head_line-requires

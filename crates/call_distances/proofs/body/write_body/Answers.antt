@@ -11,11 +11,11 @@ loop-row-init c =
 
 pub loop-row-preserved : goal.loop-row-preserved
 loop-row-preserved c =
-    join_more _ _ (λ u. length-row 2 _ _) _ _ 0 _ _ c.loop-row.invariant _ c.loop-row-test.true (rw zero-add c.write_row.ensures)
+    join_more _ _ (λ u. length-row 2 _ _) _ _ 0 _ _ c.loop-row.invariant _ (omega (arith, c.loop-row-test.true)) (rw zero-add c.write_row.ensures)
 
 pub returns : goal.returns
 unfolding body_of
 returns c =
     let n : ℕ = c.args.n in
     rw (zero-add (2 * n * n), mul_assoc 2 n n) at
-    (join-done _ _ (λ u. length-row 2 _ _) _ _ 0 _ _ c.loop-row.invariant c.loop-row-test.false)
+    (join-done _ _ (λ u. length-row 2 _ _) _ _ 0 _ _ c.loop-row.invariant (omega (arith, c.loop-row-test.false)))
